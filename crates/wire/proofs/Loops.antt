@@ -1,0 +1,124 @@
+-- What each turn of a loop does. Assumes nothing.
+use Prim.Native.Nat.{ℕ, zero, suc, _+_, _-_, _*_, _/_, _%_, _^_, _<_, _≤_}
+use mathlib.Core.Bool.{Bool, true, false}
+use mathlib.Core.Path.{_≡_, refl, sym, ap, subst, _∙_}
+use mathlib.Core.List.{List, [], _∷_, _++_, append-nil, append-assoc}
+use native.Mathlib.Numerals.{add-one}
+use native.Mathlib.Nat.{add-zero, add-suc, suc-add, pow-suc, pow-le-pow-right, mod-add-mod, not-suc-le-zero}
+use native.Mathlib.Omega.{arith}
+use borrow.Author.Fill.{fill-more}
+use lib.Dec.{lit<}
+use lib.ListN.{length, getD, take, drop, set, replicate, length-append, length-take, length-drop, length-set, take-append-drop, drop-of-length-le}
+use lib.Seq.{take-suc, take-length, drop-length, drop-cons, getD-take, getD-drop, length-take-le, take-set-le, drop-set-lt, take-suc-set, getD-set-same, append-snoc}
+use Rattle.wire.specs.Wire.{sumOf, packetSum, beOnto, beNat, toBE, pasted, allAre}
+use Rattle.wire.specs.Laws.{onto-append, length-toBE}
+use Rattle.wire.specs.Cases.{if-eq, else-eq}
+
+-- ---- sum: the bytes before i are in the sum
+
+sum-take-suc : (l : List ℕ) (i : ℕ) → sumOf (take (suc i) l) ≡ sumOf (take i l) + getD l i 0
+unfolding sumOf
+sum-take-suc [] zero = refl
+sum-take-suc [] (suc i) = refl
+sum-take-suc (x ∷ l) zero = omega arith
+sum-take-suc (x ∷ l) (suc i) = omega (arith, sum-take-suc l i)
+
+pub sum-none : packetSum [] ≡ 0
+unfolding packetSum sumOf
+sum-none = refl
+
+pub sum-more : (l : List ℕ) (i a r : ℕ) → a ≡ packetSum (take i l) → r ≡ (a + getD l i 0) % 65536 → r ≡ packetSum (take (i + 1) l)
+unfolding packetSum
+sum-more l i a r p q = q ∙ ap (λ (k : ℕ). (k + getD l i 0) % 65536) p ∙ mod-add-mod (sumOf (take i l)) 65536 (getD l i 0) ∙ rw (add-one, sum-take-suc)
+
+pub sum-all : (l : List ℕ) (i : ℕ) → i ≡ length l → packetSum (take i l) ≡ packetSum l
+sum-all l i e = rw (e, take-length)
+
+-- ---- be: the first i bytes are read
+
+pub be-none : (l : List ℕ) → beNat (take 0 l) ≡ 0
+unfolding beNat beOnto
+be-none l = refl
+
+pub be-more : (s : List ℕ) (at i : ℕ) → at + i < length s → beNat (take (i + 1) (drop at s)) ≡ beNat (take i (drop at s)) * 256 + getD s (at + i) 0
+unfolding beNat beOnto
+be-more s at i h =
+    let k : i < length (drop at s) = simp length-drop (omega arith) in
+    rw (add-one, take-suc (drop at s) i 0 k, getD-drop at s i 0) (onto-append 0 (take i (drop at s)) (getD s (at + i) 0 ∷ []))
+
+pub pow-step : (i : ℕ) → 256 ^ (i + 1) ≡ 256 ^ i * 256
+pow-step i = rw (add-one, pow-suc)
+
+pub pow-seven : (i : ℕ) → i < 8 → 256 ^ i ≤ 256 ^ 7
+pow-seven i h = let k : i ≤ 7 = omega arith in pow-le-pow-right (lit< tt) k
+
+-- ---- copy and put_be: what is left to paste, pasted now, gives the end
+
+pub paste-none : (at : ℕ) (d : List ℕ) → pasted at [] d ≡ d
+unfolding pasted
+paste-none at d = rw add-zero (take-append-drop at d)
+
+-- the first byte of those left is stored
+pub store-first : (at x : ℕ) (bs d : List ℕ) → at < length d → pasted (at + 1) bs (set d at x) ≡ pasted at (x ∷ bs) d
+unfolding pasted
+store-first at x bs d h =
+    let e : at + 1 + length bs ≡ at + suc (length bs) = omega arith in
+    let k : at < at + suc (length bs) = omega arith in
+    rw (e, drop-set-lt (at + suc (length bs)) d at x k, add-one, take-suc-set d at x h, append-assoc)
+
+drop-store : (n x : ℕ) (d : List ℕ) → n < length d → drop n (set d n x) ≡ x ∷ drop (suc n) d
+drop-store n x d h =
+    let k : n < length (set d n x) = simp length-set h in
+    let m : n < suc n = omega arith in
+    rw (drop-cons (set d n x) n 0 k, getD-set-same d n x 0 h, drop-set-lt (suc n) d n x m)
+
+-- the last byte of those left is stored
+pub store-last : (at n x : ℕ) (bs d : List ℕ) → length bs ≡ n → at + n < length d → pasted at bs (set d (at + n) x) ≡ pasted at (bs ++ (x ∷ [])) d
+unfolding pasted
+store-last at n x bs d e h =
+    let k : at ≤ at + n = omega arith in
+    let m : n ≡ length bs = sym e in
+    rw (take-set-le at d (at + n) x k, e, drop-store (at + n) x d h, length-append, e, add-one, add-suc, append-assoc)
+
+pub copy-more : (at i : ℕ) (s d : List ℕ) → i < length s → at + i < length d → pasted (at + (i + 1)) (drop (i + 1) s) (set d (at + i) (getD s i 0)) ≡ pasted (at + i) (drop i s) d
+copy-more at i s d p q =
+    let e : at + (i + 1) ≡ at + i + 1 = omega arith in
+    rw (e, store-first (at + i) (getD s i 0) (drop (i + 1) s) d q, add-one, ← drop-cons s i 0 p)
+
+pub copy-end : (at i : ℕ) (s d : List ℕ) → length s ≤ i → pasted (at + i) (drop i s) d ≡ d
+copy-end at i s d h = ap (λ (l : List ℕ). pasted (at + i) l d) (drop-of-length-le s h) ∙ paste-none (at + i) d
+
+pub put-more : (at i v x : ℕ) (d : List ℕ) → 0 < i → at + i ≤ length d → x ≡ v % 256 → pasted at (toBE (i - 1) (v / 256)) (set d (at + (i - 1)) x) ≡ pasted at (toBE i v) d
+unfolding toBE
+put-more at zero v x d p q e = absurd (not-suc-le-zero p)
+put-more at (suc i) v x d p q e =
+    let k : suc i - 1 ≡ i = omega arith in
+    rw (k, e, store-last at i (v % 256) (toBE i (v / 256)) d (length-toBE i (v / 256)) (omega arith))
+
+pub put-end : (at i v : ℕ) (d : List ℕ) → i ≤ 0 → pasted at (toBE i v) d ≡ d
+unfolding toBE
+put-end at zero v d h = paste-none at d
+put-end at (suc i) v d h = absurd (not-suc-le-zero h)
+
+-- ---- zero_all
+
+pub zero-more : (i : ℕ) (d x : List ℕ) → i < length d → x ≡ replicate i 0 ++ drop i d → set x i 0 ≡ replicate (i + 1) 0 ++ drop (i + 1) d
+zero-more i d x h e = ap (λ (l : List ℕ). set l i 0) e ∙ fill-more i 0 d h
+
+pub zero-end : (i : ℕ) (d x : List ℕ) → i ≡ length d → x ≡ replicate i 0 ++ drop i d → x ≡ replicate (length d) 0
+zero-end i d x e p = p ∙ rw (e, drop-length, append-nil)
+
+-- ---- all_are: what is left decides
+
+module _ (v : ℕ) (l : List ℕ) (i : ℕ) where
+  pub all-more : i < length l → getD l i 0 ≡ v → allAre v (drop (i + 1) l) ≡ allAre v (drop i l)
+  unfolding allAre
+  all-more h e = rw (add-one, drop-cons l i 0) (if-eq _ _ e refl)
+
+  pub all-not : i < length l → (getD l i 0 ≡ v → ⊥) → false ≡ allAre v (drop i l)
+  unfolding allAre
+  all-not h e = rw (drop-cons l i 0) (else-eq _ _ e refl)
+
+  pub all-end : length l ≤ i → true ≡ allAre v (drop i l)
+  unfolding allAre
+  all-end h = rw (drop-of-length-le l h)

@@ -1,0 +1,90 @@
+-- Laws of bytes on the wire that other crates build on. Assumes nothing.
+use Prim.Native.Nat.{ℕ, zero, suc, _+_, _*_, _/_, _%_, _^_, _<_, _≤_}
+use mathlib.Core.Bool.{Bool, true, false, cond}
+use mathlib.Core.Path.{_≡_, refl, sym, ap, _∙_}
+use mathlib.Core.List.{List, [], _∷_, _++_, append-assoc, append-nil}
+use native.Mathlib.Numerals.{add-one}
+use native.Mathlib.Nat.{add-zero, zero-add, add-suc, suc-add, pow-suc, div-add-mod', div-lt-iff-lt-mul, mod-lt, not-suc-le-zero, le-of-suc-le-suc}
+use native.Mathlib.Omega.{arith}
+use lib.Arith.{digits-div, digits-mod}
+use lib.Dec.{lit<}
+use lib.ListN.{length, take, drop, replicate, length-append, length-take, length-drop, take-append-drop, length-replicate}
+use lib.Seq.{length-take-le, take-at, drop-at, drop-drop, take-all, take-append-seam, drop-append-add}
+use Rattle.wire.specs.Cases.{if-eq}
+use Rattle.wire.specs.Wire.{beOnto, beNat, toBE, pasted, allAre}
+
+-- ---- big-endian numbers, over the width
+
+-- each element is a byte
+abbrev pub Bytes : List ℕ → Type 0
+Bytes [] = Unit {0}
+Bytes (b ∷ bs) = (b < 256) × Bytes bs
+
+pub onto-append : (n : ℕ) (xs ys : List ℕ) → beOnto n (xs ++ ys) ≡ beOnto (beOnto n xs) ys
+unfolding beOnto
+onto-append n [] ys = refl
+onto-append n (x ∷ xs) ys = onto-append (n * 256 + x) xs ys
+
+pub length-toBE : (k n : ℕ) → length (toBE k n) ≡ k
+unfolding toBE
+length-toBE zero n = refl
+length-toBE (suc k) n = length-append (toBE k (n / 256)) (n % 256 ∷ []) ∙ ap (λ (m : ℕ). m + 1) (length-toBE k (n / 256)) ∙ add-one k
+
+-- reading what was written gives the number
+pub be-toBE : (k n : ℕ) → n < 256 ^ k → beNat (toBE k n) ≡ n
+unfolding beNat beOnto toBE
+be-toBE zero n h = omega arith
+be-toBE (suc k) n h =
+    let q : n / 256 < 256 ^ k = div-lt-iff-lt-mul (lit< tt) .1 (rw pow-suc at h) in
+    onto-append 0 (toBE k (n / 256)) (n % 256 ∷ []) ∙ ap (λ (m : ℕ). m * 256 + n % 256) (be-toBE k (n / 256) q) ∙ div-add-mod' n 256
+
+last-byte : (k n b : ℕ) → b < 256 → toBE (suc k) (n * 256 + b) ≡ toBE k n ++ (b ∷ [])
+unfolding toBE
+last-byte k n b h = rw (digits-div n h, digits-mod n h)
+
+toBE-onto : (k n : ℕ) (bs : List ℕ) → Bytes bs → toBE (k + length bs) (beOnto n bs) ≡ toBE k n ++ bs
+unfolding beOnto
+toBE-onto k n [] h = rw (add-zero, append-nil)
+toBE-onto k n (b ∷ bs) h =
+    ap (λ (m : ℕ). toBE m (beOnto (n * 256 + b) bs)) (add-suc k (length bs) ∙ sym (suc-add k (length bs)))
+    ∙ toBE-onto (suc k) (n * 256 + b) bs (h .1)
+    ∙ ap (λ (l : List ℕ). l ++ bs) (last-byte k n b (h .0))
+    ∙ append-assoc (toBE k n) (b ∷ []) bs
+
+-- writing what was read gives the bytes
+pub toBE-be : (bs : List ℕ) → Bytes bs → toBE (length bs) (beNat bs) ≡ bs
+unfolding beNat toBE
+toBE-be bs h = ap (λ (m : ℕ). toBE m (beOnto 0 bs)) (sym (zero-add (length bs))) ∙ toBE-onto 0 0 bs h
+
+-- ---- bytes pasted into a buffer
+
+module _ (at : ℕ) (bs d : List ℕ) (fits : at + length bs ≤ length d) where
+  pub length-pasted : length (pasted at bs d) ≡ length d
+  unfolding pasted
+  length-pasted = simp (length-append, length-take, length-drop) (omega arith)
+
+  pub take-pasted : take (at + length bs) (pasted at bs d) ≡ take at d ++ bs
+  unfolding pasted
+  take-pasted =
+      ap (take (at + length bs)) (sym (append-assoc (take at d) bs (drop (at + length bs) d)))
+      ∙ take-at (take at d ++ bs) (drop (at + length bs) d) (at + length bs) (length-append (take at d) bs ∙ ap (λ (n : ℕ). n + length bs) (length-take-le at d (omega arith)))
+
+  pub drop-pasted : drop (at + length bs) (pasted at bs d) ≡ drop (at + length bs) d
+  unfolding pasted
+  drop-pasted =
+      ap (drop (at + length bs)) (sym (append-assoc (take at d) bs (drop (at + length bs) d)))
+      ∙ drop-at (take at d ++ bs) (drop (at + length bs) d) (at + length bs) (length-append (take at d) bs ∙ ap (λ (n : ℕ). n + length bs) (length-take-le at d (omega arith)))
+
+-- bytes written after those that were written from the front
+pub paste-next : (at : ℕ) (xs bs d : List ℕ) → at ≡ length xs → pasted at bs (pasted 0 xs d) ≡ pasted 0 (xs ++ bs) d
+unfolding pasted
+paste-next at xs bs d e =
+    ap (λ (n : ℕ). take n (xs ++ drop (0 + length xs) d) ++ (bs ++ drop (n + length bs) (xs ++ drop (0 + length xs) d))) e
+    ∙ rw (take-append-seam xs (drop (0 + length xs) d), drop-append-add xs (drop (0 + length xs) d) (length bs), zero-add, drop-drop, zero-add, length-append, append-assoc)
+
+-- ---- zeros
+
+pub all-replicate : (v n : ℕ) → allAre v (replicate n v) ≡ true
+unfolding allAre
+all-replicate v zero = refl
+all-replicate v (suc n) = sym (if-eq (allAre v (replicate n v)) false {m = v} {n = v} refl (sym (all-replicate v n)))

@@ -1,0 +1,123 @@
+// Bytes on the wire: the packet sum, big-endian numbers of any width, and parts of lent buffers.
+ghost use mathlib.Core.Path.{_≡_};
+ghost use Prim.Native.Nat.{_+_, _%_, _^_, _≤_, _<_};
+ghost use lib.ListN.{length, take, drop, replicate};
+ghost use Rattle.wire.specs.Wire.{packetSum, beNat, toBE, pasted, allAre};
+
+// A byte as a wider number: the cast is proved here, once a width.
+fn wide16(x: u8) -> u16
+    ensures { λ r. ⌜ r ≡ x ⌝ }
+{
+    x as u16
+}
+
+fn wide64(x: u8) -> u64
+    ensures { λ r. ⌜ (r ≡ x) × (r < 256) ⌝ }
+{
+    x as u64
+}
+
+fn low8(v: u64) -> u8
+    ensures { λ r. ⌜ r ≡ v % 256 ⌝ }
+{
+    (v % 256) as u8
+}
+
+// The two-byte sum of every byte of `s`, ignoring overflow.
+pub fn sum(s: &[u8]) -> u16
+    ensures { λ r. ⌜ r ≡ packetSum (now (s .entry)) ⌝ }
+{
+    let mut acc: u16 = 0;
+    let mut i = 0;
+    while i < s.len() {
+        acc = std::num::wrapping_add_u16(acc, wide16(s[i]));
+        i += 1;
+    }
+    acc
+}
+
+// The number that the `n` bytes from `at` on spell.
+pub fn be(s: &[u8], at: usize, n: usize) -> u64
+    requires { ⌜ (n ≤ 8) × (at + n ≤ length (now s)) ⌝ }
+    ensures { λ r. ⌜ (r ≡ beNat (take n (drop at (now (s .entry))))) × (r < 256 ^ n) ⌝ }
+{
+    let mut acc: u64 = 0;
+    let mut i = 0;
+    while i < n {
+        acc = acc * 256 + wide64(s[at + i]);
+        i += 1;
+    }
+    acc
+}
+
+pub fn be16(s: &[u8], at: usize) -> u16
+    requires { ⌜ at + 2 ≤ length (now s) ⌝ }
+    ensures { λ r. ⌜ r ≡ beNat (take 2 (drop at (now (s .entry)))) ⌝ }
+{
+    be(s, at, 2) as u16
+}
+
+pub fn be32(s: &[u8], at: usize) -> u32
+    requires { ⌜ at + 4 ≤ length (now s) ⌝ }
+    ensures { λ r. ⌜ r ≡ beNat (take 4 (drop at (now (s .entry)))) ⌝ }
+{
+    be(s, at, 4) as u32
+}
+
+pub fn be64(s: &[u8], at: usize) -> u64
+    requires { ⌜ at + 8 ≤ length (now s) ⌝ }
+    ensures { λ r. ⌜ r ≡ beNat (take 8 (drop at (now (s .entry)))) ⌝ }
+{
+    be(s, at, 8)
+}
+
+// Writes `v` as `n` bytes from `at` on; the rest is kept.
+pub fn put_be(d: &mut [u8], at: usize, n: usize, v: u64)
+    requires { ⌜ at + n ≤ length (now d) ⌝ }
+    ensures { λ _. ⌜ now (d .exit) ≡ pasted at (toBE n v) (now (d .entry)) ⌝ }
+{
+    let mut left = v;
+    let mut i = n;
+    while 0 < i {
+        i -= 1;
+        d[at + i] = low8(left);
+        left = left / 256;
+    }
+}
+
+// Copies `s` into `d` from `at` on; the rest is kept.
+pub fn copy(d: &mut [u8], at: usize, s: &[u8])
+    requires { ⌜ at + length (now s) ≤ length (now d) ⌝ }
+    ensures { λ _. ⌜ now (d .exit) ≡ pasted at (now (s .entry)) (now (d .entry)) ⌝ }
+{
+    let mut i = 0;
+    while i < s.len() {
+        d[at + i] = s[i];
+        i += 1;
+    }
+}
+
+// Zeroes all of `d`.
+pub fn zero_all(d: &mut [u8])
+    ensures { λ _. ⌜ now (d .exit) ≡ replicate (length (now (d .entry))) 0 ⌝ }
+{
+    let mut i = 0;
+    while i < d.len() {
+        d[i] = 0;
+        i += 1;
+    }
+}
+
+// Whether every byte of `s` is `v`.
+pub fn all_are(s: &[u8], v: u8) -> bool
+    ensures { λ r. ⌜ r ≡ allAre v (now (s .entry)) ⌝ }
+{
+    let mut i = 0;
+    while i < s.len() {
+        if s[i] != v {
+            return false;
+        }
+        i += 1;
+    }
+    true
+}

@@ -44,7 +44,8 @@ freshRecord =
       logs = replicate 4 noLog;
       mask = 0;
       deadman = record { running = 0; time = 0 };
-      areas = record { ffdc = noArea; pass = noArea } }
+      areas = record { ffdc = noArea; pass = noArea };
+    }
 
 -- ---- "Worked out"
 
@@ -89,4 +90,5 @@ workedOf r =
       limit = limitOf (r .role) (r .received .caps) (r .caps) (r .user);
       observation = flagOf (observationReady (r .received) (r .role));
       active = flagOf (activeReady (r .received) (r .role));
-      wanted = wantedOf (r .received) (r .role) }
+      wanted = wantedOf (r .received) (r .role);
+    }

@@ -1,42 +1,29 @@
-use mathlib.Core.Path.{refl, sym, ap, _∙_}
-use mathlib.Core.Bool.{not}
+use mathlib.Core.Path.{refl}
 use Rattle.wire.specs.Cases.{else-eq, else-lt, if-eq, if-lt}
 use Rattle.record.specs.Record.{limitOf, clamped}
-use native.Mathlib.Omega.{arith}
-use borrow.Author.Needs.{needs}
-use lib.ListN.{length}
-use Prim.Native.Nat.{ℕ, _≤_, _<_, _+_, _*_, _-_}
 use Rattle.record.proofs.limit.Statement.{statement}
 use Rattle.record.proofs.limit.Tie as tie
-use Rattle.record.proofs.limit.Reads as reads
-use Rattle.record.proofs.limit.Lts as lts
 
--- src/lib.rt:115:9
 returns : tie.Need-returns
 unfolding limitOf clamped
 returns c = if-eq _ _ (c .if1 .taken) refl
 
--- src/lib.rt:118:9
 returns-2 : tie.Need-returns-2
 unfolding limitOf clamped
 returns-2 c = else-eq _ _ (c .before .if1 .left) (if-eq _ _ (c .if2 .taken) refl)
 
--- src/lib.rt:121:9
 returns-3 : tie.Need-returns-3
 unfolding limitOf clamped
 returns-3 c = else-eq _ _ (c .before .before .if1 .left) (else-eq _ _ (c .before .if2 .left) (if-eq _ _ (c .if3 .taken) refl))
 
--- src/lib.rt:124:9
 returns-4 : tie.Need-returns-4
 unfolding limitOf clamped
 returns-4 c = else-eq _ _ (c .before .before .before .before .if1 .left) (else-eq _ _ (c .before .before .before .if2 .left) (else-eq _ _ (c .before .before .if3 .left) (if-lt _ _ (c .if4 .taken) refl)))
 
--- src/lib.rt:127:9
 returns-5 : tie.Need-returns-5
 unfolding limitOf clamped
 returns-5 c = else-eq _ _ (c .before .before .before .before .before .before .if1 .left) (else-eq _ _ (c .before .before .before .before .before .if2 .left) (else-eq _ _ (c .before .before .before .before .if3 .left) (else-lt _ _ (c .before .before .if4 .left) (if-lt _ _ (c .if5 .taken) refl))))
 
--- src/lib.rt:111:1
 returns-6 : tie.Need-returns-6
 unfolding limitOf clamped
 returns-6 c = else-eq _ _ (c .before .before .before .before .before .before .if1 .left) (else-eq _ _ (c .before .before .before .before .before .if2 .left) (else-eq _ _ (c .before .before .before .before .if3 .left) (else-lt _ _ (c .before .before .if4 .left) (else-lt _ _ (c .if5 .left) refl))))

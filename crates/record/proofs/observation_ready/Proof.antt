@@ -1,32 +1,21 @@
-use mathlib.Core.Path.{refl, sym, ap, _∙_}
-use mathlib.Core.Bool.{not}
+use mathlib.Core.Path.{refl}
 use Rattle.wire.specs.Cases.{else-eq, if-eq}
 use Rattle.record.specs.Record.{observationReady}
-use native.Mathlib.Omega.{arith}
-use borrow.Author.Needs.{needs}
-use lib.ListN.{length}
-use Prim.Native.Nat.{ℕ, _≤_, _<_, _+_, _*_, _-_}
 use Rattle.record.proofs.observation_ready.Statement.{statement}
 use Rattle.record.proofs.observation_ready.Tie as tie
-use Rattle.record.proofs.observation_ready.Reads as reads
-use Rattle.record.proofs.observation_ready.Lts as lts
 
--- src/lib.rt:136:9
 returns : tie.Need-returns
 unfolding observationReady
 returns c = if-eq _ _ (c .if1 .taken) refl
 
--- src/lib.rt:139:9
 returns-2 : tie.Need-returns-2
 unfolding observationReady
 returns-2 c = else-eq _ _ (c .before .before .if1 .left) (if-eq _ _ (c .if2 .taken) refl)
 
--- src/lib.rt:142:9
 returns-3 : tie.Need-returns-3
 unfolding observationReady
 returns-3 c = else-eq _ _ (c .before .before .before .before .if1 .left) (else-eq _ _ (c .before .before .if2 .left) (if-eq _ _ (c .before .if3 .taken) refl))
 
--- src/lib.rt:132:1
 returns-4 : tie.Need-returns-4
 unfolding observationReady
 returns-4 c = else-eq _ _ (c .before .before .before .if1 .left) (else-eq _ _ (c .before .if2 .left) (else-eq _ _ (c .if3 .left) refl))

@@ -1,14 +1,11 @@
 use Rattle.wire.specs.Wire.{allAre}
 use Rattle.wire.proofs.Loops.{all-more, all-not, all-end}
-use mathlib.Core.Path.{_≡_, refl, sym, ap, subst, _∙_}
-use native.Mathlib.Omega.{arith}
+use mathlib.Core.Path.{_≡_, refl, _∙_}
 use borrow.Author.Needs.{needs}
 use lib.ListN.{length, drop}
-use Prim.Native.Nat.{ℕ, _≤_, _<_, _+_, _*_, _-_}
+use Prim.Native.Nat.{_≤_, _-_}
 use Rattle.wire.proofs.all_are.Statement.{statement}
 use Rattle.wire.proofs.all_are.Tie as tie
-use Rattle.wire.proofs.all_are.Reads as reads
-use Rattle.wire.proofs.all_are.Lts as lts
 
 abbrev Inv-loop : tie.InvT-loop
 Inv-loop s v i₀ i = (i ≤ length s) × (allAre v (drop i s) ≡ allAre v s)
@@ -16,33 +13,26 @@ Inv-loop s v i₀ i = (i ≤ length s) × (allAre v (drop i s) ≡ allAre v s)
 abbrev μ-loop : tie.MeasureT-loop
 μ-loop s v i₀ i = length s - i
 
--- src/lib.rt:116:5
 loop-holds : tie.Need-loop-holds Inv-loop μ-loop
 loop-holds c = (search needs, refl)
 
--- src/lib.rt:117:12
 shared-slice-read-if1 : tie.Need-shared-slice-read-if1 Inv-loop μ-loop
 shared-slice-read-if1 c = search needs
 
--- src/lib.rt:118:13
 returns : tie.Need-returns Inv-loop μ-loop
 returns c = let p = c .before .before .before in
     all-not _ _ (p .loop .i) (c .before .before .loop-test .taken) (c .if1 .taken) ∙ p .loop .inv .1
 
--- src/lib.rt:120:9
 add-i : tie.Need-add-i Inv-loop μ-loop
 add-i c = search needs
 
--- src/lib.rt:116:5
 loop-less : tie.Need-loop-less Inv-loop μ-loop
 loop-less c = search needs
 
--- src/lib.rt:116:5
 loop-again : tie.Need-loop-again Inv-loop μ-loop
 loop-again c = let p = c .before .before .before in
     (search needs, all-more _ _ (p .loop .i) (c .before .before .loop-test .taken) (c .if1 .left) ∙ p .loop .inv .1)
 
--- src/lib.rt:112:1
 returns-2 : tie.Need-returns-2 Inv-loop μ-loop
 returns-2 c = all-end _ _ (c .before .loop .i) (c .loop-test .left) ∙ c .before .loop .inv .1
 

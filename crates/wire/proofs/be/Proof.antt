@@ -1,16 +1,13 @@
 use lib.Dec.{lit<}
 use Rattle.wire.specs.Wire.{beNat}
 use Rattle.wire.proofs.Loops.{be-none, be-more, pow-step, pow-seven}
-use mathlib.Core.Path.{_≡_, refl, sym, ap, subst, _∙_}
+use mathlib.Core.Path.{_≡_, sym, ap, subst, _∙_}
 use native.Mathlib.Omega.{arith}
 use borrow.Author.Needs.{needs}
-use lib.ListN.{length, take, drop}
-use Prim.Native.Nat.{ℕ, _≤_, _<_, _+_, _*_, _-_, _^_}
+use lib.ListN.{take, drop}
+use Prim.Native.Nat.{ℕ, _≤_, _<_, _-_, _^_}
 use Rattle.wire.proofs.be.Statement.{statement}
 use Rattle.wire.proofs.be.Tie as tie
-use Rattle.wire.proofs.be.Reads as reads
-use Rattle.wire.proofs.be.Lts as lts
-use Rattle.wire.proofs.wide64.Reads as wide64-reads
 
 abbrev Inv-loop : tie.InvT-loop
 Inv-loop s at n acc₀ i₀ acc i = (i ≤ n) × (acc ≡ beNat (take i (drop at s))) × (acc < 256 ^ i)
@@ -18,44 +15,34 @@ Inv-loop s at n acc₀ i₀ acc i = (i ≤ n) × (acc ≡ beNat (take i (drop at
 abbrev μ-loop : tie.MeasureT-loop
 μ-loop s at n acc₀ i₀ acc i = n - i
 
--- src/lib.rt:46:5
 loop-holds : tie.Need-loop-holds Inv-loop μ-loop
 loop-holds c = (search needs, sym (be-none (drop (c .before .args .at) (c .before .args .s .now))), lit< tt)
 
--- src/lib.rt:47:15
 mul-acc : tie.Need-mul-acc Inv-loop μ-loop
 mul-acc c = omega (arith, pow-seven (c .before .loop .i) (omega arith))
 
--- src/lib.rt:47:36
 add-wide64 : tie.Need-add-wide64 Inv-loop μ-loop
 add-wide64 c = search needs
 
--- src/lib.rt:47:34
 shared-slice-read-wide64 : tie.Need-shared-slice-read-wide64 Inv-loop μ-loop
 shared-slice-read-wide64 c = search needs
 
--- src/lib.rt:47:27
 wide64-requires : tie.Need-wide64-requires Inv-loop μ-loop
 wide64-requires c κs = search needs
 
--- src/lib.rt:47:15
 add-acc : tie.Need-add-acc Inv-loop μ-loop
 add-acc c = omega (arith, pow-seven (c .before .before .before .loop .i) (omega arith))
 
--- src/lib.rt:48:9
 add-i : tie.Need-add-i Inv-loop μ-loop
 add-i c = search needs
 
--- src/lib.rt:46:5
 loop-less : tie.Need-loop-less Inv-loop μ-loop
 loop-less c = search needs
 
--- src/lib.rt:46:5
 loop-again : tie.Need-loop-again Inv-loop μ-loop
 loop-again c = let p = c .before .before .before in
     (search needs, cc (be-more (p .before .before .args .s .now) (p .before .before .args .at) (p .loop .i) (omega arith)), omega (arith, pow-step (p .loop .i)))
 
--- src/lib.rt:40:1
 returns : tie.Need-returns Inv-loop μ-loop
 returns c = let e : c .before .loop .i ≡ c .before .before .before .args .n = omega arith in
     (c .before .loop .inv .1 ∙ ap (λ (k : ℕ). beNat (take k (drop (c .before .before .before .args .at) (c .before .before .before .args .s .now)))) e, subst (λ (k : ℕ). c .before .loop .acc < 256 ^ k) e (c .before .loop .inv .2))

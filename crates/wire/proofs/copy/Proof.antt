@@ -1,15 +1,13 @@
 use native.Mathlib.Nat.{add-zero}
 use Rattle.wire.specs.Wire.{pasted}
 use Rattle.wire.proofs.Loops.{copy-more, copy-end}
-use mathlib.Core.Path.{_≡_, refl, sym, ap, subst, _∙_}
+use mathlib.Core.Path.{_≡_, refl, sym, _∙_}
 use native.Mathlib.Omega.{arith}
 use borrow.Author.Needs.{needs}
 use lib.ListN.{length, drop, length-set}
-use Prim.Native.Nat.{ℕ, _≤_, _<_, _+_, _*_, _-_}
+use Prim.Native.Nat.{_≤_, _+_, _-_}
 use Rattle.wire.proofs.copy.Statement.{statement}
 use Rattle.wire.proofs.copy.Tie as tie
-use Rattle.wire.proofs.copy.Reads as reads
-use Rattle.wire.proofs.copy.Lts as lts
 
 abbrev Inv-loop : tie.InvT-loop
 Inv-loop d₀ at s i₀ d i = (i ≤ length s) × (length d ≡ length d₀) × (pasted (at + i) (drop i s) d ≡ pasted at s d₀)
@@ -17,40 +15,31 @@ Inv-loop d₀ at s i₀ d i = (i ≤ length s) × (length d ≡ length d₀) × 
 abbrev μ-loop : tie.MeasureT-loop
 μ-loop d₀ at s i₀ d i = length s - i
 
--- src/lib.rt:94:5
 loop-holds : tie.Need-loop-holds Inv-loop μ-loop
 loop-holds c = (search needs, refl, rw add-zero)
 
--- src/lib.rt:95:21
 shared-slice-read-d : tie.Need-shared-slice-read-d Inv-loop μ-loop
 shared-slice-read-d c = search needs
 
--- src/lib.rt:95:11
 add-d : tie.Need-add-d Inv-loop μ-loop
 add-d c = search needs
 
--- src/lib.rt:95:9
 slice-write-d : tie.Need-slice-write-d Inv-loop μ-loop
 slice-write-d c = omega arith
 
--- src/lib.rt:96:9
 add-i : tie.Need-add-i Inv-loop μ-loop
 add-i c = search needs
 
--- src/lib.rt:94:5
 loop-less : tie.Need-loop-less Inv-loop μ-loop
 loop-less c = search needs
 
--- src/lib.rt:94:5
 loop-again : tie.Need-loop-again Inv-loop μ-loop
 loop-again c = let p = c .before .before in
     (search needs, simp length-set (p .loop .inv .1), copy-more _ (p .loop .i) _ (p .loop .d) (c .before .loop-test .taken) (omega arith) ∙ p .loop .inv .2)
 
--- src/lib.rt:89:1
 same-length : tie.Need-same-length Inv-loop μ-loop
 same-length c = c .before .loop .inv .1
 
--- src/lib.rt:89:1
 returns : tie.Need-returns Inv-loop μ-loop
 returns c = sym (copy-end _ (c .before .loop .i) _ _ (omega arith)) ∙ c .before .loop .inv .2
 

@@ -1,14 +1,12 @@
 use mathlib.Core.List.{_++_}
 use Rattle.wire.proofs.Loops.{zero-more, zero-end}
-use mathlib.Core.Path.{_≡_, refl, sym, ap, subst, _∙_}
+use mathlib.Core.Path.{_≡_, refl}
 use native.Mathlib.Omega.{arith}
 use borrow.Author.Needs.{needs}
 use lib.ListN.{length, drop, replicate, length-set}
-use Prim.Native.Nat.{ℕ, _≤_, _<_, _+_, _*_, _-_}
+use Prim.Native.Nat.{_≤_, _-_}
 use Rattle.wire.proofs.zero_all.Statement.{statement}
 use Rattle.wire.proofs.zero_all.Tie as tie
-use Rattle.wire.proofs.zero_all.Reads as reads
-use Rattle.wire.proofs.zero_all.Lts as lts
 
 abbrev Inv-loop : tie.InvT-loop
 Inv-loop d₀ i₀ d i = (i ≤ length d₀) × (length d ≡ length d₀) × (d ≡ replicate i 0 ++ drop i d₀)
@@ -16,31 +14,24 @@ Inv-loop d₀ i₀ d i = (i ≤ length d₀) × (length d ≡ length d₀) × (d
 abbrev μ-loop : tie.MeasureT-loop
 μ-loop d₀ i₀ d i = length d₀ - i
 
--- src/lib.rt:105:5
 loop-holds : tie.Need-loop-holds Inv-loop μ-loop
 loop-holds c = (search needs, refl, refl)
 
--- src/lib.rt:106:9
 slice-write-d : tie.Need-slice-write-d Inv-loop μ-loop
 slice-write-d c = search needs
 
--- src/lib.rt:107:9
 add-i : tie.Need-add-i Inv-loop μ-loop
 add-i c = search needs
 
--- src/lib.rt:105:5
 loop-less : tie.Need-loop-less Inv-loop μ-loop
 loop-less c = search needs
 
--- src/lib.rt:105:5
 loop-again : tie.Need-loop-again Inv-loop μ-loop
 loop-again c = (search needs, simp length-set (c .before .loop .inv .1), zero-more (c .before .loop .i) _ _ (omega arith) (c .before .loop .inv .2))
 
--- src/lib.rt:101:1
 same-length : tie.Need-same-length Inv-loop μ-loop
 same-length c = c .before .loop .inv .1
 
--- src/lib.rt:101:1
 returns : tie.Need-returns Inv-loop μ-loop
 returns c = zero-end (c .before .loop .i) _ _ (omega arith) (c .before .loop .inv .2)
 

@@ -1,0 +1,11 @@
+use Rattle.change.specs.Change.{refused}
+use mathlib.Core.Path.{refl}
+use Rattle.change.proofs.refuse.Statement.{statement}
+use Rattle.change.proofs.refuse.Tie as tie
+
+returns : tie.Need-returns
+unfolding refused
+returns c = refl
+
+pub refuse-spec : {M : Type 1} → statement M
+refuse-spec = tie.close (tie.spec returns)

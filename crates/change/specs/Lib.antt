@@ -1,0 +1,3 @@
+pub mod Logs
+pub mod With
+pub mod Change

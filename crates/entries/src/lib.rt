@@ -1,0 +1,51 @@
+// The journal as entries: kinds and lengths, on any lent bytes. Values are judged elsewhere.
+ghost use mathlib.Core.Path.{_≡_};
+ghost use lib.ListN.{length};
+ghost use Rattle.entries.specs.Entries.{bodyLen, scan, readingOf, readingFits};
+
+// What lent bytes read as: whole entries, how many and where the newest starts (0 where there is none), or the place of
+// the entry that breaks them.
+pub enum Reading {
+    Whole { count: usize, newest: usize },
+    Unknown(usize),
+    Cut(usize),
+}
+
+// Document 01, "The journal": the length of each kind's body, from kind 00 on; 0 where there is no such kind.
+const BODY_LENGTHS: [usize; 12] = [0, 3, 1, 2, 7, 2, 10, 163, 2, 4, 9, 24];
+
+pub fn body_len(kind: u8) -> usize
+    ensures { λ r. ⌜ r ≡ bodyLen kind ⌝ }
+{
+    if kind < 12 {
+        BODY_LENGTHS[kind as usize]
+    } else {
+        0
+    }
+}
+
+pub fn read(j: &[u8]) -> Reading
+    ensures { λ r. ⌜ r ≡ readingOf (scan (now (j .entry))) ⌝ }
+    ensures { λ r. ⌜ readingFits (length (now (j .entry))) r ⌝ }
+{
+    let mut at = 0;
+    let mut count = 0;
+    let mut newest = 0;
+    while at < j.len() {
+        let kind = j[at];
+        let n = body_len(kind);
+        if n == 0 {
+            return Reading::Unknown(at);
+        }
+        if j.len() - at <= n {
+            return Reading::Cut(at);
+        }
+        newest = at;
+        count += 1;
+        at += n + 1;
+    }
+    Reading::Whole {
+        count: count,
+        newest: newest,
+    }
+}

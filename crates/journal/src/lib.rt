@@ -1,0 +1,382 @@
+// A change as an entry's bytes and back, on any lent bytes: writing one, reading one, judging its values, adding one at the end
+// and cutting it off.
+ghost use mathlib.Core.Path.{_≡_};
+ghost use mathlib.Core.List.{[], _∷_};
+ghost use Prim.Native.Nat.{_≤_, _+_};
+ghost use lib.ListN.{length, take, drop};
+ghost use Rattle.wire.specs.Wire.{pasted, toBE};
+ghost use Rattle.change.specs.Change.{kindOf};
+ghost use Rattle.entries.specs.Entries.{bodyLen};
+ghost use Rattle.journal.specs.Bytes.{clearedBody, capsBody, throttlesBody, deadmanBody, areasBody, entryBytes};
+ghost use Rattle.journal.specs.Read.{capsAt, areaAt, throttlesIn, foundFor, tablesIn, badGot, gotOf, gotOk, journalOk};
+ghost use Rattle.journal.specs.Add.{endOf, addedTo, cutFrom};
+use change::Change;
+use change::Edit;
+use change::Tables;
+use record::Area;
+use record::Areas;
+use record::Caps;
+use record::Deadman;
+use record::Log;
+use record::Throttles;
+
+// What an entry says was before, or that the bytes are no entry.
+pub enum Found {
+    Good(Change),
+    Bad,
+}
+
+// The same with the tables beside it, zero where the change has none.
+pub struct Got {
+    pub found: Found,
+    pub tables: Tables,
+}
+
+// Where the journal ends once an entry is added, or that there is no room.
+pub enum End {
+    At(usize),
+    Full,
+}
+
+// ---- writing an entry to the front of lent bytes; the rest is kept
+
+// A kind and two numbers of a byte.
+fn put_two(d: &mut [u8], kind: u8, a: u8, b: u8)
+    requires { ⌜ 3 ≤ length (now d) ⌝ }
+    ensures { λ _. ⌜ now (d .exit) ≡ pasted 0 (kind ∷ a ∷ b ∷ []) (now (d .entry)) ⌝ }
+{
+    let bytes = [kind, a, b];
+    wire::copy(d, 0, &bytes);
+}
+
+fn put_cleared(d: &mut [u8], place: u8, log: Log)
+    requires { ⌜ 4 ≤ length (now d) ⌝ }
+    ensures { λ _. ⌜ now (d .exit) ≡ pasted 0 (0x01 ∷ clearedBody place log) (now (d .entry)) ⌝ }
+{
+    let bytes = [0x01, place, log.id, log.reason];
+    wire::copy(d, 0, &bytes);
+}
+
+fn put_state(d: &mut [u8], state: u8)
+    requires { ⌜ 2 ≤ length (now d) ⌝ }
+    ensures { λ _. ⌜ now (d .exit) ≡ pasted 0 (0x02 ∷ state ∷ []) (now (d .entry)) ⌝ }
+{
+    let bytes = [0x02, state];
+    wire::copy(d, 0, &bytes);
+}
+
+fn put_caps(d: &mut [u8], got: u8, caps: Caps)
+    requires { ⌜ 8 ≤ length (now d) ⌝ }
+    ensures { λ _. ⌜ now (d .exit) ≡ pasted 0 (0x04 ∷ capsBody got caps) (now (d .entry)) ⌝ }
+{
+    let head = [0x04, got];
+    wire::copy(&mut *d, 0, &head);
+    wire::put_be(&mut *d, 2, 2, caps.min as u64);
+    wire::put_be(&mut *d, 4, 2, caps.max as u64);
+    wire::put_be(d, 6, 2, caps.over as u64);
+}
+
+// A kind and one number of `n` bytes.
+fn put_number(d: &mut [u8], kind: u8, n: usize, v: u64)
+    requires { ⌜ 1 + n ≤ length (now d) ⌝ }
+    ensures { λ _. ⌜ now (d .exit) ≡ pasted 0 (kind ∷ toBE n v) (now (d .entry)) ⌝ }
+{
+    let head = [kind];
+    wire::copy(&mut *d, 0, &head);
+    wire::put_be(d, 1, n, v);
+}
+
+fn put_thermal(d: &mut [u8], got: u8, thermal: [u8; 9])
+    requires { ⌜ 11 ≤ length (now d) ⌝ }
+    ensures { λ _. ⌜ now (d .exit) ≡ pasted 0 (0x06 ∷ got ∷ thermal) (now (d .entry)) ⌝ }
+{
+    let head = [0x06, got];
+    wire::copy(&mut *d, 0, &head);
+    wire::copy(d, 2, &thermal);
+}
+
+fn put_throttles(d: &mut [u8], got: u8, throttles: Throttles)
+    requires { ⌜ 164 ≤ length (now d) ⌝ }
+    ensures { λ _. ⌜ now (d .exit) ≡ pasted 0 (0x07 ∷ throttlesBody got throttles) (now (d .entry)) ⌝ }
+{
+    let sets = throttles.sets;
+    let head = [0x07, got];
+    wire::copy(&mut *d, 0, &head);
+    wire::put_be(&mut *d, 2, 2, throttles.present as u64);
+    wire::copy(d, 4, &sets);
+}
+
+fn put_deadman(d: &mut [u8], deadman: Deadman)
+    requires { ⌜ 10 ≤ length (now d) ⌝ }
+    ensures { λ _. ⌜ now (d .exit) ≡ pasted 0 (0x0A ∷ deadmanBody deadman) (now (d .entry)) ⌝ }
+{
+    let head = [0x0A, deadman.running];
+    wire::copy(&mut *d, 0, &head);
+    wire::put_be(d, 2, 8, deadman.time);
+}
+
+fn put_areas(d: &mut [u8], areas: Areas)
+    requires { ⌜ 25 ≤ length (now d) ⌝ }
+    ensures { λ _. ⌜ now (d .exit) ≡ pasted 0 (0x0B ∷ areasBody areas) (now (d .entry)) ⌝ }
+{
+    let ffdc = areas.ffdc;
+    let pass = areas.pass;
+    let head = [0x0B];
+    wire::copy(&mut *d, 0, &head);
+    wire::put_be(&mut *d, 1, 8, ffdc.address);
+    wire::put_be(&mut *d, 9, 4, ffdc.size as u64);
+    wire::put_be(&mut *d, 13, 8, pass.address);
+    wire::put_be(d, 21, 4, pass.size as u64);
+}
+
+// How many bytes a change's entry has.
+pub fn entry_len(change: Change) -> usize
+    ensures { λ r. ⌜ r ≡ bodyLen (kindOf change) + 1 ⌝ }
+{
+    let n = entries::body_len(change::kind(change));
+    n + 1
+}
+
+fn put(d: &mut [u8], e: Edit)
+    requires { ⌜ bodyLen (kindOf (e .change)) + 1 ≤ length (now d) ⌝ }
+    ensures { λ _. ⌜ now (d .exit) ≡ pasted 0 (entryBytes e) (now (d .entry)) ⌝ }
+{
+    let change = e.change;
+    let tables = e.tables;
+    let thermal = tables.thermal;
+    let throttles = tables.throttles;
+    match change {
+        Change::Clear(place, log) => put_cleared(d, place, log),
+        Change::Unclear(place, log) => put_cleared(d, place, log),
+        Change::SetState(state) => put_state(d, state),
+        Change::SetRole(got, role) => put_two(d, 0x03, got, role),
+        Change::SetCaps(got, caps) => put_caps(d, got, caps),
+        Change::SetUser(user) => put_number(d, 0x05, 2, user as u64),
+        Change::SetThermal(got) => put_thermal(d, got, thermal),
+        Change::SetThrottles(got) => put_throttles(d, got, throttles),
+        Change::Reset(log) => put_two(d, 0x08, log.id, log.reason),
+        Change::Unreset(state, made) => put_two(d, 0x08, state, made),
+        Change::SetMask(mask) => put_number(d, 0x09, 4, mask as u64),
+        Change::SetDeadman(deadman) => put_deadman(d, deadman),
+        Change::SetAreas(areas) => put_areas(d, areas),
+    }
+}
+
+// ---- reading an entry
+
+fn caps_at(b: &[u8], at: usize) -> Caps
+    requires { ⌜ at + 6 ≤ length (now b) ⌝ }
+    ensures { λ r. ⌜ r ≡ capsAt at (now (b .entry)) ⌝ }
+{
+    let min = wire::be16(b, at);
+    let max = wire::be16(b, at + 2);
+    let over = wire::be16(b, at + 4);
+    Caps {
+        min: min,
+        max: max,
+        over: over,
+    }
+}
+
+fn area_at(b: &[u8], at: usize) -> Area
+    requires { ⌜ at + 12 ≤ length (now b) ⌝ }
+    ensures { λ r. ⌜ r ≡ areaAt at (now (b .entry)) ⌝ }
+{
+    let address = wire::be64(b, at);
+    let size = wire::be32(b, at + 8);
+    Area {
+        address: address,
+        size: size,
+    }
+}
+
+fn thermal_in(b: &[u8]) -> [u8; 9]
+    requires { ⌜ 10 ≤ length (now b) ⌝ }
+    ensures { λ r. ⌜ r ≡ take 9 (drop 1 (now (b .entry))) ⌝ }
+{
+    let mut thermal = [0u8; 9];
+    wire::copy(&mut thermal, 0, &b[1..10]);
+    thermal
+}
+
+fn throttles_in(b: &[u8]) -> Throttles
+    requires { ⌜ 163 ≤ length (now b) ⌝ }
+    ensures { λ r. ⌜ r ≡ throttlesIn (now (b .entry)) ⌝ }
+{
+    let present = wire::be16(b, 1);
+    let mut sets = [0u8; 160];
+    wire::copy(&mut sets, 0, &b[3..163]);
+    Throttles {
+        present: present,
+        sets: sets,
+    }
+}
+
+// What a kind's body says.
+fn found_for(kind: u8, b: &[u8]) -> Found
+    requires { ⌜ bodyLen kind ≤ length (now b) ⌝ }
+    ensures { λ r. ⌜ r ≡ foundFor kind (now (b .entry)) ⌝ }
+{
+    match kind {
+        0x01 => Found::Good(Change::Unclear(
+            b[0],
+            Log {
+                id: b[1],
+                reason: b[2],
+            },
+        )),
+        0x02 => Found::Good(Change::SetState(b[0])),
+        0x03 => Found::Good(Change::SetRole(b[0], b[1])),
+        0x04 => Found::Good(Change::SetCaps(b[0], caps_at(b, 1))),
+        0x05 => Found::Good(Change::SetUser(wire::be16(b, 0))),
+        0x06 => Found::Good(Change::SetThermal(b[0])),
+        0x07 => Found::Good(Change::SetThrottles(b[0])),
+        0x08 => Found::Good(Change::Unreset(b[0], b[1])),
+        0x09 => Found::Good(Change::SetMask(wire::be32(b, 0))),
+        0x0A => Found::Good(Change::SetDeadman(Deadman {
+            running: b[0],
+            time: wire::be64(b, 1),
+        })),
+        0x0B => Found::Good(Change::SetAreas(Areas {
+            ffdc: area_at(b, 0),
+            pass: area_at(b, 12),
+        })),
+        _ => Found::Bad,
+    }
+}
+
+// The tables that a kind's body has.
+fn tables_in(kind: u8, b: &[u8]) -> Tables
+    requires { ⌜ bodyLen kind ≤ length (now b) ⌝ }
+    ensures { λ r. ⌜ r ≡ tablesIn kind (now (b .entry)) ⌝ }
+{
+    let none = Throttles {
+        present: 0,
+        sets: [0; 160],
+    };
+    if kind == 0x06 {
+        let thermal = thermal_in(b);
+        return Tables {
+            thermal: thermal,
+            throttles: none,
+        };
+    }
+    if kind == 0x07 {
+        let throttles = throttles_in(b);
+        return Tables {
+            thermal: [0; 9],
+            throttles: throttles,
+        };
+    }
+    Tables {
+        thermal: [0; 9],
+        throttles: none,
+    }
+}
+
+fn bad() -> Got
+    ensures { λ r. ⌜ r ≡ badGot ⌝ }
+{
+    Got {
+        found: Found::Bad,
+        tables: Tables {
+            thermal: [0; 9],
+            throttles: Throttles {
+                present: 0,
+                sets: [0; 160],
+            },
+        },
+    }
+}
+
+// What one whole entry says; bytes that are not exactly one are bad.
+pub fn get(e: &[u8]) -> Got
+    ensures { λ r. ⌜ r ≡ gotOf (now (e .entry)) ⌝ }
+{
+    if e.len() == 0 {
+        return bad();
+    }
+    let kind = e[0];
+    if e.len() - 1 != entries::body_len(kind) {
+        return bad();
+    }
+    let b = &e[1..];
+    let found = found_for(kind, b);
+    let tables = tables_in(kind, b);
+    Got {
+        found: found,
+        tables: tables,
+    }
+}
+
+// ---- judging entries
+
+// Whether one whole entry's values are ones that a well-formed record could hold.
+pub fn entry_ok(e: &[u8]) -> bool
+    ensures { λ r. ⌜ r ≡ gotOk (gotOf (now (e .entry))) ⌝ }
+{
+    let got = get(e);
+    let found = got.found;
+    let tables = got.tables;
+    let Found::Good(change) = found else {
+        return false;
+    };
+    formed::edit_ok(Edit {
+        change: change,
+        tables: tables,
+    })
+}
+
+// Whether the bytes read exactly as entries with such values.
+pub fn all_ok(j: &[u8]) -> bool
+    ensures { λ r. ⌜ r ≡ journalOk (now (j .entry)) ⌝ }
+{
+    let mut at = 0;
+    while at < j.len() {
+        let n = entries::body_len(j[at]);
+        if n == 0 {
+            return false;
+        }
+        if j.len() - at <= n {
+            return false;
+        }
+        let end = at + (n + 1);
+        if !entry_ok(&j[at..end]) {
+            return false;
+        }
+        at = end;
+    }
+    true
+}
+
+// ---- the end of the journal
+
+// Adds a change's entry at the end of the used bytes, where there is room.
+pub fn add(j: &mut [u8], used: usize, e: Edit) -> End
+    ensures { λ r. ⌜ r ≡ endOf (length (now (j .entry))) used e ⌝ }
+    ensures { λ _. ⌜ now (j .exit) ≡ addedTo used e (now (j .entry)) ⌝ }
+{
+    let change = e.change;
+    let n = entry_len(change);
+    if j.len() < used {
+        return End::Full;
+    }
+    if j.len() - used < n {
+        return End::Full;
+    }
+    put(&mut j[used..], e);
+    End::At(used + n)
+}
+
+// Zeroes the bytes from `at` to the end of the used ones.
+pub fn cut(j: &mut [u8], at: usize, used: usize)
+    ensures { λ _. ⌜ now (j .exit) ≡ cutFrom at used (now (j .entry)) ⌝ }
+{
+    if j.len() < used {
+        return;
+    }
+    if used < at {
+        return;
+    }
+    wire::zero_all(&mut j[at..used]);
+}

@@ -1,57 +1,54 @@
-use native.Mathlib.Omega.{arith}
-use lib.ListN.{length}
-use Prim.Native.Nat.{ℕ, _≤_, _<_, _+_, _*_, _-_}
+use Rattle.journal.specs.declared.End.the-variants.{At}
+use Rattle.journal.proofs.Parts.{tail-pasted, add-room, less-than, at-most}
+use Rattle.wire.specs.Cases.{if-lt, else-lt}
+use Rattle.journal.specs.Add.{endOf, addedTo}
+use mathlib.Core.Path.{refl, ap}
+use Prim.Native.Nat.{ℕ, _+_}
 use borrow.Author.Needs.{needs}
 use Rattle.journal.proofs.add.Statement.{statement}
 use Rattle.journal.proofs.add.Tie as tie
-use Rattle.journal.proofs.add.Reads as reads
-use Rattle.journal.proofs.add.Lts as lts
-use Rattle.journal.proofs.entry_len.Reads as entry-len-reads
-use Rattle.journal.proofs.put.Reads as put-reads
 
--- src/lib.rt:360:9
 entry-len-requires : tie.Need-entry-len-requires
 entry-len-requires c κs = search needs
 
--- src/lib.rt:362:9
 returns : tie.Need-returns
-returns c = search needs
+unfolding endOf addedTo
+returns c = (if-lt _ _ (c .if1 .taken) refl, if-lt _ _ (c .if1 .taken) refl)
 
--- src/lib.rt:364:8
 sub-if2 : tie.Need-sub-if2
 sub-if2 c = search needs
 
--- src/lib.rt:365:9
 returns-2 : tie.Need-returns-2
-returns-2 c = search needs
+unfolding endOf addedTo
+returns-2 c = let full = less-than _ _ _ (c .before .before .entry-len .ensures) (c .if2 .taken) in
+    (else-lt _ _ (c .before .if1 .left) (if-lt _ _ full refl), else-lt _ _ (c .before .if1 .left) (if-lt _ _ full refl))
 
--- src/lib.rt:367:9
 sub-put : tie.Need-sub-put
 sub-put c = search needs
 
--- src/lib.rt:367:9
 part-put-start : tie.Need-part-put-start
 part-put-start c = search needs
 
--- src/lib.rt:367:9
 part-put-end : tie.Need-part-put-end
 part-put-end c = search needs
 
--- src/lib.rt:367:5
 put-requires : tie.Need-put-requires
-put-requires c κs = search needs
+put-requires c κs = add-room (c .before .before .before .before .before .args .j .now) (c .before .before .before .before .before .args .used) _ _ (c .before .before .before .entry-len .ensures) (c .before .if2 .left)
 
--- src/lib.rt:368:13
 add-t8 : tie.Need-add-t8
 add-t8 c = search needs
 
--- src/lib.rt:355:1
 same-length : tie.Need-same-length
 same-length c = search needs
 
--- src/lib.rt:355:1
 returns-3 : tie.Need-returns-3
-returns-3 c = search needs
+unfolding endOf addedTo
+returns-3 c = let n = c .before .before .before .before .before .before .entry-len .ensures in
+    let fits = c .before .before .before .before .before .if1 .left in
+    let room = at-most _ _ _ n (c .before .before .before .before .if2 .left) in (
+      else-lt _ _ fits (else-lt _ _ room (ap (λ (k : ℕ). At (c .before .before .before .before .before .before .before .before .args .used + k)) n)),
+      else-lt _ _ fits (else-lt _ _ room (tail-pasted _ _ _ _ (c .before .before .put .ensures))),
+    )
 
 pub add-spec : {M : Type 1} → statement M
 add-spec =

@@ -1,136 +1,136 @@
+use Rattle.record.specs.declared.Caps.{Caps}
+use Rattle.change.specs.declared.Change.the-variants.{SetCaps, SetUser, SetMask, SetDeadman, SetAreas}
+use Rattle.journal.specs.declared.Found.the-variants.{Good}
+use Rattle.wire.specs.Cases.{else-eq}
+use Rattle.journal.proofs.Parts.{room-for, found-by}
+use Rattle.entries.specs.Entries.{bodyLen}
+use Rattle.journal.specs.Read.{foundFor}
+use mathlib.Core.Path.{refl, ap}
 use native.Mathlib.Omega.{arith}
-use borrow.Author.Needs.{needs}
-use lib.ListN.{length}
-use Prim.Native.Nat.{ℕ, _≤_, _<_, _+_, _*_, _-_}
+use lib.ListN.{getD}
+use Prim.Native.Nat.{ℕ}
 use Rattle.journal.proofs.found_for.Statement.{statement}
 use Rattle.journal.proofs.found_for.Tie as tie
-use Rattle.journal.proofs.found_for.Reads as reads
-use Rattle.journal.proofs.found_for.Lts as lts
-use Rattle.journal.proofs.area_at.Reads as area-at-reads
-use Rattle.journal.proofs.caps_at.Reads as caps-at-reads
-use Rattle.wire.proofs.be16.Reads as be16-reads
-use Rattle.wire.proofs.be32.Reads as be32-reads
-use Rattle.wire.proofs.be64.Reads as be64-reads
 
--- src/lib.rt:222:13
 shared-slice-read-t5 : tie.Need-shared-slice-read-t5
-shared-slice-read-t5 c = search needs
+unfolding bodyLen
+shared-slice-read-t5 c = omega (arith, room-for _ 1 _ (c .before .match .keys1) (c .before .before .before .pre))
 
--- src/lib.rt:224:21
 shared-slice-read-t7 : tie.Need-shared-slice-read-t7
-shared-slice-read-t7 c = search needs
+unfolding bodyLen
+shared-slice-read-t7 c = omega (arith, room-for _ 1 _ (c .before .before .match .keys1) (c .before .before .before .before .pre))
 
--- src/lib.rt:225:25
 shared-slice-read-t9 : tie.Need-shared-slice-read-t9
-shared-slice-read-t9 c = search needs
+unfolding bodyLen
+shared-slice-read-t9 c = omega (arith, room-for _ 1 _ (c .before .before .before .match .keys1) (c .before .before .before .before .before .pre))
 
--- src/lib.rt:228:46
 shared-slice-read-t13 : tie.Need-shared-slice-read-t13
-shared-slice-read-t13 c = search needs
+unfolding bodyLen
+shared-slice-read-t13 c = omega (arith, room-for _ 2 _ (c .before .match .keys2) (c .before .before .before .pre))
 
--- src/lib.rt:229:45
 shared-slice-read-t16 : tie.Need-shared-slice-read-t16
-shared-slice-read-t16 c = search needs
+unfolding bodyLen
+shared-slice-read-t16 c = omega (arith, room-for _ 3 _ (c .before .match .keys3) (c .before .before .before .pre))
 
--- src/lib.rt:229:51
 shared-slice-read-t18 : tie.Need-shared-slice-read-t18
-shared-slice-read-t18 c = search needs
+unfolding bodyLen
+shared-slice-read-t18 c = omega (arith, room-for _ 3 _ (c .before .before .match .keys3) (c .before .before .before .before .pre))
 
--- src/lib.rt:230:45
 shared-slice-read-t21 : tie.Need-shared-slice-read-t21
-shared-slice-read-t21 c = search needs
+unfolding bodyLen
+shared-slice-read-t21 c = omega (arith, room-for _ 4 _ (c .before .match .keys4) (c .before .before .before .pre))
 
--- src/lib.rt:230:51
 caps-at-requires : tie.Need-caps-at-requires
-caps-at-requires c κs = search needs
+unfolding bodyLen
+caps-at-requires c κs = omega (arith, room-for _ 4 _ (c .before .match .keys4) (c .before .before .before .pre))
 
--- src/lib.rt:231:45
 be16-requires : tie.Need-be16-requires
-be16-requires c κs = search needs
+unfolding bodyLen
+be16-requires c κs = omega (arith, room-for _ 5 _ (c .match .keys5) (c .before .before .pre))
 
--- src/lib.rt:232:48
 shared-slice-read-t27 : tie.Need-shared-slice-read-t27
-shared-slice-read-t27 c = search needs
+unfolding bodyLen
+shared-slice-read-t27 c = omega (arith, room-for _ 6 _ (c .before .match .keys6) (c .before .before .before .pre))
 
--- src/lib.rt:233:50
 shared-slice-read-t30 : tie.Need-shared-slice-read-t30
-shared-slice-read-t30 c = search needs
+unfolding bodyLen
+shared-slice-read-t30 c = omega (arith, room-for _ 7 _ (c .before .match .keys7) (c .before .before .before .pre))
 
--- src/lib.rt:234:45
 shared-slice-read-t33 : tie.Need-shared-slice-read-t33
-shared-slice-read-t33 c = search needs
+unfolding bodyLen
+shared-slice-read-t33 c = omega (arith, room-for _ 8 _ (c .before .match .keys8) (c .before .before .before .pre))
 
--- src/lib.rt:234:51
 shared-slice-read-t35 : tie.Need-shared-slice-read-t35
-shared-slice-read-t35 c = search needs
+unfolding bodyLen
+shared-slice-read-t35 c = omega (arith, room-for _ 8 _ (c .before .before .match .keys8) (c .before .before .before .before .pre))
 
--- src/lib.rt:235:45
 be32-requires : tie.Need-be32-requires
-be32-requires c κs = search needs
+unfolding bodyLen
+be32-requires c κs = omega (arith, room-for _ 9 _ (c .match .keys9) (c .before .before .pre))
 
--- src/lib.rt:237:22
 shared-slice-read-t40 : tie.Need-shared-slice-read-t40
-shared-slice-read-t40 c = search needs
+unfolding bodyLen
+shared-slice-read-t40 c = omega (arith, room-for _ 10 _ (c .before .match .keys10) (c .before .before .before .pre))
 
--- src/lib.rt:238:19
 be64-requires : tie.Need-be64-requires
-be64-requires c κs = search needs
+unfolding bodyLen
+be64-requires c κs = omega (arith, room-for _ 10 _ (c .before .match .keys10) (c .before .before .before .pre))
 
--- src/lib.rt:241:19
 area-at-requires : tie.Need-area-at-requires
-area-at-requires c κs = search needs
+unfolding bodyLen
+area-at-requires c κs = omega (arith, room-for _ 11 _ (c .match .keys11) (c .before .before .pre))
 
--- src/lib.rt:242:19
 area-at-requires-2 : tie.Need-area-at-requires-2
-area-at-requires-2 c κs = search needs
+unfolding bodyLen
+area-at-requires-2 c κs = omega (arith, room-for _ 11 _ (c .before .match .keys11) (c .before .before .before .pre))
 
--- src/lib.rt:216:1
 returns : tie.Need-returns
-returns c = search needs
+unfolding foundFor
+returns c = let a = c .before .before .before .before .before .args in found-by (a .kind) 1 (a .b .now) _ (c .before .before .before .match .keys1) refl
 
--- src/lib.rt:216:1
 returns-2 : tie.Need-returns-2
-returns-2 c = search needs
+unfolding foundFor
+returns-2 c = let a = c .before .before .before .args in found-by (a .kind) 2 (a .b .now) _ (c .before .match .keys2) refl
 
--- src/lib.rt:216:1
 returns-3 : tie.Need-returns-3
-returns-3 c = search needs
+unfolding foundFor
+returns-3 c = let a = c .before .before .before .before .args in found-by (a .kind) 3 (a .b .now) _ (c .before .before .match .keys3) refl
 
--- src/lib.rt:216:1
 returns-4 : tie.Need-returns-4
-returns-4 c = search needs
+unfolding foundFor
+returns-4 c = let a = c .before .before .before .before .args in found-by (a .kind) 4 (a .b .now) _ (c .before .before .match .keys4) (ap (λ (x : Caps). Good (SetCaps (getD (a .b .now) 0 0) x)) (c .caps-at .ensures))
 
--- src/lib.rt:216:1
 returns-5 : tie.Need-returns-5
-returns-5 c = search needs
+unfolding foundFor
+returns-5 c = let a = c .before .before .before .args in found-by (a .kind) 5 (a .b .now) _ (c .before .match .keys5) (ap (λ (n : ℕ). Good (SetUser n)) (c .be16 .ensures))
 
--- src/lib.rt:216:1
 returns-6 : tie.Need-returns-6
-returns-6 c = search needs
+unfolding foundFor
+returns-6 c = let a = c .before .before .before .args in found-by (a .kind) 6 (a .b .now) _ (c .before .match .keys6) refl
 
--- src/lib.rt:216:1
 returns-7 : tie.Need-returns-7
-returns-7 c = search needs
+unfolding foundFor
+returns-7 c = let a = c .before .before .before .args in found-by (a .kind) 7 (a .b .now) _ (c .before .match .keys7) refl
 
--- src/lib.rt:216:1
 returns-8 : tie.Need-returns-8
-returns-8 c = search needs
+unfolding foundFor
+returns-8 c = let a = c .before .before .before .before .args in found-by (a .kind) 8 (a .b .now) _ (c .before .before .match .keys8) refl
 
--- src/lib.rt:216:1
 returns-9 : tie.Need-returns-9
-returns-9 c = search needs
+unfolding foundFor
+returns-9 c = let a = c .before .before .before .args in found-by (a .kind) 9 (a .b .now) _ (c .before .match .keys9) (ap (λ (n : ℕ). Good (SetMask n)) (c .be32 .ensures))
 
--- src/lib.rt:216:1
 returns-10 : tie.Need-returns-10
-returns-10 c = search needs
+unfolding foundFor
+returns-10 c = let a = c .before .before .before .before .args in found-by (a .kind) 10 (a .b .now) _ (c .before .before .match .keys10) (ap (λ (n : ℕ). Good (SetDeadman (record { running = getD (a .b .now) 0 0; time = n }))) (c .be64 .ensures))
 
--- src/lib.rt:216:1
 returns-11 : tie.Need-returns-11
-returns-11 c = search needs
+unfolding foundFor
+returns-11 c = let a = c .before .before .before .before .args in found-by (a .kind) 11 (a .b .now) _ (c .before .before .match .keys11) (λ i. Good (SetAreas (record { ffdc = c .before .area-at .ensures i; pass = c .area-at2 .ensures i })))
 
--- src/lib.rt:216:1
 returns-12 : tie.Need-returns-12
-returns-12 c = search needs
+unfolding foundFor
+returns-12 c = let r = c .match .rest in else-eq _ _ (r .0 .0 .0 .0 .0 .0 .0 .0 .0 .0 .1) (else-eq _ _ (r .0 .0 .0 .0 .0 .0 .0 .0 .0 .1) (else-eq _ _ (r .0 .0 .0 .0 .0 .0 .0 .0 .1) (else-eq _ _ (r .0 .0 .0 .0 .0 .0 .0 .1) (else-eq _ _ (r .0 .0 .0 .0 .0 .0 .1) (else-eq _ _ (r .0 .0 .0 .0 .0 .1) (else-eq _ _ (r .0 .0 .0 .0 .1) (else-eq _ _ (r .0 .0 .0 .1) (else-eq _ _ (r .0 .0 .1) (else-eq _ _ (r .0 .1) (else-eq _ _ (r .1) refl))))))))))
 
 pub found-for-spec : {M : Type 1} → statement M
 found-for-spec =

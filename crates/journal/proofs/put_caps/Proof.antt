@@ -1,53 +1,39 @@
-use native.Mathlib.Omega.{arith}
-use lib.ListN.{length}
-use Prim.Native.Nat.{ℕ, _≤_, _<_, _+_, _*_, _-_}
+use Rattle.journal.proofs.Fields.{caps-put}
+use Rattle.journal.specs.Bytes.{capsBody}
 use borrow.Author.Needs.{needs}
 use Rattle.journal.proofs.put_caps.Statement.{statement}
 use Rattle.journal.proofs.put_caps.Tie as tie
-use Rattle.journal.proofs.put_caps.Reads as reads
-use Rattle.journal.proofs.put_caps.Lts as lts
-use Rattle.wire.proofs.copy.Reads as copy-reads
-use Rattle.wire.proofs.put_be.Reads as put-be-reads
 
--- src/lib.rt:73:28
 slice-aggregate-copy : tie.Need-slice-aggregate-copy
 slice-aggregate-copy c = search needs
 
--- src/lib.rt:73:5
 copy-requires : tie.Need-copy-requires
 copy-requires c κs = search needs
 
--- src/lib.rt:74:33
 cast-put-be : tie.Need-cast-put-be
 cast-put-be c = search needs
 
--- src/lib.rt:74:5
 put-be-requires : tie.Need-put-be-requires
 put-be-requires c κs = search needs
 
--- src/lib.rt:75:33
 cast-put-be-2 : tie.Need-cast-put-be-2
 cast-put-be-2 c = search needs
 
--- src/lib.rt:75:5
 put-be-requires-2 : tie.Need-put-be-requires-2
 put-be-requires-2 c κs = search needs
 
--- src/lib.rt:76:27
 cast-put-be-3 : tie.Need-cast-put-be-3
 cast-put-be-3 c = search needs
 
--- src/lib.rt:76:5
 put-be-requires-3 : tie.Need-put-be-requires-3
 put-be-requires-3 c κs = search needs
 
--- src/lib.rt:68:1
 same-length : tie.Need-same-length
 same-length c = search needs
 
--- src/lib.rt:68:1
 returns : tie.Need-returns
-returns c = search needs
+unfolding capsBody
+returns c = caps-put _ _ _ _ _ _ (c .before .before .before .before .before .before .before .before .before .before .before .before .before .before .before .before .before .copy .ensures) (c .before .before .before .before .before .before .before .before .before .before .before .before .put-be .ensures) _ _ _ _ (c .before .before .before .before .before .before .before .put-be2 .ensures) (c .before .before .put-be3 .ensures)
 
 pub put-caps-spec : {M : Type 1} → statement M
 put-caps-spec =

@@ -1,33 +1,22 @@
-use native.Mathlib.Omega.{arith}
-use lib.ListN.{length}
-use Prim.Native.Nat.{ℕ, _≤_, _<_, _+_, _*_, _-_}
+use Rattle.journal.proofs.Fields.{number-put}
 use borrow.Author.Needs.{needs}
 use Rattle.journal.proofs.put_number.Statement.{statement}
 use Rattle.journal.proofs.put_number.Tie as tie
-use Rattle.journal.proofs.put_number.Reads as reads
-use Rattle.journal.proofs.put_number.Lts as lts
-use Rattle.wire.proofs.copy.Reads as copy-reads
-use Rattle.wire.proofs.put_be.Reads as put-be-reads
 
--- src/lib.rt:85:28
 slice-aggregate-copy : tie.Need-slice-aggregate-copy
 slice-aggregate-copy c = search needs
 
--- src/lib.rt:85:5
 copy-requires : tie.Need-copy-requires
 copy-requires c κs = search needs
 
--- src/lib.rt:86:5
 put-be-requires : tie.Need-put-be-requires
 put-be-requires c κs = search needs
 
--- src/lib.rt:80:1
 same-length : tie.Need-same-length
 same-length c = search needs
 
--- src/lib.rt:80:1
 returns : tie.Need-returns
-returns c = search needs
+returns c = number-put _ 0 _ _ _ _ _ (c .before .before .before .before .before .before .copy .ensures) (c .before .before .put-be .ensures)
 
 pub put-number-spec : {M : Type 1} → statement M
 put-number-spec =

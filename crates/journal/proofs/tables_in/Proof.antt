@@ -1,33 +1,32 @@
-use native.Mathlib.Omega.{arith}
-use borrow.Author.Needs.{needs}
-use lib.ListN.{length}
-use Prim.Native.Nat.{ℕ, _≤_, _<_, _+_, _*_, _-_}
+use Rattle.record.specs.Record.{noThrottles}
+use Rattle.entries.specs.Entries.{bodyLen}
+use Rattle.journal.proofs.Parts.{room-for}
+use Rattle.wire.specs.Cases.{if-eq, else-eq}
+use Rattle.journal.specs.Read.{tablesIn}
+use mathlib.Core.Path.{refl}
+use lib.ListN.{replicate}
 use Rattle.journal.proofs.tables_in.Statement.{statement}
 use Rattle.journal.proofs.tables_in.Tie as tie
-use Rattle.journal.proofs.tables_in.Reads as reads
-use Rattle.journal.proofs.tables_in.Lts as lts
-use Rattle.journal.proofs.thermal_in.Reads as thermal-in-reads
-use Rattle.journal.proofs.throttles_in.Reads as throttles-in-reads
 
--- src/lib.rt:258:13
 thermal-in-requires : tie.Need-thermal-in-requires
-thermal-in-requires c κs = search needs
+unfolding bodyLen
+thermal-in-requires c κs = room-for _ 6 _ (c .if1 .taken) (c .before .before .pre)
 
--- src/lib.rt:259:9
 returns : tie.Need-returns
-returns c = search needs
+unfolding tablesIn
+returns c = if-eq _ _ (c .before .if1 .taken) (λ i. record { thermal = c .thermal-in .ensures i; throttles = noThrottles })
 
--- src/lib.rt:265:13
 throttles-in-requires : tie.Need-throttles-in-requires
-throttles-in-requires c κs = search needs
+unfolding bodyLen
+throttles-in-requires c κs = room-for _ 7 _ (c .if2 .taken) (c .before .before .before .pre)
 
--- src/lib.rt:266:9
 returns-2 : tie.Need-returns-2
-returns-2 c = search needs
+unfolding tablesIn
+returns-2 c = else-eq _ _ (c .before .before .if1 .left) (if-eq _ _ (c .before .if2 .taken) (λ i. record { thermal = replicate 9 0; throttles = c .throttles-in .ensures i }))
 
--- src/lib.rt:249:1
 returns-3 : tie.Need-returns-3
-returns-3 c = search needs
+unfolding tablesIn
+returns-3 c = else-eq _ _ (c .before .if1 .left) (else-eq _ _ (c .if2 .left) refl)
 
 pub tables-in-spec : {M : Type 1} → statement M
 tables-in-spec =

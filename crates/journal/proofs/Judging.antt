@@ -1,0 +1,124 @@
+-- What each turn of `all_ok` keeps, and what it finds where it stops. Assumes nothing.
+use Prim.Native.Nat.{ℕ, zero, suc, _+_, _-_, _≤_, _<_}
+use mathlib.Core.Bool.{Bool, true, false, cond, not}
+use mathlib.Core.Path.{_≡_, refl, sym, ap, subst, _∙_}
+use mathlib.Core.List.{List, [], _∷_, _++_}
+use native.Mathlib.Numerals.{add-one}
+use native.Mathlib.Nat.{add-sub-cancel-left}
+use native.Mathlib.Omega.{arith}
+use borrow.Author.Tests.{not-true, not-false}
+use lib.ListN.{length, getD, take, drop, take-append-drop}
+use lib.Seq.{drop-cons}
+use Rattle.wire.specs.Cases.{if-b, else-b, else-eq, else-ne, cond-elim}
+use Rattle.entries.specs.Entries.{Entry, bodyLen, bytesOf, Scan, between, within, unknown, opened, eat, scanFrom, scan}
+use Rattle.entries.specs.Laws.{scan-append}
+use Rattle.entries.specs.Places.{scan-none, scan-end, scan-unknown, scan-cut, entryAt, length-body, scan-next}
+use Rattle.journal.specs.Read.{foundFor, tablesIn, badGot, gotFor, gotOf, gotOk, entryOk, allOk, scanOk, journalOk}
+
+-- one whole entry's bytes say what its kind and body say
+pub got-whole : (e : Entry) → bodyLen (e .kind) ≡ length (e .body) → gotOf (bytesOf e) ≡ record { found = foundFor (e .kind) (e .body); tables = tablesIn (e .kind) (e .body) }
+unfolding bytesOf gotOf gotFor
+got-whole e h =
+    let some : suc (length (e .body)) ≡ 0 → ⊥ = λ z. omega arith in
+    let fits : suc (length (e .body)) - 1 ≡ bodyLen (e .kind) = omega arith in
+    sym (else-eq badGot _ {m = suc (length (e .body))} {n = 0} some (else-ne badGot _ {m = suc (length (e .body)) - 1} {n = bodyLen (e .kind)} fits refl))
+
+got-entry : (e : Entry) → bodyLen (e .kind) ≡ length (e .body) → gotOk (gotOf (bytesOf e)) ≡ entryOk e
+unfolding gotOk entryOk
+got-entry e h = ap gotOk (got-whole e h)
+
+-- ---- an entry whose values are bad spoils all that is read after it
+
+fine : Scan → Bool
+fine (between es) = allOk es
+fine (within es k b n) = allOk es
+fine (unknown es) = false
+
+bad-opened : (es : List Entry) (k n : ℕ) → allOk es ≡ false → fine (opened es k n) ≡ false
+unfolding fine opened
+bad-opened es k zero h = refl
+bad-opened es k (suc n) h = h
+
+bad-eat : (s : Scan) (x : ℕ) → fine s ≡ false → fine (eat s x) ≡ false
+unfolding fine eat allOk
+bad-eat (between es) x h = bad-opened es x (bodyLen x) h
+bad-eat (within es k b zero) x h = cond-elim (λ (t : Bool). t ≡ false) (entryOk (record { kind = k; body = b ++ (x ∷ []) })) h refl
+bad-eat (within es k b (suc n)) x h = h
+bad-eat (unknown es) x h = refl
+
+bad-from : (s : Scan) (xs : List ℕ) → fine s ≡ false → fine (scanFrom s xs) ≡ false
+unfolding scanFrom
+bad-from s [] h = h
+bad-from s (x ∷ xs) h = bad-from (eat s x) xs (bad-eat s x h)
+
+bad-scan : (s : Scan) → fine s ≡ false → false ≡ scanOk s
+unfolding fine scanOk
+bad-scan (between es) h = sym h
+bad-scan (within es k b n) h = refl
+bad-scan (unknown es) h = refl
+
+-- ---- the bytes before `at` read as entries with good values
+
+pub record Judged (j : List ℕ) (at : ℕ) : Type 0 where
+  pub entries : List Entry
+  pub fits : at ≤ length j
+  pub reads : scan (take at j) ≡ between entries
+  pub good : allOk entries ≡ true
+
+pub judged-none : (j : List ℕ) → Judged j 0
+unfolding allOk
+judged-none j = record { entries = []; fits = omega arith; reads = scan-none; good = refl }
+
+module _ (j : List ℕ) (at : ℕ) (p : Judged j at) where
+  pub judged-end : length j ≤ at → true ≡ journalOk j
+  unfolding journalOk scanOk
+  judged-end h = sym (p .good) ∙ sym (ap scanOk (scan-end j at (p .entries) (p .fits) (p .reads) h))
+
+  module _ (n : ℕ) (size : n ≡ bodyLen (getD j at 0)) (more : at < length j) where
+    pub judged-unknown : n ≡ 0 → false ≡ journalOk j
+    unfolding journalOk scanOk
+    judged-unknown z = sym (ap scanOk (scan-unknown j at (p .entries) (p .fits) (p .reads) n size more z))
+
+    pub judged-cut : (n ≡ 0 → ⊥) → length j - at ≤ n → false ≡ journalOk j
+    unfolding journalOk scanOk
+    judged-cut z h = sym (ap scanOk (scan-cut j at (p .entries) (p .fits) (p .reads) n size more z h))
+
+    module _ (known : n ≡ 0 → ⊥) (uncut : n < length j - at) where
+      -- the bytes lent, from the kind to the end of the body
+      entry-part : take (at + (n + 1) - at) (drop at j) ≡ bytesOf (entryAt j at n)
+      unfolding bytesOf
+      entry-part = rw (add-sub-cancel-left, add-one, drop-cons j at 0 more)
+
+      entry-judged : gotOk (gotOf (take (at + (n + 1) - at) (drop at j))) ≡ entryOk (entryAt j at n)
+      entry-judged =
+          ap (λ (l : List ℕ). gotOk (gotOf l)) entry-part
+          ∙ got-entry (entryAt j at n) (sym size ∙ sym (length-body j at (p .entries) (p .fits) (p .reads) n size more known uncut))
+
+      next-reads : scan (take (at + (n + 1)) j) ≡ between (entryAt j at n ∷ p .entries)
+      next-reads = scan-next j at (p .entries) (p .fits) (p .reads) n size more known uncut
+
+      module _ (x : Bool) (judged : x ≡ gotOk (gotOf (take (at + (n + 1) - at) (drop at j)))) where
+        value : x ≡ entryOk (entryAt j at n)
+        value = judged ∙ entry-judged
+
+        spoilt : x ≡ false → fine (between (entryAt j at n ∷ p .entries)) ≡ false
+        unfolding fine allOk
+        spoilt h = sym (else-b _ _ (sym value ∙ h) refl)
+
+        whole-scan : scan j ≡ scanFrom (scan (take (at + (n + 1)) j)) (drop (at + (n + 1)) j)
+        whole-scan = ap scan (sym (take-append-drop (at + (n + 1)) j)) ∙ scan-append (take (at + (n + 1)) j) (drop (at + (n + 1)) j)
+
+        pub judged-bad : not x ≡ true → false ≡ journalOk j
+        unfolding journalOk
+        judged-bad h =
+            let bad : fine (scan (take (at + (n + 1)) j)) ≡ false = ap fine next-reads ∙ spoilt (not-true x h) in
+            bad-scan (scan j) (ap fine whole-scan ∙ bad-from (scan (take (at + (n + 1)) j)) (drop (at + (n + 1)) j) bad)
+
+        pub judged-next : not x ≡ false → Judged j (at + (n + 1))
+        unfolding allOk
+        judged-next h = record {
+          entries = entryAt j at n ∷ p .entries;
+          fits = omega arith;
+          reads = next-reads;
+          good = sym (if-b _ _ (sym value ∙ not-false x h) (sym (p .good)));
+        }

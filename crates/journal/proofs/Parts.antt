@@ -1,0 +1,119 @@
+-- What the functions that read, add and cut an entry do to the part that is lent to them. Assumes nothing.
+use Prim.Native.Nat.{ℕ, zero, suc, _+_, _-_, _≤_, _<_}
+use mathlib.Core.Bool.{Bool, true, false, cond, false≢true}
+use mathlib.Core.Path.{_≡_, refl, sym, ap, subst, _∙_}
+use mathlib.Core.List.{List, [], _∷_, _++_, append-nil}
+use native.Mathlib.Nat.{zero-add, not-suc-le-zero, le-of-suc-le-suc}
+use native.Mathlib.Omega.{arith}
+use borrow.Author.Tests.{leb-true}
+use lib.Dec.{leb}
+use lib.ListN.{length, getD, take, drop, replicate, length-take, length-drop, length-replicate, drop-of-length-le}
+use lib.Seq.{take-all, drop-drop, length-take-le}
+use Rattle.wire.specs.Wire.{pasted}
+use Rattle.change.specs.declared.Change.{Change}
+use Rattle.change.specs.declared.Edit.{Edit}
+use Rattle.change.specs.Change.{kindOf}
+use Rattle.entries.specs.Entries.{bytesOf, bodyLengths, bodyLen}
+use Rattle.formed.specs.Formed.{changeOk, editOk}
+use Rattle.journal.specs.declared.Found.{Found}
+use Rattle.journal.specs.declared.Found.the-variants.{Good, Bad}
+use Rattle.journal.specs.declared.Got.{Got}
+use Rattle.journal.specs.Bytes.{bodyOf, entryFor, entryBytes}
+use Rattle.journal.specs.Read.{foundFor, tablesIn, valuesOk, gotOk}
+use Rattle.change.specs.declared.Tables.{Tables}
+
+-- ---- parts of lent bytes
+
+-- the part from a place to the end
+pub tail-part : (j : List ℕ) (at : ℕ) → take (length j - at) (drop at j) ≡ drop at j
+tail-part j at = take-all (length j - at) (drop at j) (simp length-drop (omega arith))
+
+-- bytes written to the front of the part from a place to the end
+pub tail-pasted : (j x bs : List ℕ) (at : ℕ) → x ≡ pasted 0 bs (take (length j - at) (drop at j)) → take at j ++ (x ++ drop (length j - at) (drop at j)) ≡ pasted at bs j
+unfolding pasted
+tail-pasted j x bs at p =
+    let z : drop (length j - at) (drop at j) ≡ [] = drop-of-length-le (drop at j) {i = length j - at} (simp length-drop (omega arith)) in
+    rw (p, z, append-nil, tail-part, zero-add, drop-drop)
+
+-- the part between two places zeroed
+pub part-zeroed : (j x : List ℕ) (at end : ℕ) → at ≤ end → end ≤ length j → x ≡ replicate (length (take (end - at) (drop at j))) 0
+    → take at j ++ (x ++ drop (end - at) (drop at j)) ≡ pasted at (replicate (end - at) 0) j
+unfolding pasted
+part-zeroed j x at end h k p =
+    let n : length (take (end - at) (drop at j)) ≡ end - at = length-take-le (end - at) (drop at j) (simp length-drop (omega arith)) in
+    rw (p, n, length-replicate, drop-drop)
+
+-- ---- by kind
+
+-- no body is longer than the throttles'
+abbrev under : ℕ → List ℕ → Bool
+under m [] = true
+under m (x ∷ l) = cond (leb x m) (under m l) false
+
+under-both : (m x : ℕ) (b : Bool) → cond (leb x m) b false ≡ true → (x ≤ m) × (b ≡ true)
+under-both m x b h = go (leb x m) refl h
+  where
+    go : (t : Bool) → leb x m ≡ t → cond t b false ≡ true → (x ≤ m) × (b ≡ true)
+    go true e h = (leb-true x m e, h)
+    go false e h = absurd (false≢true h)
+
+getD-under : (m : ℕ) (l : List ℕ) (i : ℕ) → under m l ≡ true → getD l i 0 ≤ m
+getD-under m [] i h = omega arith
+getD-under m (x ∷ l) zero h = under-both m x (under m l) h .0
+getD-under m (x ∷ l) (suc i) h = getD-under m l i (under-both m x (under m l) h .1)
+
+pub body-short : (k : ℕ) → bodyLen k ≤ 163
+unfolding bodyLen
+body-short k = getD-under 163 bodyLengths k refl
+
+pub room-for : (k n m : ℕ) → k ≡ n → bodyLen k ≤ m → bodyLen n ≤ m
+room-for k n m e h = subst (λ (i : ℕ). bodyLen i ≤ m) e h
+
+pub found-by : (k n : ℕ) (b : List ℕ) (x : Found) → k ≡ n → x ≡ foundFor n b → x ≡ foundFor k b
+found-by k n b x e p = p ∙ ap (λ (i : ℕ). foundFor i b) (sym e)
+
+pub put-by : (e : Edit) (ch : Change) (d x : List ℕ) → e .change ≡ ch → x ≡ pasted 0 (kindOf ch ∷ bodyOf (e .tables) ch) d → x ≡ pasted 0 (entryBytes e) d
+unfolding entryBytes entryFor bytesOf
+put-by e ch d x h p = p ∙ sym (ap (λ (c : Change). pasted 0 (kindOf c ∷ bodyOf (e .tables) c) d) h)
+
+pub put-room : (e : Edit) (ch : Change) (n : ℕ) → e .change ≡ ch → bodyLen (kindOf (e .change)) + 1 ≤ n → bodyLen (kindOf ch) + 1 ≤ n
+put-room e ch n h p = subst (λ (c : Change). bodyLen (kindOf c) + 1 ≤ n) h p
+
+-- ---- what was got
+
+pub ok-bad : (g h : Got) → g ≡ h → g .found ≡ Bad → false ≡ gotOk h
+unfolding gotOk valuesOk
+ok-bad g h e p = sym (ap (valuesOk (g .tables)) p) ∙ ap gotOk e
+
+pub ok-good : (g h : Got) (ch : Change) (x : Bool) → g ≡ h → g .found ≡ Good ch → x ≡ editOk (record { change = ch; tables = g .tables }) → x ≡ gotOk h
+unfolding gotOk valuesOk editOk
+ok-good g h ch x e p q = q ∙ sym (ap (valuesOk (g .tables)) p) ∙ ap gotOk e
+
+pub got-by : (k : ℕ) (e : List ℕ) (f : Found) (t : Tables) → f ≡ foundFor k (take (length e - 1) (drop 1 e)) → t ≡ tablesIn k (take (length e - 1) (drop 1 e))
+    → _≡_ {A = Got} (record { found = f; tables = t }) (record { found = foundFor k (drop 1 e); tables = tablesIn k (drop 1 e) })
+got-by k e f t p q =
+    let g = p ∙ ap (foundFor k) (tail-part e 1) in
+    let h = q ∙ ap (tablesIn k) (tail-part e 1) in
+    λ i. record { found = g i; tables = h i }
+
+-- ---- room
+
+pub get-room : (e : List ℕ) (k n : ℕ) → length e - 1 ≡ n → n ≡ bodyLen k → bodyLen k ≤ length (take (length e - 1) (drop 1 e))
+get-room e k n p q = rw (tail-part e 1, length-drop) (omega (arith, p, q))
+
+pub add-room : (j : List ℕ) (used n m : ℕ) → n ≡ m → n ≤ length j - used → m ≤ length (take (length j - used) (drop used j))
+add-room j used n m p h = rw (tail-part j used, length-drop) (omega (arith, p))
+
+pub less-than : (a n m : ℕ) → n ≡ m → a < n → a < m
+less-than a n m e h = omega (arith, e)
+
+pub at-most : (a n m : ℕ) → n ≡ m → n ≤ a → m ≤ a
+at-most a n m e h = omega (arith, e)
+
+-- a part copied over a whole array
+pub part-copied : (b d x : List ℕ) (at n : ℕ) → at + n ≤ length b → length d ≡ n → x ≡ pasted 0 (take n (drop at b)) d → x ≡ take n (drop at b)
+unfolding pasted
+part-copied b d x at n h l p =
+    let m : length (take n (drop at b)) ≡ n = length-take-le n (drop at b) (simp length-drop (omega arith)) in
+    let z : drop (0 + length (take n (drop at b))) d ≡ [] = drop-of-length-le d {i = 0 + length (take n (drop at b))} (omega (arith, m)) in
+    p ∙ rw (z, append-nil)

@@ -10,11 +10,6 @@ use lib.Seq.{take-add, take-all, drop-cons, length-take-le}
 use Rattle.entries.specs.Entries.{Entry, bodyLen, bytesOf, written, Scan, between, within, unknown, opened, eat, scanFrom, scan}
 use Rattle.entries.specs.Laws.{scan-append, read-append, scan-written}
 
--- nothing is read before the first place
-pub scan-none : scan [] ≡ between []
-unfolding scan scanFrom
-scan-none = refl
-
 eat-unknown : (es : List Entry) (xs : List ℕ) → scanFrom (unknown es) xs ≡ unknown es
 unfolding scanFrom eat
 eat-unknown es [] = refl
@@ -42,21 +37,33 @@ never-within s es es′ k b n p q = let z : _≡_ {A = ℕ} 0 1 = cc in omega ar
 abbrev pub entryAt : List ℕ → ℕ → ℕ → Entry
 entryAt j at n = record { kind = getD j at 0; body = take n (drop (suc at) j) }
 
-module _ (j : List ℕ) (at : ℕ) (es : List Entry) (fits : at ≤ length j) (reads : scan (take at j) ≡ between es) where
+pub length-body : (j : List ℕ) (at n : ℕ) → n < length j - at → length (entryAt j at n .body) ≡ n
+length-body j at n h = length-take-le n (drop (suc at) j) (simp length-drop (omega arith))
+
+-- the bytes before `at` read as the entries es
+pub record Place (j : List ℕ) (at : ℕ) (es : List Entry) : Type 0 where
+  pub fits : at ≤ length j
+  pub reads : scan (take at j) ≡ between es
+
+pub first-place : (j : List ℕ) → Place j 0 []
+unfolding scan scanFrom
+first-place j = record { fits = omega arith; reads = refl }
+
+module _ {j : List ℕ} {at : ℕ} {es : List Entry} (p : Place j at es) where
   pub place-written : at ≡ length (written es)
-  place-written = sym (length-take-le at j fits) ∙ ap length (scan-written (take at j) es reads)
+  place-written = sym (length-take-le at j (p .fits)) ∙ ap length (scan-written (take at j) es (p .reads))
 
   pub scan-end : length j ≤ at → scan j ≡ between es
-  scan-end h = ap scan (sym (take-all at j h)) ∙ reads
+  scan-end h = ap scan (sym (take-all at j h)) ∙ p .reads
 
   -- what stands at a place: a kind, whose body has n bytes
-  module _ (n : ℕ) (size : n ≡ bodyLen (getD j at 0)) (more : at < length j) where
+  module _ {n : ℕ} (size : n ≡ bodyLen (getD j at 0)) (more : at < length j) where
     scan-opened : scan j ≡ scanFrom (opened es (getD j at 0) n) (drop (suc at) j)
     unfolding scanFrom eat
     scan-opened =
         ap scan (sym (take-append-drop at j))
         ∙ scan-append (take at j) (drop at j)
-        ∙ ap (λ (s : Scan). scanFrom s (drop at j)) reads
+        ∙ ap (λ (s : Scan). scanFrom s (drop at j)) (p .reads)
         ∙ ap (scanFrom (between es)) (drop-cons j at 0 more)
         ∙ ap (λ (m : ℕ). scanFrom (opened es (getD j at 0) m) (drop (suc at) j)) (sym size)
 
@@ -68,22 +75,20 @@ module _ (j : List ℕ) (at : ℕ) (es : List Entry) (fits : at ≤ length j) (r
     scan-cut z h = scan-opened ∙ eat-opened es (getD j at 0) n (drop (suc at) j) z (simp length-drop (omega arith))
 
     -- where the whole reads as entries, the kind is known and its body is there
-    pub whole-fits : (all : List Entry) → scan j ≡ between all → (1 ≤ n) × (n < length j - at)
-    whole-fits all w =
+    pub whole-fits : {all : List Entry} → scan j ≡ between all → (1 ≤ n) × (n < length j - at)
+    whole-fits {all} w =
         let known : n ≡ 0 → ⊥ = λ z. never-unknown (scan j) all es w (scan-unknown z) in
         let uncut : length j - at ≤ n → ⊥ = λ h. never-within (scan j) all es _ _ _ w (scan-cut known h) in
         (omega arith, omega arith)
 
-    module _ (known : n ≡ 0 → ⊥) (uncut : n < length j - at) where
-      pub length-body : length (entryAt j at n .body) ≡ n
-      length-body = length-take-le n (drop (suc at) j) (simp length-drop (omega arith))
+    next-bytes : n < length j - at → take (at + (n + 1)) j ≡ take at j ++ bytesOf (entryAt j at n)
+    unfolding bytesOf
+    next-bytes h = rw (add-one, take-add at (suc n) j, drop-cons j at 0 more)
 
-      next-bytes : take (at + (n + 1)) j ≡ take at j ++ bytesOf (entryAt j at n)
-      unfolding bytesOf
-      next-bytes = rw (add-one, take-add at (suc n) j, drop-cons j at 0 more)
-
-      -- the next place
-      pub scan-next : scan (take (at + (n + 1)) j) ≡ between (entryAt j at n ∷ es)
-      scan-next =
-          ap scan next-bytes
-          ∙ read-append (take at j) es (entryAt j at n) reads (sym size ∙ sym length-body) (omega (arith, length-body, known))
+    pub next-place : (n ≡ 0 → ⊥) → n < length j - at → Place j (at + (n + 1)) (entryAt j at n ∷ es)
+    next-place z h = record {
+      fits = omega arith;
+      reads =
+          ap scan (next-bytes h)
+          ∙ read-append (take at j) es (entryAt j at n) (p .reads) (sym size ∙ sym (length-body j at n h)) (omega (arith, length-body j at n h, z));
+    }

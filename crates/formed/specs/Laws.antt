@@ -50,6 +50,7 @@ pub record Sound (r : Record) (n : ℕ) : Type 0 where
   pub next : nextOk n ≡ true
   pub logs : logsOk n (r .logs) ≡ true
 
+-- from the rule of the whole to its parts, and back
 pub sound : {r : Record} {next : ℕ} → recordOk r next ≡ true → Sound r next
 unfolding recordOk fieldsOk
 sound {r} {next} h =
@@ -130,6 +131,7 @@ pending-cons : (low : ℕ) (x : Log) (l : List Log) → low < x .id → pendingO
 unfolding pendingOf
 pending-cons low x l h = sym (else-eq 0 (suc (pendingOf l)) {m = x .id} {n = 0} (λ e. omega arith) refl)
 
+-- from the tree to the test, and back
 pub above-ok : {next low : ℕ} {l : List Log} → Above next low l → logsAbove low next l ≡ true
 unfolding logsAbove
 above-ok {l = []} (rest h) = refl
@@ -149,15 +151,16 @@ above {next} {low} {l = x ∷ l} h =
     (either (eqb (x .id) 0) (unused (x ∷ l)) _ h)
 
 -- a higher next id
-up : {n m low : ℕ} {l : List Log} → n ≤ m → Above n low l → Above m low l
-up h (rest u) = rest u
-up {n} {m} h (more {x = x} p q w k) = let g : x .id < m = omega arith in more p g w (up h k)
+above-up : {n m low : ℕ} {l : List Log} → n ≤ m → Above n low l → Above m low l
+above-up h (rest u) = rest u
+above-up {n} {m} h (more {x = x} p q w k) = let g : x .id < m = omega arith in more p g w (above-up h k)
 
 -- a lower id to be above
-down : {next a b : ℕ} {l : List Log} → a ≤ b → Above next b l → Above next a l
-down h (rest u) = rest u
-down {next} {a} h (more {x = x} p q w k) = let g : a < x .id = omega arith in more g q w k
+above-down : {next a b : ℕ} {l : List Log} → a ≤ b → Above next b l → Above next a l
+above-down h (rest u) = rest u
+above-down {next} {a} h (more {x = x} p q w k) = let g : a < x .id = omega arith in more g q w k
 
+-- past the pending logs all is unused
 above-used : {next low : ℕ} {l : List Log} → Above next low l → unused (drop (pendingOf l) l) ≡ true
 above-used {l = l} (rest u) = rw (unused-none-pend l u) u
 above-used {low = low} (more {x = x} {l = l} p q w k) = rw (pending-cons low x l p) (above-used k)
@@ -182,10 +185,10 @@ above-pad (more p q w k) = more p q w (above-pad k)
 above-remove : {next low : ℕ} {l : List Log} (p : ℕ) → Above next low l → Above next low (take p l ++ (drop (suc p) l ++ (noLog ∷ [])))
 above-remove {l = l} p (rest u) =
     rest (unused-append (take p l) _ (unused-take p l u) (unused-append (drop (suc p) l) (noLog ∷ []) (unused-drop (suc p) l u) unused-one))
-above-remove zero (more p q w k) = down (le-of-lt p) (above-pad k)
+above-remove zero (more p q w k) = above-down (le-of-lt p) (above-pad k)
 above-remove (suc n) (more p q w k) = more p q w (above-remove n k)
 
--- each place is unused, or has a reason
+-- a place, as a reset could have left it
 unused-made : (i : ℕ) (l : List Log) → unused l ≡ true → madeOk (getD l i noLog) ≡ true
 unfolding madeOk
 unused-made i [] u = refl
@@ -209,7 +212,7 @@ module _ (next : ℕ) (l : List Log) (ok : logsOk next l ≡ true) where
   -- a higher next id keeps them
   pub logs-next-up : (m : ℕ) → next ≤ m → logsOk m l ≡ true
   unfolding logsOk
-  logs-next-up m h = above-ok (up h (above ok))
+  logs-next-up m h = above-ok (above-up h (above ok))
 
   -- used places come first
   pub logs-used : unused (drop (pendingOf l) l) ≡ true
@@ -232,6 +235,7 @@ module _ (next : ℕ) (l : List Log) (ok : logsOk next l ≡ true) where
       go true = above-ok (above-remove p (above ok))
       go false = ok
 
+  -- each place is unused, or has a reason
   pub logs-made : (i : ℕ) → madeOk (getD l i noLog) ≡ true
   unfolding logsOk
   logs-made i = above-made i (above {next = next} {low = 0} ok)
@@ -283,6 +287,7 @@ edit-back-ok r n t (SetMask mask) s h = refl
 edit-back-ok r n t (SetDeadman deadman) s h = s .deadman
 edit-back-ok r n t (SetAreas areas) s h = s .areas
 
+-- so an entry of the journal passes, if the change that it takes back did
 pub inverse-ok : (r : Record) (n : ℕ) (e : Edit) → Sound r n → editOk e ≡ true → editOk (inverseOf r e) ≡ true
 unfolding editOk inverseOf
 inverse-ok r n e s h = edit-back-ok r n (e .tables) (e .change) s (λ k. h)

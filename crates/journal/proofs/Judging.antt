@@ -12,7 +12,7 @@ use lib.Seq.{drop-cons}
 use Rattle.wire.specs.Cases.{if-b, else-b, else-eq, else-ne, cond-elim}
 use Rattle.entries.specs.Entries.{Entry, bodyLen, bytesOf, Scan, between, within, unknown, opened, eat, scanFrom, scan}
 use Rattle.entries.specs.Laws.{scan-append}
-use Rattle.entries.specs.Places.{scan-none, scan-end, scan-unknown, scan-cut, entryAt, length-body, scan-next}
+use Rattle.entries.specs.Places.{Place, first-place, next-place, scan-end, scan-unknown, scan-cut, entryAt, length-body}
 use Rattle.journal.specs.Read.{foundFor, tablesIn, badGot, gotFor, gotOf, gotOk, entryOk, allOk, scanOk, journalOk}
 
 -- one whole entry's bytes say what its kind and body say
@@ -57,31 +57,30 @@ bad-scan (between es) h = sym h
 bad-scan (within es k b n) h = refl
 bad-scan (unknown es) h = refl
 
--- ---- the bytes before `at` read as entries with good values
+-- ---- `at` is a place, and the entries before it have good values
 
 pub record Judged (j : List ℕ) (at : ℕ) : Type 0 where
   pub entries : List Entry
-  pub fits : at ≤ length j
-  pub reads : scan (take at j) ≡ between entries
+  pub place : Place j at entries
   pub good : allOk entries ≡ true
 
 pub judged-none : (j : List ℕ) → Judged j 0
 unfolding allOk
-judged-none j = record { entries = []; fits = omega arith; reads = scan-none; good = refl }
+judged-none j = record { entries = []; place = first-place j; good = refl }
 
-module _ (j : List ℕ) (at : ℕ) (p : Judged j at) where
+module _ {j : List ℕ} {at : ℕ} (p : Judged j at) where
   pub judged-end : length j ≤ at → true ≡ journalOk j
   unfolding journalOk scanOk
-  judged-end h = sym (p .good) ∙ sym (ap scanOk (scan-end j at (p .entries) (p .fits) (p .reads) h))
+  judged-end h = sym (p .good) ∙ sym (ap scanOk (scan-end (p .place) h))
 
-  module _ (n : ℕ) (size : n ≡ bodyLen (getD j at 0)) (more : at < length j) where
+  module _ {n : ℕ} (size : n ≡ bodyLen (getD j at 0)) (more : at < length j) where
     pub judged-unknown : n ≡ 0 → false ≡ journalOk j
     unfolding journalOk scanOk
-    judged-unknown z = sym (ap scanOk (scan-unknown j at (p .entries) (p .fits) (p .reads) n size more z))
+    judged-unknown z = sym (ap scanOk (scan-unknown (p .place) size more z))
 
     pub judged-cut : (n ≡ 0 → ⊥) → length j - at ≤ n → false ≡ journalOk j
     unfolding journalOk scanOk
-    judged-cut z h = sym (ap scanOk (scan-cut j at (p .entries) (p .fits) (p .reads) n size more z h))
+    judged-cut z h = sym (ap scanOk (scan-cut (p .place) size more z h))
 
     module _ (known : n ≡ 0 → ⊥) (uncut : n < length j - at) where
       -- the bytes lent, from the kind to the end of the body
@@ -89,17 +88,15 @@ module _ (j : List ℕ) (at : ℕ) (p : Judged j at) where
       unfolding bytesOf
       entry-part = rw (add-sub-cancel-left, add-one, drop-cons j at 0 more)
 
-      entry-judged : gotOk (gotOf (take (at + (n + 1) - at) (drop at j))) ≡ entryOk (entryAt j at n)
-      entry-judged =
-          ap (λ (l : List ℕ). gotOk (gotOf l)) entry-part
-          ∙ got-entry (entryAt j at n) (sym size ∙ sym (length-body j at (p .entries) (p .fits) (p .reads) n size more known uncut))
+      next : Place j (at + (n + 1)) (entryAt j at n ∷ p .entries)
+      next = next-place (p .place) size more known uncut
 
-      next-reads : scan (take (at + (n + 1)) j) ≡ between (entryAt j at n ∷ p .entries)
-      next-reads = scan-next j at (p .entries) (p .fits) (p .reads) n size more known uncut
-
-      module _ (x : Bool) (judged : x ≡ gotOk (gotOf (take (at + (n + 1) - at) (drop at j)))) where
+      module _ {x : Bool} (judged : x ≡ gotOk (gotOf (take (at + (n + 1) - at) (drop at j)))) where
         value : x ≡ entryOk (entryAt j at n)
-        value = judged ∙ entry-judged
+        value =
+            judged
+            ∙ ap (λ (l : List ℕ). gotOk (gotOf l)) entry-part
+            ∙ got-entry (entryAt j at n) (sym size ∙ sym (length-body j at n uncut))
 
         spoilt : x ≡ false → fine (between (entryAt j at n ∷ p .entries)) ≡ false
         unfolding fine allOk
@@ -111,14 +108,13 @@ module _ (j : List ℕ) (at : ℕ) (p : Judged j at) where
         pub judged-bad : not x ≡ true → false ≡ journalOk j
         unfolding journalOk
         judged-bad h =
-            let bad : fine (scan (take (at + (n + 1)) j)) ≡ false = ap fine next-reads ∙ spoilt (not-true x h) in
+            let bad : fine (scan (take (at + (n + 1)) j)) ≡ false = ap fine (next .reads) ∙ spoilt (not-true x h) in
             bad-scan (scan j) (ap fine whole-scan ∙ bad-from (scan (take (at + (n + 1)) j)) (drop (at + (n + 1)) j) bad)
 
         pub judged-next : not x ≡ false → Judged j (at + (n + 1))
         unfolding allOk
         judged-next h = record {
           entries = entryAt j at n ∷ p .entries;
-          fits = omega arith;
-          reads = next-reads;
+          place = next;
           good = sym (if-b _ _ (sym value ∙ not-false x h) (sym (p .good)));
         }

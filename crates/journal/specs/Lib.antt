@@ -1,3 +1,5 @@
 pub mod Bytes
 pub mod Read
 pub mod Add
+pub mod Laws
+pub mod Ends

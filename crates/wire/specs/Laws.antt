@@ -1,13 +1,14 @@
 -- Laws of bytes on the wire that other crates build on. Assumes nothing.
 use Prim.Native.Nat.{ℕ, zero, suc, _+_, _*_, _/_, _%_, _^_, _<_, _≤_}
-use mathlib.Core.Bool.{Bool, true, false, cond}
-use mathlib.Core.Path.{_≡_, refl, sym, ap, _∙_}
+use mathlib.Core.Bool.{Bool, true, false, cond, false≢true}
+use mathlib.Core.Path.{_≡_, refl, sym, ap, ap₂, _∙_}
 use mathlib.Core.List.{List, [], _∷_, _++_, append-assoc, append-nil}
 use native.Mathlib.Numerals.{add-one}
 use native.Mathlib.Nat.{add-zero, zero-add, add-suc, suc-add, pow-suc, div-add-mod', div-lt-iff-lt-mul, mod-lt, not-suc-le-zero, le-of-suc-le-suc}
 use native.Mathlib.Omega.{arith}
 use lib.Arith.{digits-div, digits-mod}
-use lib.Dec.{lit<}
+use borrow.Author.Tests.{eqb-true}
+use lib.Dec.{lit<, eqb}
 use lib.ListN.{length, take, drop, replicate, length-append, length-take, length-drop, take-append-drop, length-replicate}
 use lib.Seq.{length-take-le, take-at, drop-at, drop-drop, take-all, take-append-seam, drop-append-add}
 use Rattle.wire.specs.Cases.{if-eq}
@@ -19,6 +20,16 @@ use Rattle.wire.specs.Wire.{beOnto, beNat, toBE, pasted, allAre}
 abbrev pub Bytes : List ℕ → Type 0
 Bytes [] = Unit {0}
 Bytes (b ∷ bs) = (b < 256) × Bytes bs
+
+pub bytes-take : (n : ℕ) (bs : List ℕ) → Bytes bs → Bytes (take n bs)
+bytes-take zero bs h = tt
+bytes-take (suc n) [] h = tt
+bytes-take (suc n) (b ∷ bs) h = (h .0, bytes-take n bs (h .1))
+
+pub bytes-drop : (n : ℕ) (bs : List ℕ) → Bytes bs → Bytes (drop n bs)
+bytes-drop zero bs h = h
+bytes-drop (suc n) [] h = tt
+bytes-drop (suc n) (b ∷ bs) h = bytes-drop n bs (h .1)
 
 pub onto-append : (n : ℕ) (xs ys : List ℕ) → beOnto n (xs ++ ys) ≡ beOnto (beOnto n xs) ys
 unfolding beOnto
@@ -82,9 +93,48 @@ paste-next at xs bs d e =
     ap (λ (n : ℕ). take n (xs ++ drop (0 + length xs) d) ++ (bs ++ drop (n + length bs) (xs ++ drop (0 + length xs) d))) e
     ∙ rw (take-append-seam xs (drop (0 + length xs) d), drop-append-add xs (drop (0 + length xs) d) (length bs), zero-add, drop-drop, zero-add, length-append, append-assoc)
 
+-- bytes written over as many
+pub paste-over : (at : ℕ) (xs ys d : List ℕ) → length ys ≡ length xs → at + length xs ≤ length d → pasted at ys (pasted at xs d) ≡ pasted at ys d
+unfolding pasted
+paste-over at xs ys d e h = ap₂ (λ (a b : List ℕ). a ++ (ys ++ b)) front back
+  where
+    front : take at (pasted at xs d) ≡ take at d
+    front = take-at (take at d) (xs ++ drop (at + length xs) d) at (length-take-le at d (omega arith))
+
+    back : drop (at + length ys) (pasted at xs d) ≡ drop (at + length ys) d
+    back = ap (λ (n : ℕ). drop (at + n) (pasted at xs d)) e ∙ drop-pasted at xs d h ∙ ap (λ (n : ℕ). drop (at + n) d) (sym e)
+
 -- ---- zeros
 
 pub all-replicate : (v n : ℕ) → allAre v (replicate n v) ≡ true
 unfolding allAre
 all-replicate v zero = refl
 all-replicate v (suc n) = sym (if-eq (allAre v (replicate n v)) false {m = v} {n = v} refl (sym (all-replicate v n)))
+
+-- a list that begins with v
+all-cons : (v b : ℕ) (bs : List ℕ) → allAre v (b ∷ bs) ≡ true → (b ≡ v) × (allAre v bs ≡ true)
+unfolding allAre
+all-cons v b bs h = go (eqb b v) refl h
+  where
+    go : (t : Bool) → eqb b v ≡ t → cond t (allAre v bs) false ≡ true → (b ≡ v) × (allAre v bs ≡ true)
+    go true e h = (eqb-true b v e, h)
+    go false e h = absurd (false≢true h)
+
+pub take-all-are : (v n : ℕ) (bs : List ℕ) → allAre v bs ≡ true → n ≤ length bs → take n bs ≡ replicate n v
+take-all-are v zero bs h l = refl
+take-all-are v (suc n) [] h l = absurd (not-suc-le-zero l)
+take-all-are v (suc n) (b ∷ bs) h l =
+    let p = all-cons v b bs h in ap₂ (λ (x : ℕ) (t : List ℕ). x ∷ t) (p .0) (take-all-are v n bs (p .1) (le-of-suc-le-suc l))
+
+pub all-drop : (v n : ℕ) (bs : List ℕ) → allAre v bs ≡ true → allAre v (drop n bs) ≡ true
+unfolding allAre
+all-drop v zero bs h = h
+all-drop v (suc n) [] h = refl
+all-drop v (suc n) (b ∷ bs) h = all-drop v n bs (all-cons v b bs h .1)
+
+-- zeros written over zeros
+pub paste-same : (at v n : ℕ) (d : List ℕ) → allAre v (drop at d) ≡ true → at + n ≤ length d → pasted at (replicate n v) d ≡ d
+unfolding pasted
+paste-same at v n d h l =
+    let k : n ≤ length (drop at d) = simp length-drop (omega arith) in
+    rw (length-replicate, ← take-all-are v n (drop at d) h k, ← drop-drop n at d, take-append-drop, take-append-drop)

@@ -4,11 +4,11 @@ ghost use Prim.Native.Nat.{_+_, _%_, _^_, _≤_, _<_};
 ghost use lib.ListN.{length, take, drop, replicate};
 ghost use Rattle.wire.specs.Wire.{packetSum, beNat, toBE, pasted, allAre};
 
-// A byte as a wider number: the cast is proved here, once a width.
-fn wide16(x: u8) -> u16
-    ensures { λ r. ⌜ r ≡ x ⌝ }
+// One byte more in a two-byte sum that wraps.
+fn plus(acc: u16, b: u8) -> u16
+    ensures { λ r. ⌜ r ≡ (acc + b) % 65536 ⌝ }
 {
-    x as u16
+    std::num::wrapping_add_u16(acc, b as u16)
 }
 
 fn wide64(x: u8) -> u64
@@ -30,7 +30,7 @@ pub fn sum(s: &[u8]) -> u16
     let mut acc: u16 = 0;
     let mut i = 0;
     while i < s.len() {
-        acc = std::num::wrapping_add_u16(acc, wide16(s[i]));
+        acc = plus(acc, s[i]);
         i += 1;
     }
     acc

@@ -1,6 +1,6 @@
 -- `entries::body_len` meets its contract: the table is the document's, and past it there is no kind. Assumes nothing.
-use borrow.Author.Needs.{needs}
 use mathlib.Core.Path.{refl}
+use borrow.Author.Needs.{needs}
 use Rattle.entries.specs.Entries.{bodyLen}
 use Rattle.entries.proofs.Turns.{no-such-kind}
 use Rattle.entries.proofs.body_len.Statement.{statement}

@@ -38,7 +38,8 @@ pair-ok-requires : tie.Need-pair-ok-requires Inv-loop μ-loop
 pair-ok-requires c κs = search needs
 
 returns : tie.Need-returns Inv-loop μ-loop
-returns c = let p = c .before .before .before .before .before in
+returns c =
+    let p = c .before .before .before .before .before in
     pairs-bad (p .loop .i) (p .loop .left) _ (c .before .before .before .before .loop-test .taken) (sym (ap not (c .before .pair-ok .ensures)) ∙ c .if1 .taken) ∙ p .loop .inv .1
 
 add-i : tie.Need-add-i Inv-loop μ-loop
@@ -48,7 +49,8 @@ loop-less : tie.Need-loop-less Inv-loop μ-loop
 loop-less c = search needs
 
 loop-again : tie.Need-loop-again Inv-loop μ-loop
-loop-again c = let p = c .before .before .before .before .before in
+loop-again c =
+    let p = c .before .before .before .before .before in
     (p .loop .inv .0, pairs-more (p .loop .i) (p .loop .left) _ (c .before .before .before .before .loop-test .taken) (sym (ap not (c .before .pair-ok .ensures)) ∙ c .if1 .left) ∙ p .loop .inv .1)
 
 returns-2 : tie.Need-returns-2 Inv-loop μ-loop

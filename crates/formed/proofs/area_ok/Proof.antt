@@ -1,7 +1,7 @@
 -- The definition goes by the tests that the code makes, in the order of D7 04.
-use mathlib.Core.Path.{refl, sym, ap, _∙_}
-use mathlib.Core.Bool.{not}
-use Rattle.wire.specs.Cases.{else-b, else-eq, if-b, if-eq}
+use mathlib.Core.Path.{refl}
+use Rattle.formed.proofs.Calls.{if-not, else-not}
+use Rattle.wire.specs.Cases.{else-eq, if-eq}
 use Rattle.formed.specs.Formed.{areaOk}
 use borrow.Author.Needs.{needs}
 use Rattle.formed.proofs.area_ok.Statement.{statement}
@@ -16,14 +16,17 @@ aligned-requires c κs = search needs
 
 returns-2 : tie.Need-returns-2
 unfolding areaOk
-returns-2 c = else-eq _ _ (c .before .before .if1 .left) (if-b _ _ (sym (ap not (c .before .aligned .ensures)) ∙ c .if2 .taken) refl)
+returns-2 c = else-eq _ _ (c .before .before .if1 .left) (if-not _ _ (c .before .aligned .ensures) (c .if2 .taken) refl)
 
 in-memory-requires : tie.Need-in-memory-requires
 in-memory-requires c κs = search needs
 
 returns-3 : tie.Need-returns-3
 unfolding areaOk
-returns-3 c = else-eq _ _ (c .before .before .before .before .if1 .left) (else-b _ _ (sym (ap not (c .before .before .before .aligned .ensures)) ∙ c .before .before .if2 .left) (if-b _ _ (sym (ap not (c .before .in-memory .ensures)) ∙ c .if3 .taken) refl))
+returns-3 c =
+    else-eq _ _ (c .before .before .before .before .if1 .left)
+    (else-not _ _ (c .before .before .before .aligned .ensures) (c .before .before .if2 .left)
+    (if-not _ _ (c .before .in-memory .ensures) (c .if3 .taken) refl))
 
 cast-aligned : tie.Need-cast-aligned
 cast-aligned c = search needs
@@ -33,7 +36,11 @@ aligned-requires-2 c κs = search needs
 
 returns-4 : tie.Need-returns-4
 unfolding areaOk
-returns-4 c = else-eq _ _ (c .before .before .before .before .before .if1 .left) (else-b _ _ (sym (ap not (c .before .before .before .before .aligned .ensures)) ∙ c .before .before .before .if2 .left) (else-b _ _ (sym (ap not (c .before .before .in-memory .ensures)) ∙ c .before .if3 .left) (c .aligned2 .ensures)))
+returns-4 c =
+    else-eq _ _ (c .before .before .before .before .before .if1 .left)
+    (else-not _ _ (c .before .before .before .before .aligned .ensures) (c .before .before .before .if2 .left)
+    (else-not _ _ (c .before .before .in-memory .ensures) (c .before .if3 .left)
+    (c .aligned2 .ensures)))
 
 pub area-ok-spec : {M : Type 1} → statement M
 area-ok-spec =

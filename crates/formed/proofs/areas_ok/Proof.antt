@@ -1,7 +1,6 @@
 -- The definition asks of one area after the other, as the code does.
-use mathlib.Core.Path.{refl, sym, ap, _∙_}
-use mathlib.Core.Bool.{not}
-use Rattle.wire.specs.Cases.{else-b, if-b}
+use mathlib.Core.Path.{refl}
+use Rattle.formed.proofs.Calls.{if-not, else-not}
 use Rattle.formed.specs.Formed.{areasOk}
 use borrow.Author.Needs.{needs}
 use Rattle.formed.proofs.areas_ok.Statement.{statement}
@@ -12,14 +11,14 @@ area-ok-requires c κs = search needs
 
 returns : tie.Need-returns
 unfolding areasOk
-returns c = if-b _ _ (sym (ap not (c .before .area-ok .ensures)) ∙ c .if1 .taken) refl
+returns c = if-not _ _ (c .before .area-ok .ensures) (c .if1 .taken) refl
 
 area-ok-requires-2 : tie.Need-area-ok-requires-2
 area-ok-requires-2 c κs = search needs
 
 returns-2 : tie.Need-returns-2
 unfolding areasOk
-returns-2 c = else-b _ _ (sym (ap not (c .before .before .area-ok .ensures)) ∙ c .before .if1 .left) (c .area-ok2 .ensures)
+returns-2 c = else-not _ _ (c .before .before .area-ok .ensures) (c .before .if1 .left) (c .area-ok2 .ensures)
 
 pub areas-ok-spec : {M : Type 1} → statement M
 areas-ok-spec = tie.close (tie.spec area-ok-requires returns area-ok-requires-2 returns-2)

@@ -1,7 +1,6 @@
 -- The definition asks the fields' rules in the order in which the code calls them.
-use mathlib.Core.Path.{refl, sym, ap, _∙_}
-use mathlib.Core.Bool.{not}
-use Rattle.wire.specs.Cases.{else-b, if-b}
+use mathlib.Core.Path.{refl}
+use Rattle.formed.proofs.Calls.{if-not, else-not}
 use Rattle.formed.specs.Formed.{fieldsOk}
 use borrow.Author.Needs.{needs}
 use Rattle.formed.proofs.fields_ok.Statement.{statement}
@@ -12,42 +11,62 @@ state-ok-requires c κs = search needs
 
 returns : tie.Need-returns
 unfolding fieldsOk
-returns c = if-b _ _ (sym (ap not (c .before .state-ok .ensures)) ∙ c .if1 .taken) refl
+returns c = if-not _ _ (c .before .state-ok .ensures) (c .if1 .taken) refl
 
 role-ok-requires : tie.Need-role-ok-requires
 role-ok-requires c κs = search needs
 
 returns-2 : tie.Need-returns-2
 unfolding fieldsOk
-returns-2 c = else-b _ _ (sym (ap not (c .before .before .before .state-ok .ensures)) ∙ c .before .before .if1 .left) (if-b _ _ (sym (ap not (c .before .role-ok .ensures)) ∙ c .if2 .taken) refl)
+returns-2 c =
+    else-not _ _ (c .before .before .before .state-ok .ensures) (c .before .before .if1 .left)
+    (if-not _ _ (c .before .role-ok .ensures) (c .if2 .taken) refl)
 
 caps-ok-requires : tie.Need-caps-ok-requires
 caps-ok-requires c κs = search needs
 
 returns-3 : tie.Need-returns-3
 unfolding fieldsOk
-returns-3 c = else-b _ _ (sym (ap not (c .before .before .before .before .before .state-ok .ensures)) ∙ c .before .before .before .before .if1 .left) (else-b _ _ (sym (ap not (c .before .before .before .role-ok .ensures)) ∙ c .before .before .if2 .left) (if-b _ _ (sym (ap not (c .before .caps-ok .ensures)) ∙ c .if3 .taken) refl))
+returns-3 c =
+    else-not _ _ (c .before .before .before .before .before .state-ok .ensures) (c .before .before .before .before .if1 .left)
+    (else-not _ _ (c .before .before .before .role-ok .ensures) (c .before .before .if2 .left)
+    (if-not _ _ (c .before .caps-ok .ensures) (c .if3 .taken) refl))
 
 deadman-ok-requires : tie.Need-deadman-ok-requires
 deadman-ok-requires c κs = search needs
 
 returns-4 : tie.Need-returns-4
 unfolding fieldsOk
-returns-4 c = else-b _ _ (sym (ap not (c .before .before .before .before .before .before .before .state-ok .ensures)) ∙ c .before .before .before .before .before .before .if1 .left) (else-b _ _ (sym (ap not (c .before .before .before .before .before .role-ok .ensures)) ∙ c .before .before .before .before .if2 .left) (else-b _ _ (sym (ap not (c .before .before .before .caps-ok .ensures)) ∙ c .before .before .if3 .left) (if-b _ _ (sym (ap not (c .before .deadman-ok .ensures)) ∙ c .if4 .taken) refl)))
+returns-4 c =
+    else-not _ _ (c .before .before .before .before .before .before .before .state-ok .ensures) (c .before .before .before .before .before .before .if1 .left)
+    (else-not _ _ (c .before .before .before .before .before .role-ok .ensures) (c .before .before .before .before .if2 .left)
+    (else-not _ _ (c .before .before .before .caps-ok .ensures) (c .before .before .if3 .left)
+    (if-not _ _ (c .before .deadman-ok .ensures) (c .if4 .taken) refl)))
 
 throttles-ok-requires : tie.Need-throttles-ok-requires
 throttles-ok-requires c κs = search needs
 
 returns-5 : tie.Need-returns-5
 unfolding fieldsOk
-returns-5 c = else-b _ _ (sym (ap not (c .before .before .before .before .before .before .before .before .before .state-ok .ensures)) ∙ c .before .before .before .before .before .before .before .before .if1 .left) (else-b _ _ (sym (ap not (c .before .before .before .before .before .before .before .role-ok .ensures)) ∙ c .before .before .before .before .before .before .if2 .left) (else-b _ _ (sym (ap not (c .before .before .before .before .before .caps-ok .ensures)) ∙ c .before .before .before .before .if3 .left) (else-b _ _ (sym (ap not (c .before .before .before .deadman-ok .ensures)) ∙ c .before .before .if4 .left) (if-b _ _ (sym (ap not (c .before .throttles-ok .ensures)) ∙ c .if5 .taken) refl))))
+returns-5 c =
+    else-not _ _ (c .before .before .before .before .before .before .before .before .before .state-ok .ensures) (c .before .before .before .before .before .before .before .before .if1 .left)
+    (else-not _ _ (c .before .before .before .before .before .before .before .role-ok .ensures) (c .before .before .before .before .before .before .if2 .left)
+    (else-not _ _ (c .before .before .before .before .before .caps-ok .ensures) (c .before .before .before .before .if3 .left)
+    (else-not _ _ (c .before .before .before .deadman-ok .ensures) (c .before .before .if4 .left)
+    (if-not _ _ (c .before .throttles-ok .ensures) (c .if5 .taken) refl))))
 
 areas-ok-requires : tie.Need-areas-ok-requires
 areas-ok-requires c κs = search needs
 
 returns-6 : tie.Need-returns-6
 unfolding fieldsOk
-returns-6 c = else-b _ _ (sym (ap not (c .before .before .before .before .before .before .before .before .before .before .state-ok .ensures)) ∙ c .before .before .before .before .before .before .before .before .before .if1 .left) (else-b _ _ (sym (ap not (c .before .before .before .before .before .before .before .before .role-ok .ensures)) ∙ c .before .before .before .before .before .before .before .if2 .left) (else-b _ _ (sym (ap not (c .before .before .before .before .before .before .caps-ok .ensures)) ∙ c .before .before .before .before .before .if3 .left) (else-b _ _ (sym (ap not (c .before .before .before .before .deadman-ok .ensures)) ∙ c .before .before .before .if4 .left) (else-b _ _ (sym (ap not (c .before .before .throttles-ok .ensures)) ∙ c .before .if5 .left) (c .areas-ok .ensures)))))
+returns-6 c =
+    else-not _ _ (c .before .before .before .before .before .before .before .before .before .before .state-ok .ensures) (c .before .before .before .before .before .before .before .before .before .if1 .left)
+    (else-not _ _ (c .before .before .before .before .before .before .before .before .role-ok .ensures) (c .before .before .before .before .before .before .before .if2 .left)
+    (else-not _ _ (c .before .before .before .before .before .before .caps-ok .ensures) (c .before .before .before .before .before .if3 .left)
+    (else-not _ _ (c .before .before .before .before .deadman-ok .ensures) (c .before .before .before .if4 .left)
+    (else-not _ _ (c .before .before .throttles-ok .ensures) (c .before .if5 .left)
+    (c .areas-ok .ensures)))))
 
 pub fields-ok-spec : {M : Type 1} → statement M
 fields-ok-spec =

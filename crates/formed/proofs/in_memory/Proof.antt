@@ -11,8 +11,10 @@ use Rattle.formed.proofs.in_memory.Tie as tie
 
 returns : tie.Need-returns
 unfolding inMemory
-returns c = let a = c .before .args .address in
-    sym (le-leb (a + c .before .args .size) (2 ^ 64) (omega arith))
+returns c =
+    let a = c .before .args .address in
+    let s = c .before .args .size in
+    sym (le-leb (a + s) (2 ^ 64) (omega arith))
 
 sub-result : tie.Need-sub-result
 sub-result c = search needs
@@ -25,7 +27,8 @@ sub-result-2 c = search needs
 
 returns-2 : tie.Need-returns-2
 unfolding inMemory
-returns-2 c = let a = c .before .args .address in
+returns-2 c =
+    let a = c .before .args .address in
     let s = c .before .args .size in
     same-le (s - 1) (0xFFFFFFFFFFFFFFFF - a) (a + s) (2 ^ 64) (omega arith) (omega arith)
 

@@ -30,14 +30,16 @@ unused-from-requires : tie.Need-unused-from-requires Inv-loop μ-loop
 unused-from-requires c κs = search needs
 
 returns : tie.Need-returns Inv-loop μ-loop
-returns c = let p = c .before .before .before .before .before in
+returns c =
+    let p = c .before .before .before .before .before in
     c .unused-from .ensures ∙ logs-rest _ _ (p .loop .low) (p .loop .i) (omega arith) (c .before .if1 .taken) ∙ p .loop .inv .1
 
 log-ok-requires : tie.Need-log-ok-requires Inv-loop μ-loop
 log-ok-requires c κs = search needs
 
 returns-2 : tie.Need-returns-2 Inv-loop μ-loop
-returns-2 c = let p = c .before .before .before .before .before .before in
+returns-2 c =
+    let p = c .before .before .before .before .before .before in
     logs-bad _ _ (p .loop .low) (p .loop .i) (omega arith) (c .before .before .if1 .left) (sym (ap not (c .before .log-ok .ensures)) ∙ c .if2 .taken) ∙ p .loop .inv .1
 
 add-i : tie.Need-add-i Inv-loop μ-loop
@@ -47,7 +49,8 @@ loop-less : tie.Need-loop-less Inv-loop μ-loop
 loop-less c = search needs
 
 loop-again : tie.Need-loop-again Inv-loop μ-loop
-loop-again c = let p = c .before .before .before .before .before .before in
+loop-again c =
+    let p = c .before .before .before .before .before .before in
     (p .loop .inv .0, logs-more _ _ (p .loop .low) (p .loop .i) (omega arith) (c .before .before .if1 .left) (sym (ap not (c .before .log-ok .ensures)) ∙ c .if2 .left) ∙ p .loop .inv .1)
 
 returns-3 : tie.Need-returns-3 Inv-loop μ-loop

@@ -1,7 +1,7 @@
 -- The definition goes by the tests that the code makes, the flag first.
-use mathlib.Core.Path.{refl, sym, ap, _∙_}
-use mathlib.Core.Bool.{not}
-use Rattle.wire.specs.Cases.{else-b, else-eq, if-b, if-eq}
+use mathlib.Core.Path.{refl}
+use Rattle.formed.proofs.Calls.{if-not, else-not}
+use Rattle.wire.specs.Cases.{else-eq, if-eq}
 use Rattle.formed.specs.Formed.{roleOk}
 use borrow.Author.Needs.{needs}
 use Rattle.formed.proofs.role_ok.Statement.{statement}
@@ -12,15 +12,15 @@ flag-ok-requires c κs = search needs
 
 returns : tie.Need-returns
 unfolding roleOk
-returns c = if-b _ _ (sym (ap not (c .before .flag-ok .ensures)) ∙ c .if1 .taken) refl
+returns c = if-not _ _ (c .before .flag-ok .ensures) (c .if1 .taken) refl
 
 returns-2 : tie.Need-returns-2
 unfolding roleOk
-returns-2 c = else-b _ _ (sym (ap not (c .before .before .flag-ok .ensures)) ∙ c .before .if1 .left) (if-eq _ _ (c .if2 .taken) refl)
+returns-2 c = else-not _ _ (c .before .before .flag-ok .ensures) (c .before .if1 .left) (if-eq _ _ (c .if2 .taken) refl)
 
 returns-3 : tie.Need-returns-3
 unfolding roleOk
-returns-3 c = else-b _ _ (sym (ap not (c .before .before .flag-ok .ensures)) ∙ c .before .if1 .left) (else-eq _ _ (c .if2 .left) refl)
+returns-3 c = else-not _ _ (c .before .before .flag-ok .ensures) (c .before .if1 .left) (else-eq _ _ (c .if2 .left) refl)
 
 pub role-ok-spec : {M : Type 1} → statement M
 role-ok-spec = tie.close (tie.spec flag-ok-requires returns returns-2 returns-3)

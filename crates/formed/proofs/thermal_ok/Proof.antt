@@ -1,7 +1,7 @@
 -- The definition goes by the tests that the code makes, the flag first.
-use mathlib.Core.Path.{refl, sym, ap, _∙_}
-use mathlib.Core.Bool.{not}
-use Rattle.wire.specs.Cases.{else-b, else-ne, if-b, if-ne}
+use mathlib.Core.Path.{refl}
+use Rattle.formed.proofs.Calls.{if-not, else-not}
+use Rattle.wire.specs.Cases.{else-ne, if-ne}
 use Rattle.formed.specs.Formed.{thermalOk}
 use borrow.Author.Needs.{needs}
 use Rattle.formed.proofs.thermal_ok.Statement.{statement}
@@ -12,14 +12,17 @@ flag-ok-requires c κs = search needs
 
 returns : tie.Need-returns
 unfolding thermalOk
-returns c = if-b _ _ (sym (ap not (c .before .flag-ok .ensures)) ∙ c .if1 .taken) refl
+returns c = if-not _ _ (c .before .flag-ok .ensures) (c .if1 .taken) refl
 
 thermal-rule-requires : tie.Need-thermal-rule-requires
 thermal-rule-requires c κs = search needs
 
 returns-2 : tie.Need-returns-2
 unfolding thermalOk
-returns-2 c = else-b _ _ (sym (ap not (c .before .before .before .flag-ok .ensures)) ∙ c .before .before .if1 .left) (if-ne _ _ (c .before .if2 .taken) (c .thermal-rule .ensures))
+returns-2 c =
+    else-not _ _ (c .before .before .before .flag-ok .ensures) (c .before .before .if1 .left)
+    (if-ne _ _ (c .before .if2 .taken)
+    (c .thermal-rule .ensures))
 
 slice-aggregate-all-are : tie.Need-slice-aggregate-all-are
 slice-aggregate-all-are c = search needs
@@ -29,7 +32,10 @@ all-are-requires c κs = search needs
 
 returns-3 : tie.Need-returns-3
 unfolding thermalOk
-returns-3 c = else-b _ _ (sym (ap not (c .before .before .before .before .flag-ok .ensures)) ∙ c .before .before .before .if1 .left) (else-ne _ _ (c .before .before .if2 .left) (c .all-are .ensures))
+returns-3 c =
+    else-not _ _ (c .before .before .before .before .flag-ok .ensures) (c .before .before .before .if1 .left)
+    (else-ne _ _ (c .before .before .if2 .left)
+    (c .all-are .ensures))
 
 pub thermal-ok-spec : {M : Type 1} → statement M
 thermal-ok-spec =

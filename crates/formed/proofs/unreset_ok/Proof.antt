@@ -1,7 +1,6 @@
 -- The definition goes by the tests that the code makes.
-use mathlib.Core.Path.{refl, sym, ap, _∙_}
-use mathlib.Core.Bool.{not}
-use Rattle.wire.specs.Cases.{else-b, if-b}
+use mathlib.Core.Path.{refl}
+use Rattle.formed.proofs.Calls.{if-not, else-not}
 use Rattle.formed.specs.Formed.{unresetOk}
 use borrow.Author.Needs.{needs}
 use Rattle.formed.proofs.unreset_ok.Statement.{statement}
@@ -12,14 +11,14 @@ state-ok-requires c κs = search needs
 
 returns : tie.Need-returns
 unfolding unresetOk
-returns c = if-b _ _ (sym (ap not (c .before .state-ok .ensures)) ∙ c .if1 .taken) refl
+returns c = if-not _ _ (c .before .state-ok .ensures) (c .if1 .taken) refl
 
 flag-ok-requires : tie.Need-flag-ok-requires
 flag-ok-requires c κs = search needs
 
 returns-2 : tie.Need-returns-2
 unfolding unresetOk
-returns-2 c = else-b _ _ (sym (ap not (c .before .before .state-ok .ensures)) ∙ c .before .if1 .left) (c .flag-ok .ensures)
+returns-2 c = else-not _ _ (c .before .before .state-ok .ensures) (c .before .if1 .left) (c .flag-ok .ensures)
 
 pub unreset-ok-spec : {M : Type 1} → statement M
 unreset-ok-spec = tie.close (tie.spec state-ok-requires returns flag-ok-requires returns-2)

@@ -25,11 +25,13 @@ array-copy-out-log : tie.Need-array-copy-out-log Inv-loop μ-loop
 array-copy-out-log c = search needs
 
 returns : tie.Need-returns Inv-loop μ-loop
-returns c = let p = c .before .before .before .before in
+returns c =
+    let p = c .before .before .before .before in
     unused-id _ (p .loop .i) (omega arith) (c .if1 .taken) ∙ p .loop .inv .1
 
 returns-2 : tie.Need-returns-2 Inv-loop μ-loop
-returns-2 c = let p = c .before .before .before .before .before .before in
+returns-2 c =
+    let p = c .before .before .before .before .before .before in
     unused-reason _ (p .loop .i) (omega arith) (c .before .before .if1 .left) (c .if2 .taken) ∙ p .loop .inv .1
 
 add-i : tie.Need-add-i Inv-loop μ-loop
@@ -39,7 +41,8 @@ loop-less : tie.Need-loop-less Inv-loop μ-loop
 loop-less c = search needs
 
 loop-again : tie.Need-loop-again Inv-loop μ-loop
-loop-again c = let p = c .before .before .before .before .before .before in
+loop-again c =
+    let p = c .before .before .before .before .before .before in
     (p .loop .inv .0, unused-more _ (p .loop .i) (omega arith) (c .before .before .if1 .left) (c .if2 .left) ∙ p .loop .inv .1)
 
 returns-3 : tie.Need-returns-3 Inv-loop μ-loop

@@ -21,13 +21,13 @@ body-len-requires : tie.Need-body-len-requires Inv-loop μ-loop
 body-len-requires c κs = search needs
 
 returns : tie.Need-returns Inv-loop μ-loop
-returns c = judged-unknown _ (c .before .before .before .before .loop .at) (c .before .before .before .before .loop .inv) _ (c .before .body-len .ensures) (c .before .before .before .loop-test .taken) (c .if1 .taken)
+returns c = judged-unknown (c .before .before .before .before .loop .inv) (c .before .body-len .ensures) (c .before .before .before .loop-test .taken) (c .if1 .taken)
 
 sub-if2 : tie.Need-sub-if2 Inv-loop μ-loop
 sub-if2 c = search needs
 
 returns-2 : tie.Need-returns-2 Inv-loop μ-loop
-returns-2 c = judged-cut _ (c .before .before .before .before .before .loop .at) (c .before .before .before .before .before .loop .inv) _ (c .before .before .body-len .ensures) (c .before .before .before .before .loop-test .taken) (c .before .if1 .left) (c .if2 .taken)
+returns-2 c = judged-cut (c .before .before .before .before .before .loop .inv) (c .before .before .body-len .ensures) (c .before .before .before .before .loop-test .taken) (c .before .if1 .left) (c .if2 .taken)
 
 add-end : tie.Need-add-end Inv-loop μ-loop
 add-end c = search needs
@@ -48,16 +48,16 @@ entry-ok-requires : tie.Need-entry-ok-requires Inv-loop μ-loop
 entry-ok-requires c κs = search needs
 
 returns-3 : tie.Need-returns-3 Inv-loop μ-loop
-returns-3 c = judged-bad _ (c .before .before .before .before .before .before .before .before .loop .at) (c .before .before .before .before .before .before .before .before .loop .inv) _ (c .before .before .before .before .before .body-len .ensures) (c .before .before .before .before .before .before .before .loop-test .taken) (c .before .before .before .before .if1 .left) (c .before .before .before .if2 .left) _ (c .before .entry-ok .ensures) (c .if3 .taken)
+returns-3 c = judged-bad (c .before .before .before .before .before .before .before .before .loop .inv) (c .before .before .before .before .before .body-len .ensures) (c .before .before .before .before .before .before .before .loop-test .taken) (c .before .before .before .before .if1 .left) (c .before .before .before .if2 .left) (c .before .entry-ok .ensures) (c .if3 .taken)
 
 loop-less : tie.Need-loop-less Inv-loop μ-loop
 loop-less c = search needs
 
 loop-again : tie.Need-loop-again Inv-loop μ-loop
-loop-again c = judged-next _ (c .before .before .before .before .before .before .before .before .loop .at) (c .before .before .before .before .before .before .before .before .loop .inv) _ (c .before .before .before .before .before .body-len .ensures) (c .before .before .before .before .before .before .before .loop-test .taken) (c .before .before .before .before .if1 .left) (c .before .before .before .if2 .left) _ (c .before .entry-ok .ensures) (c .if3 .left)
+loop-again c = judged-next (c .before .before .before .before .before .before .before .before .loop .inv) (c .before .before .before .before .before .body-len .ensures) (c .before .before .before .before .before .before .before .loop-test .taken) (c .before .before .before .before .if1 .left) (c .before .before .before .if2 .left) (c .before .entry-ok .ensures) (c .if3 .left)
 
 returns-4 : tie.Need-returns-4 Inv-loop μ-loop
-returns-4 c = judged-end _ (c .before .loop .at) (c .before .loop .inv) (c .loop-test .left)
+returns-4 c = judged-end (c .before .loop .inv) (c .loop-test .left)
 
 pub all-ok-spec : {M : Type 1} → statement M
 all-ok-spec =

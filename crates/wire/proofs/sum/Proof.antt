@@ -1,15 +1,12 @@
 use Rattle.wire.specs.Wire.{packetSum}
 use Rattle.wire.proofs.Loops.{sum-none, sum-more, sum-all}
-use mathlib.Core.Path.{_≡_, refl, sym, ap, subst, _∙_}
+use mathlib.Core.Path.{_≡_, sym, _∙_}
 use native.Mathlib.Omega.{arith}
 use borrow.Author.Needs.{needs}
 use lib.ListN.{length, take}
-use Prim.Native.Nat.{ℕ, _≤_, _<_, _+_, _*_, _-_}
+use Prim.Native.Nat.{_≤_, _-_}
 use Rattle.wire.proofs.sum.Statement.{statement}
 use Rattle.wire.proofs.sum.Tie as tie
-use Rattle.wire.proofs.sum.Reads as reads
-use Rattle.wire.proofs.sum.Lts as lts
-use Rattle.wire.proofs.plus.Reads as plus-reads
 
 abbrev Inv-loop : tie.InvT-loop
 Inv-loop s acc₀ i₀ acc i = (i ≤ length s) × (acc ≡ packetSum (take i s))
@@ -17,32 +14,25 @@ Inv-loop s acc₀ i₀ acc i = (i ≤ length s) × (acc ≡ packetSum (take i s)
 abbrev μ-loop : tie.MeasureT-loop
 μ-loop s acc₀ i₀ acc i = length s - i
 
--- src/lib.rt:32:5
 loop-holds : tie.Need-loop-holds Inv-loop μ-loop
 loop-holds c = (search needs, sym sum-none)
 
--- src/lib.rt:33:25
 shared-slice-read-plus : tie.Need-shared-slice-read-plus Inv-loop μ-loop
 shared-slice-read-plus c = search needs
 
--- src/lib.rt:33:9
 plus-requires : tie.Need-plus-requires Inv-loop μ-loop
 plus-requires c κs = search needs
 
--- src/lib.rt:34:9
 add-i : tie.Need-add-i Inv-loop μ-loop
 add-i c = search needs
 
--- src/lib.rt:32:5
 loop-less : tie.Need-loop-less Inv-loop μ-loop
 loop-less c = search needs
 
--- src/lib.rt:32:5
 loop-again : tie.Need-loop-again Inv-loop μ-loop
 loop-again c = let p = c .before .before .before in
     (search needs, sum-more _ (p .loop .i) _ _ (p .loop .inv .1) (c .plus .ensures))
 
--- src/lib.rt:27:1
 returns : tie.Need-returns Inv-loop μ-loop
 returns c = c .before .loop .inv .1 ∙ sum-all (c .before .before .before .args .s .now) (c .before .loop .i) (omega arith)
 

@@ -357,7 +357,7 @@ fn last(logs: [Log; 4]) -> Log
 }
 
 // 1 where a reset with this log makes one.
-fn made_by(log: Log) -> u8
+pub fn made_by(log: Log) -> u8
     ensures { λ x. ⌜ x ≡ madeBy log ⌝ }
 {
     if log.id == 0 {

@@ -10,6 +10,7 @@ use lib.Dec.{leb}
 use lib.ListN.{length, getD, take, drop, replicate, length-take, length-drop, length-replicate, drop-of-length-le}
 use lib.Seq.{take-all, drop-drop, length-take-le}
 use Rattle.wire.specs.Wire.{pasted}
+use Rattle.wire.specs.Laws.{tail-part}
 use Rattle.change.specs.declared.Change.{Change}
 use Rattle.change.specs.declared.Edit.{Edit}
 use Rattle.change.specs.Change.{kindOf}
@@ -23,10 +24,6 @@ use Rattle.journal.specs.Read.{foundFor, tablesIn, valuesOk, gotOk}
 use Rattle.change.specs.declared.Tables.{Tables}
 
 -- ---- parts of lent bytes
-
--- the part from a place to the end
-pub tail-part : (j : List ℕ) (at : ℕ) → take (length j - at) (drop at j) ≡ drop at j
-tail-part j at = take-all (length j - at) (drop at j) (simp length-drop (omega arith))
 
 -- bytes written to the front of the part from a place to the end
 pub tail-pasted : (j x bs : List ℕ) (at : ℕ) → x ≡ pasted 0 bs (take (length j - at) (drop at j)) → take at j ++ (x ++ drop (length j - at) (drop at j)) ≡ pasted at bs j

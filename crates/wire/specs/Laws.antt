@@ -1,5 +1,5 @@
 -- Laws of bytes on the wire that other crates build on. Assumes nothing.
-use Prim.Native.Nat.{ℕ, zero, suc, _+_, _*_, _/_, _%_, _^_, _<_, _≤_}
+use Prim.Native.Nat.{ℕ, zero, suc, _+_, _-_, _*_, _/_, _%_, _^_, _<_, _≤_}
 use mathlib.Core.Bool.{Bool, true, false, cond, false≢true}
 use mathlib.Core.Path.{_≡_, refl, sym, ap, ap₂, _∙_}
 use mathlib.Core.List.{List, [], _∷_, _++_, append-assoc, append-nil}
@@ -66,6 +66,10 @@ toBE-onto k n (b ∷ bs) h =
 pub toBE-be : (bs : List ℕ) → Bytes bs → toBE (length bs) (beNat bs) ≡ bs
 unfolding beNat toBE
 toBE-be bs h = ap (λ (m : ℕ). toBE m (beOnto 0 bs)) (sym (zero-add (length bs))) ∙ toBE-onto 0 0 bs h
+
+-- the part of lent bytes from a place to their end
+pub tail-part : (j : List ℕ) (at : ℕ) → take (length j - at) (drop at j) ≡ drop at j
+tail-part j at = take-all (length j - at) (drop at j) (simp length-drop (omega arith))
 
 -- ---- bytes pasted into a buffer
 

@@ -1,0 +1,79 @@
+-- Document 01, "What the stand-in holds": the session, when it is well formed, and what carrying a change out makes of it.
+use Prim.Native.Nat.{ℕ, _+_}
+use mathlib.Core.Bool.{Bool, true, false, cond, not}
+use mathlib.Core.List.{List}
+use lib.ListN.{length, take, drop, replicate}
+use lib.Dec.{ltb, eqb}
+use Rattle.wire.specs.Wire.{allAre}
+use Rattle.record.specs.Record.{freshRecord, workedOf}
+use Rattle.record.specs.declared.Record.{Record}
+use Rattle.record.specs.declared.Worked.{Worked}
+use Rattle.change.specs.Change.{madeBy, putOf, inverseOf}
+use Rattle.change.specs.declared.Change.{Change}
+use Rattle.change.specs.declared.Change.the-variants.{Clear, Unclear, SetState, SetRole, SetCaps, SetUser, SetThermal, SetThrottles, Reset, Unreset, SetMask, SetDeadman, SetAreas}
+use Rattle.change.specs.declared.Edit.{Edit}
+use Rattle.formed.specs.Formed.{recordOk}
+use Rattle.journal.specs.Read.{journalOk}
+use Rattle.journal.specs.Add.{endOf, addedTo}
+use Rattle.journal.specs.declared.End.{End}
+use Rattle.journal.specs.declared.End.the-variants.{At, Full}
+use Rattle.session.specs.declared.Session.{Session}
+use Rattle.session.specs.declared.Carried.{Carried}
+
+-- "A session is one value: record, worked-out values, next log id, and a journal of 2,048 bytes, all zero when fresh, with its used length"
+unfoldable pub freshSession : Session
+freshSession = record { held = freshRecord; worked = workedOf freshRecord; next = 1; journal = replicate 2048 0; used = 0 }
+
+-- ---- "A session is well formed if"
+
+-- "worked-out values fit the record"
+unfoldable pub workedFits : Worked → Worked → Bool
+workedFits a b =
+    cond (not (eqb (a .limit) (b .limit))) false
+    (cond (not (eqb (a .observation) (b .observation))) false
+    (cond (not (eqb (a .active) (b .active))) false
+    (eqb (a .wanted) (b .wanted))))
+
+unfoldable pub heldOk : Record → Worked → ℕ → Bool
+heldOk held worked next = cond (not (recordOk held next)) false (workedFits (workedOf held) worked)
+
+-- "the used journal reads exactly as entries, each body's values ones that a well-formed record could hold; the unused part is zero"
+unfoldable pub storeOk : List ℕ → ℕ → Bool
+storeOk j used = cond (ltb (length j) used) false (cond (not (journalOk (take used j))) false (allAre 0 (drop used j)))
+
+unfoldable pub wellFormed : Session → Bool
+wellFormed s = cond (not (heldOk (s .held) (s .worked) (s .next))) false (storeOk (s .journal) (s .used))
+
+-- ---- carrying a change out
+
+-- the logs that a change makes; each draws the next id
+unfoldable pub madeOf : Change → ℕ
+madeOf (Clear place log) = 0
+madeOf (Unclear place log) = 0
+madeOf (SetState state) = 0
+madeOf (SetRole got role) = 0
+madeOf (SetCaps got caps) = 0
+madeOf (SetUser user) = 0
+madeOf (SetThermal got) = 0
+madeOf (SetThrottles got) = 0
+madeOf (Reset log) = madeBy log
+madeOf (Unreset state made) = 0
+madeOf (SetMask mask) = 0
+madeOf (SetDeadman deadman) = 0
+madeOf (SetAreas areas) = 0
+
+-- a session whose record is this one; its limit, readiness and wanted format are that record's
+unfoldable pub withHeld : Record → ℕ → List ℕ → ℕ → Session
+withHeld held next journal used = record { held = held; worked = workedOf held; next = next; journal = journal; used = used }
+
+-- "Each accepted command but poll adds one entry, holding what was before"; answer 5: the entry is longer than the unused journal
+unfoldable pub carriedTo : Session → Edit → End → Carried
+carriedTo s e Full = record { full = true; session = s }
+carriedTo s e (At used) =
+    record {
+      full = false;
+      session = withHeld (putOf (s .held) e .after) (s .next + madeOf (e .change)) (addedTo (s .used) (inverseOf (s .held) e) (s .journal)) used;
+    }
+
+unfoldable pub carriedOf : Session → Edit → Carried
+carriedOf s e = carriedTo s e (endOf (length (s .journal)) (s .used) (inverseOf (s .held) e))

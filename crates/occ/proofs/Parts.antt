@@ -1,0 +1,19 @@
+-- The part of the data that is lent to the set readers, and what a number chooses. Assumes nothing.
+use Prim.Native.Nat.{ℕ, _-_}
+use mathlib.Core.Path.{_≡_, sym, ap, _∙_}
+use mathlib.Core.List.{List}
+use native.Mathlib.Omega.{arith}
+use lib.ListN.{length, take, drop, length-take, length-drop}
+use lib.Seq.{take-all}
+
+-- what is read from the part that starts at a place is read from all that is left there
+pub of-rest : {A : Type 0} (f : List ℕ → A) (d : List ℕ) (at : ℕ) {x : A} → x ≡ f (take (length d - at) (drop at d)) → x ≡ f (drop at d)
+of-rest f d at e = e ∙ ap f (take-all (length d - at) (drop at d) (simp length-drop (omega arith)))
+
+-- and the part is as long as that
+pub length-rest : (d : List ℕ) (at : ℕ) → length (take (length d - at) (drop at d)) ≡ length d - at
+length-rest d at = simp (length-take, length-drop) (omega arith)
+
+-- chosen by a number that is known
+pub at-key : {A : Type 0} (f : ℕ → A) {m k : ℕ} {x : A} → m ≡ k → x ≡ f k → x ≡ f m
+at-key f e p = p ∙ sym (ap f e)

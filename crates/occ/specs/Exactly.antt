@@ -1,0 +1,309 @@
+-- Document 01, "OCC packets": each command is accepted exactly when its conditions hold. d is the data. Assumes nothing.
+use Prim.Native.Nat.{ℕ, zero, suc, _+_, _-_, _*_, _<_, _≤_}
+use mathlib.Core.Bool.{Bool, true, false, cond, not}
+use mathlib.Core.Path.{_≡_, refl}
+use mathlib.Core.List.{List, [], _∷_}
+use mathlib.Core.Logic.{_↔_, Iff·rfl, Iff·trans, _⊎_}
+use native.Mathlib.Nat.{not-suc-le-zero, le-of-suc-le-suc}
+use native.Mathlib.Omega.{arith}
+use borrow.Author.Tests.{eqb-true, eqb-false}
+use lib.Dec.{ltb, leb, eqb, lit<}
+use lib.ListN.{length, getD, take, drop}
+use Rattle.wire.specs.Wire.{beNat}
+use Rattle.record.specs.Record.{noLog}
+use Rattle.record.specs.declared.Log.{Log}
+use Rattle.record.specs.declared.Caps.{Caps}
+use Rattle.record.specs.declared.Record.{Record}
+use Rattle.record.specs.declared.Worked.{Worked}
+use Rattle.change.specs.Logs.{pendingOf, firstWith, findOf}
+use Rattle.change.specs.declared.Change.{Change}
+use Rattle.change.specs.declared.Tables.{Tables}
+use Rattle.sets.specs.Sets.{emptySets, setsOf, emptyFrus, frusOf}
+use Rattle.occ.specs.declared.Verdict.{Verdict}
+use Rattle.occ.specs.declared.Verdict.the-variants.{Refuse, Poll, Make}
+use Rattle.occ.specs.declared.Judged.{Judged}
+use Rattle.occ.specs.Commands.{pollVerdict, clearAt, clearVerdict, stateFits, notReady, stateVerdict, roleVerdict, capsFor, sentCaps, capsVerdict, userAllowed, userFor, userVerdict, logDue, resetFor, resetVerdict}
+use Rattle.occ.specs.Judge.{plainly, setsJudged, throttlesFor, throttlesJudged, frusJudged, thermalFor, thermalJudged, formatJudged, configureJudged, openTo, typeJudged, judgeOf}
+use Rattle.occ.specs.Chains.{_and_, holds, by-test, eq-holds, le-holds, eq-passes, lt-passes, le-passes, zero-passes, not-passes, unless, unless-last, if-needed, or-else, if-is, if-is-last, Cases, last-case, or-case}
+
+-- ---- the conditions, in the document's words and order
+
+-- "0x00 poll, L 1, version 0x10"
+unfoldable pub PollOk : List ℕ → Type 0
+PollOk d = (length d ≡ 1) and (getD d 0 0 ≡ 0x10)
+
+-- a log with this id is at one of the four places; id 0 is no log's
+unfoldable pub Pends : ℕ → List Log → Type 0
+Pends id logs = (id ≡ 0 → ⊥) and ((place : ℕ) × (place < 4) × (getD logs place noLog .id ≡ id))
+
+-- "0x12 clear log, L 1: an id not pending is 0x13"
+unfoldable pub ClearLogOk : List Log → List ℕ → Type 0
+ClearLogOk logs d = (length d ≡ 1) and Pends (getD d 0 0) logs
+
+-- "0x20 set state, L 3: version 0, state 1 to 3, last byte 0 .. State 2 without observation-ready, or 3 without active-ready, is 0x16"
+unfoldable pub SetStateOk : Worked → List ℕ → Type 0
+SetStateOk w d =
+    (length d ≡ 3)
+    and ((getD d 0 0 ≡ 0) and (1 ≤ getD d 1 0) and (getD d 1 0 ≤ 3) and (getD d 2 0 ≡ 0))
+    and (getD d 1 0 ≡ 2 → w .observation ≡ 0 → ⊥)
+    and (getD d 1 0 ≡ 3 → w .active ≡ 0 → ⊥)
+
+-- "0x21, 0x03, L 2: role 0 or 1; outside standby 0x16"
+unfoldable pub RoleFormatOk : ℕ → List ℕ → Type 0
+RoleFormatOk state d = (length d ≡ 2) and (getD d 1 0 ≤ 1) and (state ≡ 1)
+
+-- "0x21, 0x07, L 8: version 0x10; .. minimum over maximum 0x13; slave 0x16 (H)"
+unfoldable pub CapsFormatOk : ℕ → List ℕ → Type 0
+CapsFormatOk role d =
+    (length d ≡ 8) and (getD d 1 0 ≡ 0x10) and (sentCaps d .min ≤ sentCaps d .max) and (role ≡ 0 → ⊥)
+
+-- "L 3+12n (3+4n): version 0x10, n at least 1", and the rule of the n sets
+unfoldable pub SetsFormatOk : ℕ → List ℕ → Type 0 → Type 0
+SetsFormatOk width d rule =
+    (length d ≡ 3 + getD d 2 0 * width) and (getD d 1 0 ≡ 0x10) and (1 ≤ getD d 2 0) and rule
+
+-- "0x21, 0x12 .. hub 0 to 7, MBA 0 or 1, no pair twice"
+unfoldable pub ThrottlesFormatOk : List ℕ → Type 0
+ThrottlesFormatOk d = SetsFormatOk 12 d (setsOf (getD d 2 0) emptySets (drop 3 d) .ok ≡ true)
+
+-- "0x21, 0x13 .. FRU 0 to 2, none twice, DVFS at most ERROR (H)"
+unfoldable pub ThermalFormatOk : List ℕ → Type 0
+ThermalFormatOk d = SetsFormatOk 4 d (frusOf (getD d 2 0) emptyFrus (drop 3 d) .ok ≡ true)
+
+-- "An unknown format answers 0x13 before its length is judged; with L = 0 it is 0x12"
+unfoldable pub ConfigureOk : ℕ → ℕ → List ℕ → Type 0
+ConfigureOk state role d =
+    (1 ≤ length d)
+    and (((getD d 0 0 ≡ 0x03) and RoleFormatOk state d)
+    ⊎ ((getD d 0 0 ≡ 0x07) and CapsFormatOk role d)
+    ⊎ ((getD d 0 0 ≡ 0x12) and ThrottlesFormatOk d)
+    ⊎ ((getD d 0 0 ≡ 0x13) and ThermalFormatOk d))
+
+-- "0x22 user cap, L 2: 0 disables; else it must lie in minimum to maximum, and without caps received it is 0x13. Slave 0x16, for 0 too"
+unfoldable pub UserCapOk : ℕ → ℕ → Caps → List ℕ → Type 0
+UserCapOk role got caps d =
+    (length d ≡ 2)
+    and ((beNat (take 2 d) ≡ 0) ⊎ ((got ≡ 0 → ⊥) and (caps .min ≤ beNat (take 2 d)) and (beNat (take 2 d) ≤ caps .max)))
+    and (role ≡ 0 → ⊥)
+
+-- "0x25 reset prep, L 2: version 0, reason 0 to 2. .. A log is made for reason 1, and for 2 on a master"; 0x15: "a log is due, and 4 pend or the next id is 256"
+unfoldable pub ResetPrepOk : ℕ → List Log → ℕ → List ℕ → Type 0
+ResetPrepOk role logs next d =
+    (length d ≡ 2)
+    and (getD d 0 0 ≡ 0)
+    and (getD d 1 0 ≤ 2)
+    and ((getD d 1 0 ≡ 1) ⊎ ((getD d 1 0 ≡ 2) and (role ≡ 1)) → (pendingOf logs < 4) and (next < 256))
+
+-- 0x11: "type unknown, or the BMC sends other than 0x00 and 0x22 (H)"; then each type's own
+unfoldable pub CommandOk : Record → Worked → ℕ → ℕ → ℕ → List ℕ → Type 0
+CommandOk r w next sender kind d =
+    (sender ≡ 0x20 → (kind ≡ 0x00) ⊎ (kind ≡ 0x22))
+    and (((kind ≡ 0x00) and PollOk d)
+    ⊎ ((kind ≡ 0x12) and ClearLogOk (r .logs) d)
+    ⊎ ((kind ≡ 0x20) and SetStateOk w d)
+    ⊎ ((kind ≡ 0x21) and ConfigureOk (r .state) (r .role) d)
+    ⊎ ((kind ≡ 0x22) and UserCapOk (r .role) (r .received .caps) (r .caps) d)
+    ⊎ ((kind ≡ 0x25) and ResetPrepOk (r .role) (r .logs) next d))
+
+-- ---- when a verdict accepts
+
+unfoldable pub accepts : Verdict → Bool
+accepts (Refuse status) = false
+accepts Poll = true
+accepts (Make change) = true
+
+unfoldable pub accepted : Judged → Bool
+accepted j = accepts (j .verdict)
+
+refuses : (status : ℕ) → accepts (Refuse status) ≡ false
+unfolding accepts
+refuses status = refl
+
+polls : accepts Poll ≡ true
+unfolding accepts
+polls = refl
+
+makes : (change : Change) → accepts (Make change) ≡ true
+unfolding accepts
+makes change = refl
+
+plain : (v : Verdict) {P : Type 0} → (accepts v ≡ true) ↔ P → (accepted (plainly v) ≡ true) ↔ P
+unfolding accepted plainly
+plain v p = p
+
+plain-refuses : (status : ℕ) → accepted (plainly (Refuse status)) ≡ false
+unfolding accepted plainly accepts
+plain-refuses status = refl
+
+made : (change : Change) (tables : Tables) → accepted (record { verdict = Make change; tables = tables }) ≡ true
+unfolding accepted accepts
+made change tables = refl
+
+-- ---- each command
+
+pub poll-exactly : (d : List ℕ) → (accepts (pollVerdict d) ≡ true) ↔ PollOk d
+unfolding pollVerdict PollOk
+poll-exactly d =
+    unless accepts (refuses 0x12) (not-passes (eq-holds _ _)) (unless-last accepts (refuses 0x13) (not-passes (eq-holds _ _)) polls)
+
+-- the first place with an id has it
+pub first-there : (id : ℕ) (logs : List Log) → firstWith id logs < length logs → getD logs (firstWith id logs) noLog .id ≡ id
+unfolding firstWith
+first-there id [] = λ h. absurd (not-suc-le-zero h)
+first-there id (x ∷ logs) =
+    by-test (λ (n : ℕ). n < suc (length logs) → getD (x ∷ logs) n noLog .id ≡ id) (eqb (x .id) id)
+    (λ t h. eqb-true (x .id) id t)
+    (λ t h. first-there id logs (le-of-suc-le-suc h))
+
+-- and none before it
+first-before : (id place : ℕ) (logs : List Log) → place < length logs → getD logs place noLog .id ≡ id → firstWith id logs ≤ place
+unfolding firstWith
+first-before id place [] h e = absurd (not-suc-le-zero h)
+first-before id zero (x ∷ logs) h e =
+    by-test (λ (n : ℕ). n ≤ 0) (eqb (x .id) id) (λ t. omega arith) (λ t. absurd (eqb-false (x .id) id t e))
+first-before id (suc place) (x ∷ logs) h e =
+    by-test (λ (n : ℕ). n ≤ suc place) (eqb (x .id) id)
+    (λ t. omega arith)
+    (λ t. let k = first-before id place logs (le-of-suc-le-suc h) e in omega arith)
+
+found-exactly : (id : ℕ) (logs : List Log) → length logs ≡ 4 → (findOf id logs < 4) ↔ Pends id logs
+unfolding findOf Pends
+found-exactly id logs four =
+    by-test (λ (n : ℕ). (n < 4) ↔ ((id ≡ 0 → ⊥) and ((place : ℕ) × (place < 4) × (getD logs place noLog .id ≡ id)))) (eqb id 0)
+    (λ t. (λ h. absurd (omega arith), λ h. absurd (h .0 (eqb-true id 0 t))))
+    (λ t. (
+      λ h. let k : firstWith id logs < length logs = omega arith in (eqb-false id 0 t, (firstWith id logs, h, first-there id logs k)),
+      λ h.
+          let l : h .1 .0 < length logs = omega arith in
+          let k = first-before id (h .1 .0) logs l (h .1 .2) in
+          omega (arith, h .1 .1),
+    ))
+
+pub clear-log-exactly : (logs : List Log) (d : List ℕ) → length logs ≡ 4 → (accepts (clearVerdict logs d) ≡ true) ↔ ClearLogOk logs d
+unfolding clearVerdict clearAt ClearLogOk
+clear-log-exactly logs d four =
+    unless accepts (refuses 0x12) (not-passes (eq-holds _ _))
+    (Iff·trans (unless-last accepts (refuses 0x13) (le-passes 4 _) (makes _)) (found-exactly (getD d 0 0) logs four))
+
+pub state-fits-exactly : (version state last : ℕ) → (stateFits version state last ≡ true) ↔ ((version ≡ 0) and (1 ≤ state) and (state ≤ 3) and (last ≡ 0))
+unfolding stateFits
+state-fits-exactly version state last =
+    unless holds refl (not-passes (eq-holds _ _)) (unless holds refl (lt-passes _ _) (unless holds refl (lt-passes _ _) (eq-holds _ _)))
+
+pub ready-exactly : (w : Worked) (state : ℕ) → (notReady w state ≡ false) ↔ ((state ≡ 2 → w .observation ≡ 0 → ⊥) and (state ≡ 3 → w .active ≡ 0 → ⊥))
+unfolding notReady
+ready-exactly w state =
+    if-is state 2 (eq-passes _ _) (if-is-last state 3 (eq-passes _ _)) (λ e k. absurd (omega arith))
+
+pub set-state-exactly : (w : Worked) (d : List ℕ) → (accepts (stateVerdict w d) ≡ true) ↔ SetStateOk w d
+unfolding stateVerdict SetStateOk
+set-state-exactly w d =
+    unless accepts (refuses 0x12) (not-passes (eq-holds _ _))
+    (unless accepts (refuses 0x13) (not-passes (state-fits-exactly _ _ _))
+    (unless-last accepts (refuses 0x16) (ready-exactly w _) (makes _)))
+
+pub role-format-exactly : (state : ℕ) (d : List ℕ) → (accepts (roleVerdict state d) ≡ true) ↔ RoleFormatOk state d
+unfolding roleVerdict RoleFormatOk
+role-format-exactly state d =
+    unless accepts (refuses 0x12) (not-passes (eq-holds _ _))
+    (unless accepts (refuses 0x13) (lt-passes _ _)
+    (unless-last accepts (refuses 0x16) (not-passes (eq-holds _ _)) (makes _)))
+
+pub caps-format-exactly : (role : ℕ) (d : List ℕ) → (accepts (capsVerdict role d) ≡ true) ↔ CapsFormatOk role d
+unfolding capsVerdict capsFor CapsFormatOk
+caps-format-exactly role d =
+    unless accepts (refuses 0x12) (not-passes (eq-holds _ _))
+    (unless accepts (refuses 0x13) (not-passes (eq-holds _ _))
+    (unless accepts (refuses 0x13) (lt-passes _ _)
+    (unless-last accepts (refuses 0x16) (eq-passes _ _) (makes _))))
+
+pub user-allowed-exactly : (got : ℕ) (caps : Caps) (user : ℕ) → (userAllowed got caps user ≡ true) ↔ ((user ≡ 0) ⊎ ((got ≡ 0 → ⊥) and (caps .min ≤ user) and (user ≤ caps .max)))
+unfolding userAllowed
+user-allowed-exactly got caps user =
+    or-else holds refl (eq-holds _ _)
+    (unless holds refl (eq-passes _ _) (unless holds refl (lt-passes _ _) (le-holds _ _)))
+
+pub user-cap-exactly : (role got : ℕ) (caps : Caps) (d : List ℕ) → (accepts (userVerdict role got caps d) ≡ true) ↔ UserCapOk role got caps d
+unfolding userVerdict userFor UserCapOk
+user-cap-exactly role got caps d =
+    unless accepts (refuses 0x12) (not-passes (eq-holds _ _))
+    (unless accepts (refuses 0x13) (not-passes (user-allowed-exactly got caps _))
+    (unless-last accepts (refuses 0x16) (eq-passes _ _) (makes _)))
+
+pub log-due-exactly : (role reason : ℕ) → (logDue role reason ≡ true) ↔ ((reason ≡ 1) ⊎ ((reason ≡ 2) and (role ≡ 1)))
+unfolding logDue
+log-due-exactly role reason = or-else holds refl (eq-holds _ _) (last-case holds reason 2 (eq-holds _ _) refl .exactly)
+
+pub reset-prep-exactly : (role : ℕ) (logs : List Log) (next : ℕ) (d : List ℕ) → (accepts (resetVerdict role logs next d) ≡ true) ↔ ResetPrepOk role logs next d
+unfolding resetVerdict resetFor ResetPrepOk
+reset-prep-exactly role logs next d =
+    unless accepts (refuses 0x12) (not-passes (eq-holds _ _))
+    (unless accepts (refuses 0x13) (not-passes (eq-holds _ _))
+    (unless accepts (refuses 0x13) (lt-passes _ _)
+    (if-needed accepts (makes _) (log-due-exactly role _)
+    (unless accepts (refuses 0x15) (le-passes 4 _) (unless-last accepts (refuses 0x15) (le-passes 256 _) (makes _))))))
+
+-- ---- the formats with tables beside the change
+
+-- the tests that both begin with
+abbrev pub setsTested : ℕ → List ℕ → Judged → Judged
+setsTested width d j =
+    cond (ltb (length d) 3) (plainly (Refuse 0x12))
+    (cond (not (eqb (length d - 3) (getD d 2 0 * width))) (plainly (Refuse 0x12))
+    (cond (not (eqb (getD d 1 0) 0x10)) (plainly (Refuse 0x13))
+    (cond (eqb (getD d 2 0) 0) (plainly (Refuse 0x13)) j)))
+
+-- three bytes and then k more
+counted : (l k : ℕ) → ((3 ≤ l) and (l - 3 ≡ k)) ↔ (l ≡ 3 + k)
+counted l k = (λ h. omega arith, λ h. (omega arith, omega arith))
+
+-- two conditions that are one
+merged : {X A B C D : Type 0} → (A and B) ↔ D → X ↔ (A and B and C) → X ↔ (D and C)
+merged e h = (λ x. let p = h .0 x in (e .0 (p .0, p .1 .0), p .1 .1), λ p. let q = e .1 (p .0) in h .1 (q .0, (q .1, p .1)))
+
+sets-format-exactly : (width : ℕ) (d : List ℕ) (j : Judged) {rule : Type 0} → (accepted j ≡ true) ↔ rule → (accepted (setsTested width d j) ≡ true) ↔ SetsFormatOk width d rule
+unfolding SetsFormatOk
+sets-format-exactly width d j p =
+    merged (counted (length d) (getD d 2 0 * width))
+    (unless accepted (plain-refuses 0x12) (lt-passes _ _)
+    (unless accepted (plain-refuses 0x12) (not-passes (eq-holds _ _))
+    (unless accepted (plain-refuses 0x13) (not-passes (eq-holds _ _))
+    (unless accepted (plain-refuses 0x13) (zero-passes _) p))))
+
+-- the sets were read without fault
+by-ok : (ok : Bool) (j : Judged) → accepted j ≡ true → (accepted (cond (not ok) (plainly (Refuse 0x13)) j) ≡ true) ↔ (ok ≡ true)
+by-ok ok j h = unless-last accepted (plain-refuses 0x13) (not-passes Iff·rfl) h
+
+pub throttles-format-exactly : (d : List ℕ) → (accepted (throttlesJudged d) ≡ true) ↔ ThrottlesFormatOk d
+unfolding throttlesJudged throttlesFor setsJudged ThrottlesFormatOk
+throttles-format-exactly d = sets-format-exactly 12 d _ (by-ok _ _ (made _ _))
+
+pub thermal-format-exactly : (d : List ℕ) → (accepted (thermalJudged d) ≡ true) ↔ ThermalFormatOk d
+unfolding thermalJudged thermalFor frusJudged ThermalFormatOk
+thermal-format-exactly d = sets-format-exactly 4 d _ (by-ok _ _ (made _ _))
+
+-- ---- configuration, and every command
+
+pub configure-exactly : (state role : ℕ) (d : List ℕ) → (accepted (configureJudged state role d) ≡ true) ↔ ConfigureOk state role d
+unfolding configureJudged formatJudged ConfigureOk
+configure-exactly state role d =
+    unless accepted (plain-refuses 0x12) (zero-passes _)
+    (or-case accepted _ 0x03 (lit< tt) (plain _ (role-format-exactly state d))
+    (or-case accepted _ 0x07 (lit< tt) (plain _ (caps-format-exactly role d))
+    (or-case accepted _ 0x12 (lit< tt) (throttles-format-exactly d)
+    (last-case accepted _ 0x13 (thermal-format-exactly d) (plain-refuses 0x13)))) .exactly)
+
+open-exactly : (sender kind : ℕ) → (openTo sender kind ≡ true) ↔ (sender ≡ 0x20 → (kind ≡ 0x00) ⊎ (kind ≡ 0x22))
+unfolding openTo
+open-exactly sender kind = if-needed holds refl (eq-holds _ _) (or-else holds refl (eq-holds _ _) (eq-holds _ _))
+
+pub judge-exactly : (r : Record) (w : Worked) (next sender kind : ℕ) (d : List ℕ) → length (r .logs) ≡ 4 → (accepts (judgeOf r w next sender kind d .verdict) ≡ true) ↔ CommandOk r w next sender kind d
+unfolding judgeOf typeJudged CommandOk accepted
+judge-exactly r w next sender kind d four =
+    unless accepted (plain-refuses 0x11) (not-passes (open-exactly sender kind))
+    (or-case accepted kind 0x00 (lit< tt) (plain _ (poll-exactly d))
+    (or-case accepted kind 0x12 (lit< tt) (plain _ (clear-log-exactly (r .logs) d four))
+    (or-case accepted kind 0x20 (lit< tt) (plain _ (set-state-exactly w d))
+    (or-case accepted kind 0x21 (lit< tt) (configure-exactly (r .state) (r .role) d)
+    (or-case accepted kind 0x22 (lit< tt) (plain _ (user-cap-exactly (r .role) (r .received .caps) (r .caps) d))
+    (last-case accepted kind 0x25 (plain _ (reset-prep-exactly (r .role) (r .logs) next d)) (plain-refuses 0x11)))))) .exactly)

@@ -1,0 +1,83 @@
+-- Document 01, "OCC packets": a whole packet judged. After 0x12 and 0x14 of the packet come 0x11, 0x12, 0x13, 0x16, 0x15.
+use Prim.Native.Nat.{ℕ, zero, suc, _+_, _-_, _*_, _/_, _%_, _^_}
+use mathlib.Core.Bool.{Bool, true, false, cond, not}
+use mathlib.Core.List.{List, [], _∷_, _++_}
+use lib.ListN.{length, getD, take, drop, replicate}
+use lib.Dec.{ltb, leb, eqb}
+use Rattle.record.specs.Record.{noThrottles}
+use Rattle.record.specs.declared.Record.{Record}
+use Rattle.record.specs.declared.Worked.{Worked}
+use Rattle.change.specs.Change.{noTables}
+use Rattle.change.specs.declared.Change.the-variants.{SetThermal, SetThrottles}
+use Rattle.occ.specs.declared.Verdict.{Verdict}
+use Rattle.occ.specs.declared.Verdict.the-variants.{Refuse, Make}
+use Rattle.occ.specs.declared.Judged.{Judged}
+use Rattle.sets.specs.declared.Sets.{Sets}
+use Rattle.sets.specs.declared.Frus.{Frus}
+use Rattle.occ.specs.Commands.{pollVerdict, clearVerdict, stateVerdict, roleVerdict, capsVerdict, userVerdict, resetVerdict}
+use Rattle.sets.specs.Sets.{emptySets, setsOf, emptyFrus, frusOf}
+
+-- a verdict with no tables beside it
+unfoldable pub plainly : Verdict → Judged
+plainly v = record { verdict = v; tables = noTables }
+
+-- "0x21, 0x12, L 3+12n: version 0x10, n at least 1"
+unfoldable pub setsJudged : Sets → Judged
+setsJudged t =
+    cond (not (t .ok)) (plainly (Refuse 0x13))
+    (record { verdict = Make (SetThrottles 1); tables = record { thermal = replicate 9 0; throttles = t .table } })
+
+unfoldable pub throttlesFor : ℕ → List ℕ → Judged
+throttlesFor n d =
+    cond (not (eqb (length d - 3) (n * 12))) (plainly (Refuse 0x12))
+    (cond (not (eqb (getD d 1 0) 0x10)) (plainly (Refuse 0x13))
+    (cond (eqb n 0) (plainly (Refuse 0x13))
+    (setsJudged (setsOf n emptySets (drop 3 d)))))
+
+unfoldable pub throttlesJudged : List ℕ → Judged
+throttlesJudged d = cond (ltb (length d) 3) (plainly (Refuse 0x12)) (throttlesFor (getD d 2 0) d)
+
+-- "0x21, 0x13, L 3+4n: version 0x10, n at least 1"
+unfoldable pub frusJudged : Frus → Judged
+frusJudged t =
+    cond (not (t .ok)) (plainly (Refuse 0x13))
+    (record { verdict = Make (SetThermal 1); tables = record { thermal = t .bytes; throttles = noThrottles } })
+
+unfoldable pub thermalFor : ℕ → List ℕ → Judged
+thermalFor n d =
+    cond (not (eqb (length d - 3) (n * 4))) (plainly (Refuse 0x12))
+    (cond (not (eqb (getD d 1 0) 0x10)) (plainly (Refuse 0x13))
+    (cond (eqb n 0) (plainly (Refuse 0x13))
+    (frusJudged (frusOf n emptyFrus (drop 3 d)))))
+
+unfoldable pub thermalJudged : List ℕ → Judged
+thermalJudged d = cond (ltb (length d) 3) (plainly (Refuse 0x12)) (thermalFor (getD d 2 0) d)
+
+-- "An unknown format answers 0x13 before its length is judged; with L = 0 it is 0x12"
+unfoldable pub formatJudged : ℕ → ℕ → ℕ → List ℕ → Judged
+formatJudged format state role d =
+    cond (eqb format 0x03) (plainly (roleVerdict state d))
+    (cond (eqb format 0x07) (plainly (capsVerdict role d))
+    (cond (eqb format 0x12) (throttlesJudged d)
+    (cond (eqb format 0x13) (thermalJudged d)
+    (plainly (Refuse 0x13)))))
+
+unfoldable pub configureJudged : ℕ → ℕ → List ℕ → Judged
+configureJudged state role d = cond (eqb (length d) 0) (plainly (Refuse 0x12)) (formatJudged (getD d 0 0) state role d)
+
+-- 0x11: "type unknown, or the BMC sends other than 0x00 and 0x22 (H)"
+unfoldable pub openTo : ℕ → ℕ → Bool
+openTo sender kind = cond (not (eqb sender 0x20)) true (cond (eqb kind 0x00) true (eqb kind 0x22))
+
+unfoldable pub typeJudged : ℕ → Record → Worked → ℕ → List ℕ → Judged
+typeJudged kind r w next d =
+    cond (eqb kind 0x00) (plainly (pollVerdict d))
+    (cond (eqb kind 0x12) (plainly (clearVerdict (r .logs) d))
+    (cond (eqb kind 0x20) (plainly (stateVerdict w d))
+    (cond (eqb kind 0x21) (configureJudged (r .state) (r .role) d)
+    (cond (eqb kind 0x22) (plainly (userVerdict (r .role) (r .received .caps) (r .caps) d))
+    (cond (eqb kind 0x25) (plainly (resetVerdict (r .role) (r .logs) next d))
+    (plainly (Refuse 0x11)))))))
+
+unfoldable pub judgeOf : Record → Worked → ℕ → ℕ → ℕ → List ℕ → Judged
+judgeOf r w next sender kind d = cond (not (openTo sender kind)) (plainly (Refuse 0x11)) (typeJudged kind r w next d)

@@ -1,0 +1,272 @@
+-- Laws of judged commands that other crates build on: what is known of a change that a command makes. Assumes nothing.
+use Prim.Native.Nat.{ℕ, _+_, _-_, _*_, _<_, _≤_}
+use mathlib.Core.Bool.{Bool, true, false, cond, not}
+use mathlib.Core.Path.{_≡_, refl, sym, ap, subst, _∙_}
+use mathlib.Core.List.{List}
+use mathlib.Core.Logic.{Iff·rfl, _⊎_, inl, inr, ⊎-elim}
+use native.Mathlib.Omega.{arith}
+use borrow.Author.Tests.{ltb-false, leb-false, eqb-true, eqb-false, not-false, le-leb, eq-eqb}
+use lib.Dec.{ltb, leb, eqb}
+use lib.ListN.{length, getD, take, drop, replicate, length-drop}
+use Rattle.wire.specs.Wire.{beNat}
+use Rattle.wire.specs.Cases.{else-eq, cond-elim}
+use Rattle.record.specs.Record.{noLog, noThrottles}
+use Rattle.record.specs.declared.Log.{Log}
+use Rattle.record.specs.declared.Caps.{Caps}
+use Rattle.record.specs.declared.Throttles.{Throttles}
+use Rattle.record.specs.declared.Record.{Record}
+use Rattle.record.specs.declared.Worked.{Worked}
+use Rattle.change.specs.Logs.{pendingOf, firstWith, findOf, pendsAt}
+use Rattle.change.specs.Change.{noTables}
+use Rattle.change.specs.declared.Tables.{Tables}
+use Rattle.change.specs.declared.Change.{Change}
+use Rattle.change.specs.declared.Change.the-variants.{Clear, Unclear, SetState, SetRole, SetCaps, SetUser, SetThermal, SetThrottles, Reset, Unreset, SetMask, SetDeadman, SetAreas}
+use Rattle.formed.specs.Formed.{stateOk, flagOk, roleOk, capsOk, thermalOk, thermalRule, throttlesOk, absentZero, nextOk, reasonOk, recordOk, clearedOk, madeOk, changeOk}
+use Rattle.formed.specs.Laws.{Sound, sound, pends-cleared}
+use Rattle.sets.specs.Sets.{emptySets, setsOf, emptyFrus, frusOf}
+use Rattle.sets.specs.Laws.{sets-formed, frus-formed}
+use Rattle.occ.specs.declared.Verdict.{Verdict}
+use Rattle.occ.specs.declared.Verdict.the-variants.{Refuse, Poll, Make}
+use Rattle.occ.specs.declared.Judged.{Judged}
+use Rattle.occ.specs.Commands.{pollVerdict, clearAt, clearVerdict, stateFits, stateVerdict, roleVerdict, capsFor, sentCaps, capsVerdict, userFor, userVerdict, logDue, resetFor, resetVerdict}
+use Rattle.occ.specs.Judge.{plainly, setsJudged, throttlesFor, throttlesJudged, frusJudged, thermalFor, thermalJudged, formatJudged, configureJudged, openTo, typeJudged, judgeOf}
+use Rattle.occ.specs.Chains.{_and_, holds, by-test, eq-holds, le-holds, eq-passes, lt-passes, le-passes, not-passes, unless, or-else, passing}
+use Rattle.occ.specs.Exactly.{setsTested, first-there, state-fits-exactly, ready-exactly, user-allowed-exactly, log-due-exactly}
+
+-- ---- what is known of a change that is made
+
+-- the log that a reset makes, where one is due, has the next id, one of 255, and a place
+unfoldable pub Drawn : Record → ℕ → Log → Type 0
+Drawn r next log =
+    (log .id ≡ next) and (next ≤ 255) and (pendingOf (r .logs) < 4) and ((log .reason ≡ 1) ⊎ (log .reason ≡ 2))
+
+-- a cleared log pends, as it is, at its place; a log that is made is drawn
+unfoldable pub Known : Record → ℕ → Change → Type 0
+Known r next (Clear place log) = pendsAt place log (r .logs) ≡ true
+Known r next (Unclear place log) = Unit {0}
+Known r next (SetState state) = Unit {0}
+Known r next (SetRole got role) = Unit {0}
+Known r next (SetCaps got caps) = Unit {0}
+Known r next (SetUser user) = Unit {0}
+Known r next (SetThermal got) = Unit {0}
+Known r next (SetThrottles got) = Unit {0}
+Known r next (Reset log) = (log .id ≡ 0 → ⊥) → Drawn r next log
+Known r next (Unreset state made) = Unit {0}
+Known r next (SetMask mask) = Unit {0}
+Known r next (SetDeadman deadman) = Unit {0}
+Known r next (SetAreas areas) = Unit {0}
+
+-- and its values are ones that a well-formed record could hold
+unfoldable pub Right : Record → ℕ → Tables → Change → Type 0
+Right r next t ch = (changeOk t ch ≡ true) and Known r next ch
+
+-- of what a verdict makes, if it makes a change
+unfoldable pub Makes : (Change → Type 0) → Verdict → Type 0
+Makes P (Refuse status) = Unit {0}
+Makes P Poll = Unit {0}
+Makes P (Make ch) = P ch
+
+refuse-makes : (P : Change → Type 0) (status : ℕ) → Makes P (Refuse status)
+unfolding Makes
+refuse-makes P status = tt
+
+poll-makes : (P : Change → Type 0) → Makes P Poll
+unfolding Makes
+poll-makes P = tt
+
+make-makes : (P : Change → Type 0) (ch : Change) → P ch → Makes P (Make ch)
+unfolding Makes
+make-makes P ch p = p
+
+-- ---- each command, on a well-formed record
+
+module _ (r : Record) (next : ℕ) (s : Sound r next) (four : length (r .logs) ≡ 4) where
+  abbrev Plain : Change → Type 0
+  Plain = Right r next noTables
+
+  abbrev Sends : Verdict → Type 0
+  Sends = Makes Plain
+
+  none : (status : ℕ) → Sends (Refuse status)
+  none status = refuse-makes Plain status
+
+  poll-right : (d : List ℕ) → Sends (pollVerdict d)
+  unfolding pollVerdict
+  poll-right d = passing Sends (none 0x12) (not-passes (eq-holds (length d) 1)) (λ e. passing Sends (none 0x13) (not-passes (eq-holds (getD d 0 0) 0x10)) (λ f. poll-makes Plain))
+
+  -- the log found by an id pends where it was found
+  there-pends : (id place : ℕ) → (id ≡ 0 → ⊥) → place < 4 → getD (r .logs) place noLog .id ≡ id → pendsAt place (getD (r .logs) place noLog) (r .logs) ≡ true
+  unfolding pendsAt
+  there-pends id place h l e =
+      let log = getD (r .logs) place noLog in
+      let k : place ≤ 3 = omega arith in
+      unless holds refl (lt-passes 3 place)
+      (unless holds refl (eq-passes (log .id) 0)
+      (unless holds refl (not-passes (eq-holds (log .id) (log .id))) (eq-holds (log .reason) (log .reason)))) .1
+      (k, ((λ z. h (sym e ∙ z)), (refl, refl)))
+
+  cleared : (place : ℕ) (log : Log) → pendsAt place log (r .logs) ≡ true → Plain (Clear place log)
+  unfolding Right Known changeOk
+  cleared place log p = (pends-cleared next (r .logs) (s .logs) place log p, p)
+
+  found-right : (id : ℕ) → Sends (clearAt (findOf id (r .logs)) (r .logs))
+  unfolding findOf clearAt
+  found-right id =
+      by-test (λ (n : ℕ). Sends (clearAt n (r .logs))) (eqb id 0)
+      (λ t. none 0x13)
+      (λ t.
+      passing Sends (none 0x13) (le-passes 4 _)
+      (λ l.
+      let k : firstWith id (r .logs) < length (r .logs) = omega arith in
+      make-makes Plain _ (cleared _ _ (there-pends id _ (eqb-false id 0 t) l (first-there id (r .logs) k)))))
+
+  clear-right : (d : List ℕ) → Sends (clearVerdict (r .logs) d)
+  unfolding clearVerdict
+  clear-right d = passing Sends (none 0x12) (not-passes (eq-holds (length d) 1)) (λ e. found-right _)
+
+  set-state : (state : ℕ) → 1 ≤ state → state ≤ 3 → Plain (SetState state)
+  unfolding Right Known changeOk stateOk
+  set-state state l h = (unless holds refl (lt-passes state 1) (le-holds state 3) .1 (l, h), tt)
+
+  state-right : (w : Worked) (d : List ℕ) → Sends (stateVerdict w d)
+  unfolding stateVerdict
+  state-right w d =
+      passing Sends (none 0x12) (not-passes (eq-holds (length d) 3))
+      (λ e. passing Sends (none 0x13) (not-passes (state-fits-exactly (getD d 0 0) (getD d 1 0) (getD d 2 0)))
+      (λ f. passing Sends (none 0x16) (ready-exactly w (getD d 1 0))
+      (λ g. make-makes Plain _ (set-state _ (f .1 .0) (f .1 .1 .0)))))
+
+  set-role : (role : ℕ) → role ≤ 1 → Plain (SetRole 1 role)
+  unfolding Right Known changeOk roleOk flagOk
+  set-role role h = (le-leb role 1 h, tt)
+
+  role-right : (state : ℕ) (d : List ℕ) → Sends (roleVerdict state d)
+  unfolding roleVerdict
+  role-right state d =
+      passing Sends (none 0x12) (not-passes (eq-holds (length d) 2))
+      (λ e. passing Sends (none 0x13) (lt-passes 1 (getD d 1 0))
+      (λ f. passing Sends (none 0x16) (not-passes (eq-holds state 1)) (λ g. make-makes Plain _ (set-role _ f))))
+
+  set-caps : (caps : Caps) → caps .min ≤ caps .max → Plain (SetCaps 1 caps)
+  unfolding Right Known changeOk capsOk flagOk
+  set-caps caps h = (le-leb (caps .min) (caps .max) h, tt)
+
+  caps-right : (role : ℕ) (d : List ℕ) → Sends (capsVerdict role d)
+  unfolding capsVerdict capsFor
+  caps-right role d =
+      passing Sends (none 0x12) (not-passes (eq-holds (length d) 8))
+      (λ e. passing Sends (none 0x13) (not-passes (eq-holds (getD d 1 0) 0x10))
+      (λ f. passing Sends (none 0x13) (lt-passes (sentCaps d .max) (sentCaps d .min))
+      (λ g. passing Sends (none 0x16) (eq-passes role 0) (λ h. make-makes Plain _ (set-caps _ g)))))
+
+  set-user : (user : ℕ) → Plain (SetUser user)
+  unfolding Right Known changeOk
+  set-user user = (refl, tt)
+
+  user-right : (role got : ℕ) (caps : Caps) (d : List ℕ) → Sends (userVerdict role got caps d)
+  unfolding userVerdict userFor
+  user-right role got caps d =
+      passing Sends (none 0x12) (not-passes (eq-holds (length d) 2))
+      (λ e. passing Sends (none 0x13) (not-passes (user-allowed-exactly got caps (beNat (take 2 d))))
+      (λ f. passing Sends (none 0x16) (eq-passes role 0) (λ g. make-makes Plain _ (set-user _))))
+
+  reset-alone : Plain (Reset noLog)
+  unfolding Right Known changeOk madeOk
+  reset-alone = (refl, λ some. absurd (some refl))
+
+  reset-logged : (reason : ℕ) → (reason ≡ 1) ⊎ (reason ≡ 2) → pendingOf (r .logs) < 4 → next < 256 → Plain (Reset (record { id = next; reason = reason }))
+  unfolding Right Known Drawn changeOk madeOk reasonOk nextOk
+  reset-logged reason w l h =
+      let ids = unless holds refl (lt-passes next 1) (le-holds next 256) .0 (s .next) in
+      let k = or-else holds refl (eq-holds reason 1) (eq-holds reason 2) .1 w in
+      (sym (else-eq _ _ {m = next} {n = 0} (λ z. omega (arith, ids .0)) (sym k)), λ some. (refl, (omega arith, (l, w))))
+
+  reset-right : (role : ℕ) (d : List ℕ) → Sends (resetVerdict role (r .logs) next d)
+  unfolding resetVerdict resetFor
+  reset-right role d =
+      passing Sends (none 0x12) (not-passes (eq-holds (length d) 2))
+      (λ e. passing Sends (none 0x13) (not-passes (eq-holds (getD d 0 0) 0))
+      (λ f. passing Sends (none 0x13) (lt-passes 2 (getD d 1 0))
+      (λ g. passing Sends (make-makes Plain _ reset-alone) (not-passes (log-due-exactly role (getD d 1 0)))
+      (λ due. passing Sends (none 0x15) (le-passes 4 (pendingOf (r .logs)))
+      (λ k. passing Sends (none 0x15) (le-passes 256 next)
+      (λ l. make-makes Plain _ (reset-logged _ (⊎-elim inl (λ h. inr (h .0)) due) k l)))))))
+
+  -- ---- with the tables beside the change
+
+  -- of what is judged, with its tables
+  unfoldable Rightly : Judged → Type 0
+  Rightly j = Makes (Right r next (j .tables)) (j .verdict)
+
+  plain-right : (v : Verdict) → Sends v → Rightly (plainly v)
+  unfolding Rightly plainly
+  plain-right v h = h
+
+  refused-right : (status : ℕ) → Rightly (plainly (Refuse status))
+  refused-right status = plain-right (Refuse status) (none status)
+
+  set-throttles : (t : Throttles) → absentZero (t .present) (t .sets) ≡ true → Rightly (record { verdict = Make (SetThrottles 1); tables = record { thermal = replicate 9 0; throttles = t } })
+  unfolding Rightly Makes Right Known changeOk throttlesOk flagOk
+  set-throttles t h = (h, tt)
+
+  set-thermal : (t : List ℕ) → thermalRule t ≡ true → Rightly (record { verdict = Make (SetThermal 1); tables = record { thermal = t; throttles = noThrottles } })
+  unfolding Rightly Makes Right Known changeOk thermalOk flagOk
+  set-thermal t h = (h, tt)
+
+  sets-right : (width : ℕ) (d : List ℕ) (ok : Bool) (j : Judged) → Rightly j → Rightly (setsTested width d (cond (not ok) (plainly (Refuse 0x13)) j))
+  sets-right width d ok j h =
+      cond-elim Rightly (ltb (length d) 3) (refused-right 0x12)
+      (cond-elim Rightly (not (eqb (length d - 3) (getD d 2 0 * width))) (refused-right 0x12)
+      (cond-elim Rightly (not (eqb (getD d 1 0) 0x10)) (refused-right 0x13)
+      (cond-elim Rightly (eqb (getD d 2 0) 0) (refused-right 0x13) (cond-elim Rightly (not ok) (refused-right 0x13) h))))
+
+  throttles-right : (d : List ℕ) → Rightly (throttlesJudged d)
+  unfolding throttlesJudged throttlesFor setsJudged
+  throttles-right d = sets-right 12 d (setsOf (getD d 2 0) emptySets (drop 3 d) .ok) _ (set-throttles _ (sets-formed (getD d 2 0) (drop 3 d) .absent))
+
+  thermal-right : (d : List ℕ) → Rightly (thermalJudged d)
+  unfolding thermalJudged thermalFor frusJudged
+  thermal-right d = sets-right 4 d (frusOf (getD d 2 0) emptyFrus (drop 3 d) .ok) _ (set-thermal _ (frus-formed (getD d 2 0) (drop 3 d) .0))
+
+  configure-right : (state role : ℕ) (d : List ℕ) → Rightly (configureJudged state role d)
+  unfolding configureJudged formatJudged
+  configure-right state role d =
+      cond-elim Rightly (eqb (length d) 0) (refused-right 0x12)
+      (cond-elim Rightly (eqb (getD d 0 0) 0x03) (plain-right _ (role-right state d))
+      (cond-elim Rightly (eqb (getD d 0 0) 0x07) (plain-right _ (caps-right role d))
+      (cond-elim Rightly (eqb (getD d 0 0) 0x12) (throttles-right d)
+      (cond-elim Rightly (eqb (getD d 0 0) 0x13) (thermal-right d) (refused-right 0x13)))))
+
+  -- ---- every command
+
+  judge-right : (w : Worked) (sender kind : ℕ) (d : List ℕ) → Rightly (judgeOf r w next sender kind d)
+  unfolding judgeOf typeJudged
+  judge-right w sender kind d =
+      cond-elim Rightly (not (openTo sender kind)) (refused-right 0x11)
+      (cond-elim Rightly (eqb kind 0x00) (plain-right _ (poll-right d))
+      (cond-elim Rightly (eqb kind 0x12) (plain-right _ (clear-right d))
+      (cond-elim Rightly (eqb kind 0x20) (plain-right _ (state-right w d))
+      (cond-elim Rightly (eqb kind 0x21) (configure-right (r .state) (r .role) d)
+      (cond-elim Rightly (eqb kind 0x22) (plain-right _ (user-right (r .role) (r .received .caps) (r .caps) d))
+      (cond-elim Rightly (eqb kind 0x25) (plain-right _ (reset-right (r .role) d)) (refused-right 0x11)))))))
+
+module _ (r : Record) (w : Worked) (next sender kind : ℕ) (d : List ℕ) (ok : recordOk r next ≡ true) (four : length (r .logs) ≡ 4) where
+  made-right : (ch : Change) → judgeOf r w next sender kind d .verdict ≡ Make ch → Right r next (judgeOf r w next sender kind d .tables) ch
+  unfolding Makes Rightly
+  made-right ch e =
+      subst (λ (v : Verdict). Makes (Right r next (judgeOf r w next sender kind d .tables)) v) e (judge-right r next (sound ok) four w sender kind d)
+
+  -- a change that a command makes has values that a well-formed record could hold
+  pub made-ok : (ch : Change) → judgeOf r w next sender kind d .verdict ≡ Make ch → changeOk (judgeOf r w next sender kind d .tables) ch ≡ true
+  unfolding Right
+  made-ok ch e = made-right ch e .0
+
+  -- "an id not pending is 0x13": a log that is cleared pends, that very log, at its place
+  pub clear-pends : (place : ℕ) (log : Log) → judgeOf r w next sender kind d .verdict ≡ Make (Clear place log) → pendsAt place log (r .logs) ≡ true
+  unfolding Right Known
+  clear-pends place log e = made-right (Clear place log) e .1
+
+  -- a log that a reset makes is drawn from the next id, and there is a place for it
+  pub reset-drawn : (log : Log) → judgeOf r w next sender kind d .verdict ≡ Make (Reset log) → (log .id ≡ 0 → ⊥) → Drawn r next log
+  unfolding Right Known
+  reset-drawn log e = made-right (Reset log) e .1

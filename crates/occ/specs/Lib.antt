@@ -1,0 +1,5 @@
+pub mod Commands
+pub mod Judge
+pub mod Chains
+pub mod Exactly
+pub mod Laws

@@ -1,0 +1,18 @@
+-- `mark_bit` meets its contract: its test is that of `markBit`.
+use mathlib.Core.Path.{refl}
+use native.Mathlib.Omega.{arith}
+use Rattle.wire.specs.Cases.{else-eq, if-eq}
+use Rattle.poll.specs.Poll.{markBit}
+use Rattle.poll.proofs.mark_bit.Statement.{statement}
+use Rattle.poll.proofs.mark_bit.Tie as tie
+
+returns : tie.Need-returns
+unfolding markBit
+returns c = (if-eq _ _ (c .if1 .taken) refl, omega arith)
+
+returns-2 : tie.Need-returns-2
+unfolding markBit
+returns-2 c = (else-eq _ _ (c .if1 .left) refl, omega arith)
+
+pub mark-bit-spec : {M : Type 1} → statement M
+mark-bit-spec = tie.close (tie.spec returns returns-2)

@@ -1,0 +1,3 @@
+pub mod Mailbox
+pub mod Exactly
+pub mod Laws

@@ -1,0 +1,3 @@
+pub mod Powers
+pub mod Stored
+pub mod Loops

@@ -1,1 +1,2 @@
 pub mod Occ
+pub mod Came

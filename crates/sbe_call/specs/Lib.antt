@@ -1,1 +1,2 @@
 pub mod Sbe
+pub mod Came

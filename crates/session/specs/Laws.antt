@@ -1,6 +1,6 @@
 -- A well-formed session by its parts. Assumes nothing.
 use Prim.Native.Nat.{ℕ, _≤_}
-use mathlib.Core.Bool.{Bool, true, false, cond, not, false≢true}
+use mathlib.Core.Bool.{Bool, true, false, cond, not, false≢true, true≢false}
 use mathlib.Core.Path.{_≡_, refl, sym, ap, _∙_}
 use mathlib.Core.List.{List}
 use native.Mathlib.Omega.{arith}
@@ -15,7 +15,12 @@ use Rattle.formed.specs.Formed.{recordOk, nextOk}
 use Rattle.formed.specs.Laws.{both-hold, hold-both, sound, Sound}
 use Rattle.journal.specs.Read.{journalOk}
 use Rattle.session.specs.declared.Session.{Session}
-use Rattle.session.specs.Session.{workedFits, heldOk, storeOk, wellFormed}
+use Rattle.change.specs.Change.{inverseOf}
+use Rattle.change.specs.declared.Edit.{Edit}
+use Rattle.journal.specs.Add.{endOf}
+use Rattle.journal.specs.declared.End.{End}
+use Rattle.journal.specs.declared.End.the-variants.{At, Full}
+use Rattle.session.specs.Session.{workedFits, heldOk, storeOk, wellFormed, withHeld, carriedTo, carriedOf}
 
 -- a first test that must not hold, and the rest
 ltb-hold : (m n : ℕ) (b : Bool) → cond (ltb m n) false b ≡ true → (n ≤ m) × (b ≡ true)
@@ -71,3 +76,12 @@ formed-ok s f =
 pub formed-next : (s : Session) → wellFormed s ≡ true → s .next ≤ 256
 unfolding nextOk
 formed-next s h = leb-true (s .next) 256 (ltb-hold (s .next) 1 _ (sound (formed s h .record-ok) .next) .1)
+
+-- after carrying out, what is worked out is the new record's
+pub carried-worked : (s : Session) (e : Edit) → carriedOf s e .full ≡ false → carriedOf s e .session .worked ≡ workedOf (carriedOf s e .session .held)
+unfolding carriedOf carriedTo withHeld
+carried-worked s e f = go (endOf (length (s .journal)) (s .used) (inverseOf (s .held) e)) f
+  where
+    go : (x : End) → carriedTo s e x .full ≡ false → carriedTo s e x .session .worked ≡ workedOf (carriedTo s e x .session .held)
+    go (At used) f = refl
+    go Full f = absurd (true≢false f)

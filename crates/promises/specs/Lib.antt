@@ -1,0 +1,5 @@
+pub mod Calls
+pub mod ComputedSession
+pub mod ComputedOcc
+pub mod ComputedSbe
+pub mod Examples

@@ -1,0 +1,1 @@
+// What the stand-in promises, over the definitions that the public contracts cite: no code.

@@ -3,3 +3,4 @@ pub mod ComputedSession
 pub mod ComputedOcc
 pub mod ComputedSbe
 pub mod Examples
+pub mod History

@@ -1,0 +1,42 @@
+-- Document 01, "What the stand-in holds": what the types of the fields say of a record and of a session. Assumes nothing.
+use Prim.Native.Nat.{ℕ, _<_, _^_}
+use mathlib.Core.Path.{_≡_, refl}
+use native.Mathlib.Omega.{arith}
+use lib.ListN.{length, length-replicate}
+use Rattle.record.specs.Record.{freshRecord}
+use Rattle.record.specs.declared.Record.{Record}
+use Rattle.journal.specs.Laws.{CapsFit, AreaFits}
+use Rattle.session.specs.declared.Session.{Session}
+
+pub record TypedRecord (r : Record) : Type 0 where
+  pub logs : length (r .logs) ≡ 4
+  pub thermal : length (r .thermal) ≡ 9
+  pub sets : length (r .throttles .sets) ≡ 160
+  pub present : r .throttles .present < 256 ^ 2
+  pub caps : CapsFit (r .caps)
+  pub user : r .user < 256 ^ 2
+  pub mask : r .mask < 256 ^ 4
+  pub time : r .deadman .time < 256 ^ 8
+  pub ffdc : AreaFits (r .areas .ffdc)
+  pub pass : AreaFits (r .areas .pass)
+
+pub record TypedSession (s : Session) : Type 0 where
+  pub held : TypedRecord (s .held)
+  pub journal : length (s .journal) ≡ 2048
+  pub next : s .next < 65536
+  pub used : s .used < 65536
+
+pub typed-fresh : TypedRecord freshRecord
+unfolding freshRecord
+typed-fresh = record {
+  logs = refl;
+  thermal = refl;
+  sets = refl;
+  present = omega arith;
+  caps = record { min = omega arith; max = omega arith; over = omega arith };
+  user = omega arith;
+  mask = omega arith;
+  time = omega arith;
+  ffdc = record { address = omega arith; size = omega arith };
+  pass = record { address = omega arith; size = omega arith };
+}

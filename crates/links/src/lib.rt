@@ -1,0 +1,14 @@
+// Every value of the types of a record and of a session has what those types say.
+ghost use Rattle.links.specs.Typed.{TypedRecord, TypedSession};
+use record::Record;
+use session::Session;
+
+pub fn typed_record(r: Record)
+    ensures { λ _. ⌜ TypedRecord r ⌝ }
+{}
+
+pub fn typed_session(s: Session)
+    ensures { λ _. ⌜ TypedSession s ⌝ }
+{
+    typed_record(s.held);
+}

@@ -23,6 +23,7 @@ module _ (e : Edit) (w : Writable (e .tables) (e .change)) where
   body-says : _≡_ {A = Got} (record { found = foundFor (kindOf (e .change)) (bodyOf (e .tables) (e .change)); tables = tablesIn (kindOf (e .change)) (bodyOf (e .tables) (e .change)) }) whole
   body-says = λ i. record { found = found-body (e .tables) (e .change) w i; tables = tables-body (e .tables) (e .change) w i }
 
+  -- its bytes are read as that
   pub entry-got : gotOf (entryBytes e) ≡ record { found = Good (e .change); tables = e .tables }
   unfolding gotOf gotFor entryBytes entryFor bytesOf
   entry-got =
@@ -32,6 +33,7 @@ module _ (e : Edit) (w : Writable (e .tables) (e .change)) where
       sym (else-eq badGot _ {m = suc n} {n = 0} some (else-ne badGot _ {m = suc n - 1} {n = bodyLen (kindOf (e .change))} fits refl))
       ∙ body-says
 
+  -- its values pass, if the change's do
   pub entry-ok : editOk e ≡ true → entryOk (entryFor e) ≡ true
   unfolding entryOk entryFor editOk valuesOk gotOk
   entry-ok ok = ap gotOk body-says ∙ ok

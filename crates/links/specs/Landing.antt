@@ -1,31 +1,29 @@
 -- Where a change lands: the record after it is well formed, and what was before leads back. Assumes nothing.
-use Prim.Native.Nat.{ℕ, suc, _+_, _-_, _≤_, _<_}
-use mathlib.Core.Bool.{Bool, true, false, cond, not}
+use Prim.Native.Nat.{ℕ, suc, _+_, _≤_, _<_}
+use mathlib.Core.Bool.{true, not}
 use mathlib.Core.Path.{_≡_, refl, sym, ap, subst, _∙_}
 use mathlib.Core.List.{List}
 use mathlib.Core.Logic.{⊎-elim}
 use native.Mathlib.Nat.{add-zero}
 use native.Mathlib.Omega.{arith}
-use borrow.Author.Tests.{le-leb, ltb-false}
-use lib.Dec.{ltb, leb}
-use lib.ListN.{length}
+use borrow.Author.Tests.{le-leb}
 use Rattle.wire.specs.Cases.{else-b, else-lt, else-le, else-eq}
 use Rattle.record.specs.Record.{noLog}
 use Rattle.record.specs.declared.Log.{Log}
 use Rattle.record.specs.declared.Record.{Record}
 use Rattle.change.specs.Logs.{pendingOf, removeAt, insertAt, pendsAt}
 use Rattle.change.specs.With.{withState, withRole, withCaps, withThrottles, withUser, withThermal, withLogs, withMask, withDeadman, withAreas}
-use Rattle.change.specs.Change.{accepted, refused, clearOf, unclearOf, resetOf, unresetOf, putWith, backOf, kindOf, tablesFor, madeBy}
+use Rattle.change.specs.Change.{accepted, clearOf, unclearOf, resetOf, unresetOf, putWith, backOf, kindOf, tablesFor, madeBy}
 use Rattle.change.specs.declared.Change.{Change}
 use Rattle.change.specs.declared.Change.the-variants.{Clear, Unclear, SetState, SetRole, SetCaps, SetUser, SetThermal, SetThrottles, Reset, Unreset, SetMask, SetDeadman, SetAreas}
 use Rattle.change.specs.declared.Tables.{Tables}
 use Rattle.change.specs.declared.Changed.{Changed}
-use Rattle.formed.specs.Formed.{stateOk, nextOk, changeOk, recordOk, logsOk}
-use Rattle.formed.specs.Laws.{Sound, sound, sound-ok, logs-next-up, logs-snoc, logs-remove}
+use Rattle.formed.specs.Formed.{stateOk, nextOk, changeOk, logsOk}
+use Rattle.formed.specs.Laws.{Sound, logs-snoc, logs-remove}
 use Rattle.session.specs.Session.{madeOf}
 use Rattle.links.specs.Typed.{TypedRecord}
-use Rattle.links.specs.Logs.{passed, Used, Pends, pends, length-removed, place-pends, pending-length, pending-removed, insert-removed, length-inserted, pending-inserted, remove-inserted}
-use Rattle.links.specs.Made.{Values, NewLog, Made}
+use Rattle.links.specs.Logs.{Used, pending-length, Removed, removed, Inserted, inserted}
+use Rattle.links.specs.Made.{NewLog, Made}
 
 -- ---- what a clear, a reset and their ways back make of a record, where they are accepted
 
@@ -47,80 +45,81 @@ unreset-puts r state made q m e =
     sym (else-eq _ _ {m = made} {n = 0} (λ z. omega arith) (else-eq _ _ {m = pendingOf (r .logs)} {n = 0} (λ z. omega arith) refl))
     ∙ ap (λ (k : ℕ). accepted (withLogs (withState r state) (removeAt k (r .logs)))) (omega arith)
 
-made-one : (x : Log) → Used x → madeBy x ≡ 1
+made-by-used : (x : Log) → Used x → madeBy x ≡ 1
 unfolding madeBy
-made-one x u = sym (else-eq _ _ u refl)
+made-by-used x u = sym (else-eq _ _ u refl)
 
--- ---- the next id
-
-next-ok : (n : ℕ) → 1 ≤ n → n ≤ 256 → nextOk n ≡ true
+pub next-ok : (n : ℕ) → 1 ≤ n → n ≤ 256 → nextOk n ≡ true
 unfolding nextOk
 next-ok n low high = sym (else-lt _ _ low (sym (le-leb n 256 high)))
 
-next-low : (n : ℕ) → nextOk n ≡ true → 1 ≤ n
-unfolding nextOk
-next-low n h = ltb-false n 1 (passed (ltb n 1) (leb n 256) h .0)
-
--- a higher next id keeps a record well formed
-pub next-up : (r : Record) (n m : ℕ) → recordOk r n ≡ true → n ≤ m → m ≤ 256 → recordOk r m ≡ true
-next-up r n m ok up high =
-    let s = sound ok in
-    let next : nextOk m ≡ true = next-ok m (omega (arith, next-low n (s .next))) high in
-    let logs : logsOk m (r .logs) ≡ true = logs-next-up n (r .logs) (s .logs) m up in
-    sound-ok (search (s, next, logs))
-
 -- ---- each change
 
+-- p, the change ch put into r: accepted, well formed with the ids that it draws, and what was before leads back
 pub record Landing (r : Record) (n : ℕ) (ch : Change) (p : Changed) : Type 0 where
   pub ok : p .ok ≡ true
-  pub whole : Sound (p .after) (n + madeOf ch)
+  pub sound : Sound (p .after) (n + madeOf ch)
   pub typed : TypedRecord (p .after)
   pub back : putWith (p .after) (tablesFor (kindOf ch) r) (backOf r ch) ≡ accepted r
 
 landed : {r : Record} {n : ℕ} {ch : Change} (x : Record) → Sound x (n + madeOf ch) → TypedRecord x → putWith x (tablesFor (kindOf ch) r) (backOf r ch) ≡ accepted r → Landing r n ch (accepted x)
 unfolding accepted
-landed x s y b = record { ok = refl; whole = s; typed = y; back = b }
+landed x s y b = record { ok = refl; sound = s; typed = y; back = b }
 
 still : {r : Record} {n : ℕ} → Sound r n → Sound r (n + 0)
 still {n = n} s = rw (add-zero n) s
 
 module _ (r : Record) (n : ℕ) (s : Sound r n) (y : TypedRecord r) where
+  -- a cleared log goes back to its place
+  clear-back : (p : ℕ) (x : Log) → Removed p x (r .logs) → unclearOf (withLogs r (removeAt p (r .logs))) p x ≡ accepted r
+  unfolding withLogs
+  clear-back p x out =
+      unclear-puts (withLogs r (removeAt p (r .logs))) p x (omega arith) (omega (arith, pending-length (r .logs)))
+      ∙ ap (λ (l : List Log). accepted (withLogs r l)) (out .insert-removed)
+
   clear-lands : (p : ℕ) (x : Log) → pendsAt p x (r .logs) ≡ true → Landing r n (Clear p x) (clearOf r p x)
   unfolding madeOf putWith backOf withLogs
   clear-lands p x h =
-      let here = pends p x (r .logs) h in
-      let l : List Log = removeAt p (r .logs) in
-      let ok : logsOk n l ≡ true = logs-remove n (r .logs) (s .logs) p in
-      let four : length l ≡ 4 = length-removed n (r .logs) (s .logs) (y .logs) p x here in
-      let count : suc (pendingOf l) ≡ pendingOf (r .logs) = pending-removed n (r .logs) (s .logs) (y .logs) p x here in
-      let place : p < pendingOf (r .logs) = place-pends n (r .logs) (s .logs) (y .logs) p x here in
-      let back : putWith (withLogs r l) (tablesFor 1 r) (Unclear p x) ≡ accepted r =
-          unclear-puts (withLogs r l) p x (omega arith) (omega (arith, pending-length (r .logs), y .logs))
-          ∙ ap (λ (k : List Log). accepted (withLogs r k)) (insert-removed n (r .logs) (s .logs) (y .logs) p x here) in
-      subst (Landing r n (Clear p x)) (sym (clear-puts r p x h)) (landed (withLogs r l) (still (search (s, ok))) (search (y, four)) back)
+      let out = removed n (r .logs) (s .logs) (y .logs) p x h in
+      let ok : logsOk n (removeAt p (r .logs)) ≡ true = logs-remove n (r .logs) (s .logs) p in
+      subst (Landing r n (Clear p x)) (sym (clear-puts r p x h)) (landed _ (still (search (s, ok))) (search (y, out)) (clear-back p x out))
 
+  -- a reset without a log
   plain-lands : Landing r n (Reset noLog) (resetOf r noLog)
-  unfolding madeOf madeBy putWith backOf resetOf unresetOf withState stateOk accepted
-  plain-lands = let ok : stateOk 1 ≡ true = refl in landed (withState r 1) (still (search (s, ok))) (search y) refl
+  unfolding madeOf madeBy putWith backOf resetOf unresetOf withState stateOk
+  plain-lands = let state : stateOk 1 ≡ true = refl in landed _ (still (search (s, state))) (search y) refl
 
-  reset-lands : (x : Log) → NewLog r n x → Landing r n (Reset x) (resetOf r x)
-  unfolding madeOf putWith backOf withLogs withState stateOk
-  reset-lands x new =
-      let used : Used x = λ z. omega arith in
-      let made = made-one x used in
-      let l : List Log = insertAt (pendingOf (r .logs)) x (r .logs) in
-      let state : stateOk 1 ≡ true = refl in
-      let next : nextOk (n + madeBy x) ≡ true = next-ok (n + madeBy x) (omega arith) (omega arith) in
-      let snoc : logsOk (n + 1) l ≡ true =
-          subst (λ (i : ℕ). logsOk (n + 1) (insertAt (pendingOf (r .logs)) (record { id = i; reason = x .reason }) (r .logs)) ≡ true) (sym (new .id))
-          (logs-snoc n (r .logs) (s .logs) (x .reason) (new .reason) (new .low) (y .logs) (new .room)) in
-      let ok : logsOk (n + madeBy x) l ≡ true = ap (λ (k : ℕ). logsOk (n + k) l) made ∙ snoc in
-      let four : length l ≡ 4 = length-inserted n (r .logs) (s .logs) (y .logs) x used (new .room) in
-      let back : unresetOf (withLogs (withState r 1) l) (r .state) (madeBy x) ≡ accepted r =
-          unreset-puts (withLogs (withState r 1) l) (r .state) (madeBy x) (pendingOf (r .logs)) made (pending-inserted n (r .logs) (s .logs) (y .logs) x used (new .room))
-          ∙ ap (λ (k : List Log). accepted (withLogs r k)) (remove-inserted n (r .logs) (s .logs) (y .logs) x used (new .room)) in
-      subst (Landing r n (Reset x)) (sym (reset-puts r x used (new .room)))
-      (landed (withLogs (withState r 1) l) (search (s, state, next, ok)) (search (y, four)) back)
+  -- a reset with a log, which draws the next id
+  module _ (x : Log) (new : NewLog r n x) where
+    abbrev more : List Log
+    more = insertAt (pendingOf (r .logs)) x (r .logs)
+
+    used : Used x
+    used z = omega arith
+
+    into : Inserted x (r .logs)
+    into = inserted n (r .logs) (s .logs) (y .logs) x used (new .room)
+
+    more-ok : logsOk (n + madeBy x) more ≡ true
+    more-ok =
+        ap (λ (k : ℕ). logsOk (n + k) more) (made-by-used x used)
+        ∙ ap (λ (i : ℕ). logsOk (n + 1) (insertAt (pendingOf (r .logs)) (record { id = i; reason = x .reason }) (r .logs))) (new .id)
+        ∙ logs-snoc n (r .logs) (s .logs) (x .reason) (new .reason) (new .low) (y .logs) (new .room)
+
+    -- the log that pends last is taken out again
+    reset-back : unresetOf (withLogs (withState r 1) more) (r .state) (madeBy x) ≡ accepted r
+    unfolding withLogs withState
+    reset-back =
+        unreset-puts (withLogs (withState r 1) more) (r .state) (madeBy x) (pendingOf (r .logs)) (made-by-used x used) (into .pending-inserted)
+        ∙ ap (λ (l : List Log). accepted (withLogs r l)) (into .remove-inserted)
+
+    reset-lands : Landing r n (Reset x) (resetOf r x)
+    unfolding madeOf putWith backOf withLogs withState stateOk
+    reset-lands =
+        let state : stateOk 1 ≡ true = refl in
+        let next : nextOk (n + madeBy x) ≡ true = next-ok (n + madeBy x) (omega arith) (omega (arith, made-by-used x used)) in
+        subst (Landing r n (Reset x)) (sym (reset-puts r x used (new .room)))
+        (landed _ (search (s, state, next, more-ok)) (search (y, into)) reset-back)
 
   pub lands : (t : Tables) (ch : Change) → Made r n t ch → Landing r n ch (putWith r t ch)
   unfolding putWith madeOf tablesFor kindOf backOf changeOk withState withRole withCaps withThrottles withUser withThermal withMask withDeadman withAreas

@@ -1,9 +1,11 @@
 -- Each change that a command makes is undone by its entry. Assumes nothing.
-use Prim.Native.Nat.{ℕ, _+_}
+use Prim.Native.Nat.{ℕ, _+_, _≤_}
 use mathlib.Core.Bool.{true}
 use mathlib.Core.Path.{_≡_, refl, sym, subst}
 use mathlib.Core.Logic.{⊎-elim}
 use native.Mathlib.Omega.{arith}
+use borrow.Author.Tests.{ltb-false}
+use lib.Dec.{ltb, leb}
 use Rattle.wire.specs.Cases.{else-eq}
 use Rattle.record.specs.declared.Log.{Log}
 use Rattle.record.specs.declared.Record.{Record}
@@ -12,17 +14,31 @@ use Rattle.change.specs.declared.Change.{Change}
 use Rattle.change.specs.declared.Change.the-variants.{Clear, Unclear, SetState, SetRole, SetCaps, SetUser, SetThermal, SetThrottles, Reset, Unreset, SetMask, SetDeadman, SetAreas}
 use Rattle.change.specs.declared.Tables.{Tables}
 use Rattle.change.specs.declared.Edit.{Edit}
-use Rattle.formed.specs.Formed.{madeOk, changeOk, recordOk, editOk}
-use Rattle.formed.specs.Laws.{Sound, sound, sound-ok, pends-cleared, inverse-ok}
+use Rattle.formed.specs.Formed.{nextOk, logsOk, madeOk, changeOk, recordOk, editOk}
+use Rattle.formed.specs.Laws.{Sound, sound, sound-ok, logs-next-up, pends-cleared, inverse-ok}
 use Rattle.journal.specs.Bytes.{entryFor, entryBytes}
 use Rattle.journal.specs.Read.{gotOf, entryOk}
 use Rattle.journal.specs.Laws.{Writable}
 use Rattle.journal.specs.declared.Found.the-variants.{Good}
 use Rattle.session.specs.Session.{madeOf}
 use Rattle.links.specs.Typed.{TypedRecord}
+use Rattle.links.specs.Logs.{passed}
 use Rattle.links.specs.Made.{NewLog, Made}
-use Rattle.links.specs.Landing.{lands}
+use Rattle.links.specs.Landing.{next-ok, lands}
 use Rattle.links.specs.Entry.{entry-got, entry-ok}
+
+-- ---- a higher next id keeps a record well formed
+
+next-low : (n : ℕ) → nextOk n ≡ true → 1 ≤ n
+unfolding nextOk
+next-low n h = ltb-false n 1 (passed (ltb n 1) (leb n 256) h .0)
+
+pub next-up : (r : Record) (n m : ℕ) → recordOk r n ≡ true → n ≤ m → m ≤ 256 → recordOk r m ≡ true
+next-up r n m ok up high =
+    let s = sound ok in
+    let next : nextOk m ≡ true = next-ok m (omega (arith, next-low n (s .next))) high in
+    let logs : logsOk m (r .logs) ≡ true = logs-next-up n (r .logs) (s .logs) m up in
+    sound-ok (search (s, next, logs))
 
 -- ---- the change and what takes it back
 
@@ -103,7 +119,7 @@ link r n e ok y m =
     let good : editOk (inverseOf r e) ≡ true = inverse-ok r n e s (made-ok r n (e .tables) (e .change) s m) in
     record {
       put-accepted = l .ok;
-      put-sound = sound-ok (l .whole);
+      put-sound = sound-ok (l .sound);
       put-typed = l .typed;
       back-writable = back;
       back-ok = good;

@@ -1,15 +1,15 @@
 -- Pending logs: a log taken out and put in again, and one put last and taken out again, leave the four places as they were. Assumes nothing.
-use Prim.Native.Nat.{ℕ, zero, suc, _+_, _-_, _≤_, _<_}
-use mathlib.Core.Bool.{Bool, true, false, cond, not}
-use mathlib.Core.Path.{_≡_, refl, sym, ap, subst, _∙_}
+use Prim.Native.Nat.{ℕ, zero, suc, _≤_, _<_}
+use mathlib.Core.Bool.{Bool, true, false, cond}
+use mathlib.Core.Path.{_≡_, refl, sym, ap, _∙_}
 use mathlib.Core.List.{List, [], _∷_, _++_}
 use native.Mathlib.Nat.{not-suc-le-zero, le-of-suc-le-suc}
 use native.Mathlib.Omega.{arith}
 use borrow.Author.Tests.{eqb-true, eqb-false, ltb-false}
 use lib.Dec.{ltb, eqb}
-use lib.ListN.{length, getD, take, drop, length-append, length-take, length-drop}
+use lib.ListN.{length, getD, take, drop, length-append, length-take}
 use lib.Seq.{take-append-seam}
-use Rattle.wire.specs.Cases.{if-lt, if-eq, else-b, else-eq, cond-elim}
+use Rattle.wire.specs.Cases.{if-lt, if-eq, else-eq, cond-elim}
 use Rattle.record.specs.Record.{noLog}
 use Rattle.record.specs.declared.Log.{Log}
 use Rattle.change.specs.Logs.{pendingOf, removeAt, insertAt, pendsAt}
@@ -128,12 +128,12 @@ passed false b h = (refl, h)
 passed true b h = (cc, cc)
 
 -- the place is one of four, and holds that log, which is used
-pub record Pends (p : ℕ) (x : Log) (l : List Log) : Type 0 where
-  pub place : p < 4
-  pub used : Used x
-  pub is : getD l p noLog ≡ x
+record Pends (p : ℕ) (x : Log) (l : List Log) : Type 0 where
+  place : p < 4
+  used : Used x
+  there : getD l p noLog ≡ x
 
-pub pends : (p : ℕ) (x : Log) (l : List Log) → pendsAt p x l ≡ true → Pends p x l
+pends : (p : ℕ) (x : Log) (l : List Log) → pendsAt p x l ≡ true → Pends p x l
 unfolding pendsAt
 pends p x l h =
     let place = passed (ltb 3 p) _ h in
@@ -141,7 +141,7 @@ pends p x l h =
     let same = both-hold (eqb (getD l p noLog .id) (x .id)) _ (id .1) in
     let i = eqb-true (getD l p noLog .id) (x .id) (same .0) in
     let w = eqb-true (getD l p noLog .reason) (x .reason) (same .1) in
-    record { place = omega (arith, ltb-false 3 p (place .0)); used = eqb-false (x .id) 0 (id .0); is = λ k. record { id = i k; reason = w k } }
+    record { place = omega (arith, ltb-false 3 p (place .0)); used = eqb-false (x .id) 0 (id .0); there = λ k. record { id = i k; reason = w k } }
 
 -- ---- in the four places of a record
 
@@ -153,42 +153,49 @@ into-at : (n p : ℕ) (x : Log) (l : List Log) → n ≡ 4 → p < 4 → insertA
 unfolding insertAt
 into-at n p x l four h = sym (if-lt _ _ h (ap (λ (m : ℕ). into m p x l) four))
 
+-- "0x12 clear log", and "re-inserts a cleared log at its place"
+pub record Removed (p : ℕ) (x : Log) (l : List Log) : Type 0 where
+  pub place-pends : p < pendingOf l
+  pub length-removed : length (removeAt p l) ≡ 4
+  pub pending-removed : suc (pendingOf (removeAt p l)) ≡ pendingOf l
+  pub insert-removed : insertAt p x (removeAt p l) ≡ l
+
+-- "0x25 reset prep", and "removes the log a reset made (the last pending)"
+pub record Inserted (x : Log) (l : List Log) : Type 0 where
+  pub length-inserted : length (insertAt (pendingOf l) x l) ≡ 4
+  pub pending-inserted : pendingOf (insertAt (pendingOf l) x l) ≡ suc (pendingOf l)
+  pub remove-inserted : removeAt (pendingOf l) (insertAt (pendingOf l) x l) ≡ l
+
 module _ (next : ℕ) (l : List Log) (ok : logsOk next l ≡ true) (four : length l ≡ 4) where
-  module _ (p : ℕ) (x : Log) (here : Pends p x l) where
-    inside : p < length l
-    inside = omega arith
+  -- a log that pends leaves its place
+  pub removed : (p : ℕ) (x : Log) → pendsAt p x l ≡ true → Removed p x l
+  removed p x h =
+      let here = pends p x l h in
+      let inside : p < length l = omega arith in
+      let is : removeAt p l ≡ out p l = out-at p l (here .place) in
+      let used : Used (getD l p noLog) = λ e. here .used (sym (ap (λ (y : Log). y .id) (here .there)) ∙ e) in
+      let below = used-below p (pendingOf l) l (logs-used next l ok) used in
+      record {
+        place-pends = below;
+        length-removed = ap length is ∙ length-out p l inside ∙ four;
+        pending-removed = ap (λ (k : List Log). suc (pendingOf k)) is ∙ pending-out p l below;
+        insert-removed =
+            ap (insertAt p x) is
+            ∙ into-at (length l) p x (out p l) four (here .place)
+            ∙ ap (λ (y : Log). into (length l) p y (out p l)) (sym (here .there))
+            ∙ out-into p l inside;
+      }
 
-    pub length-removed : length (removeAt p l) ≡ 4
-    length-removed = ap length (out-at p l (here .place)) ∙ length-out p l inside ∙ four
-
-    pub place-pends : p < pendingOf l
-    place-pends = used-below p (pendingOf l) l (logs-used next l ok) (λ e. here .used (sym (ap (λ (y : Log). y .id) (here .is)) ∙ e))
-
-    pub pending-removed : suc (pendingOf (removeAt p l)) ≡ pendingOf l
-    pending-removed = ap (λ (k : List Log). suc (pendingOf k)) (out-at p l (here .place)) ∙ pending-out p l place-pends
-
-    pub insert-removed : insertAt p x (removeAt p l) ≡ l
-    insert-removed =
-        ap (insertAt p x) (out-at p l (here .place))
-        ∙ into-at (length l) p x (out p l) four (here .place)
-        ∙ ap (λ (y : Log). into (length l) p y (out p l)) (sym (here .is))
-        ∙ out-into p l inside
-
-  module _ (x : Log) (used : Used x) (room : pendingOf l < 4) where
-    fits : pendingOf l < length l
-    fits = omega arith
-
-    inserted : insertAt (pendingOf l) x l ≡ into (length l) (pendingOf l) x l
-    inserted = into-at (length l) (pendingOf l) x l four room
-
-    pub length-inserted : length (insertAt (pendingOf l) x l) ≡ 4
-    length-inserted = ap length inserted ∙ length-into (pendingOf l) x l fits ∙ four
-
-    pub pending-inserted : pendingOf (insertAt (pendingOf l) x l) ≡ suc (pendingOf l)
-    pending-inserted = ap pendingOf inserted ∙ pending-into (pendingOf l) x l used refl fits
-
-    pub remove-inserted : removeAt (pendingOf l) (insertAt (pendingOf l) x l) ≡ l
-    remove-inserted =
-        ap (removeAt (pendingOf l)) inserted
-        ∙ out-at (pendingOf l) (into (length l) (pendingOf l) x l) room
-        ∙ into-out (pendingOf l) x l fits (logs-used next l ok)
+  -- a log is put last, where fewer than four pend
+  pub inserted : (x : Log) → Used x → pendingOf l < 4 → Inserted x l
+  inserted x used room =
+      let inside : pendingOf l < length l = omega arith in
+      let is : insertAt (pendingOf l) x l ≡ into (length l) (pendingOf l) x l = into-at (length l) (pendingOf l) x l four room in
+      record {
+        length-inserted = ap length is ∙ length-into (pendingOf l) x l inside ∙ four;
+        pending-inserted = ap pendingOf is ∙ pending-into (pendingOf l) x l used refl inside;
+        remove-inserted =
+            ap (removeAt (pendingOf l)) is
+            ∙ out-at (pendingOf l) (into (length l) (pendingOf l) x l) room
+            ∙ into-out (pendingOf l) x l inside (logs-used next l ok);
+      }

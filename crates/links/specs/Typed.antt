@@ -1,13 +1,14 @@
 -- Document 01, "What the stand-in holds": what the types of the fields say of a record and of a session. Assumes nothing.
-use Prim.Native.Nat.{ℕ, _<_, _^_}
+use Prim.Native.Nat.{_<_, _^_}
 use mathlib.Core.Path.{_≡_, refl}
 use native.Mathlib.Omega.{arith}
-use lib.ListN.{length, length-replicate}
+use lib.ListN.{length}
 use Rattle.record.specs.Record.{freshRecord}
 use Rattle.record.specs.declared.Record.{Record}
 use Rattle.journal.specs.Laws.{CapsFit, AreaFits}
 use Rattle.session.specs.declared.Session.{Session}
 
+-- lengths of tables, and widths of numbers of several bytes; no law here needs that a single byte is below 256
 pub record TypedRecord (r : Record) : Type 0 where
   pub logs : length (r .logs) ≡ 4
   pub thermal : length (r .thermal) ≡ 9
@@ -20,12 +21,14 @@ pub record TypedRecord (r : Record) : Type 0 where
   pub ffdc : AreaFits (r .areas .ffdc)
   pub pass : AreaFits (r .areas .pass)
 
+-- "a journal of 2,048 bytes .. with its used length"
 pub record TypedSession (s : Session) : Type 0 where
   pub held : TypedRecord (s .held)
   pub journal : length (s .journal) ≡ 2048
   pub next : s .next < 65536
   pub used : s .used < 65536
 
+-- "Fresh record"
 pub typed-fresh : TypedRecord freshRecord
 unfolding freshRecord
 typed-fresh = record {

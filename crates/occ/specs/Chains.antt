@@ -2,7 +2,7 @@
 use Prim.Native.Nat.{ℕ, _<_, _≤_}
 use mathlib.Core.Bool.{Bool, true, false, cond, not, false≢true, true≢false}
 use mathlib.Core.Path.{_≡_, refl, sym, ap, _∙_}
-use mathlib.Core.Logic.{_↔_, _⊎_, inl, inr, ⊎-elim}
+use mathlib.Core.Logic.{_↔_, Iff·trans, _⊎_, inl, inr, ⊎-elim}
 use native.Mathlib.Omega.{arith}
 use borrow.Author.Tests.{ltb-false, leb-true, leb-false, eqb-true, eqb-false, not-false, le-ltb, le-leb, lt-leb, eq-eqb, ne-eqb}
 use lib.Dec.{ltb, leb, eqb}
@@ -67,10 +67,31 @@ module _ {A : Type 0} (accepts : A → Bool) {x y : A} {P : Type 0} where
   or-else {t = true} e p q = (λ h. inl (p .0 refl), λ h. e)
   or-else {t = false} e p q = (λ h. inr (q .0 h), λ h. ⊎-elim (λ k. absurd (false≢true (p .1 k))) (λ k. q .1 k) h)
 
--- what holds of a refusal, and of the rest under its condition, holds of the chain
-pub passing : {A : Type 0} (W : A → Type 0) {x y : A} {t : Bool} {C : Type 0} → W x → (t ≡ false) ↔ C → (C → W y) → W (cond t x y)
-passing W {t = true} w p h = w
-passing W {t = false} w p h = h (p .0 refl)
+-- ---- a chain with its end: v accepts exactly when P, and then v is z
+
+pub record Ends {A : Type 0} (accepts : A → Bool) (v : A) (P : Type 0) (z : A) : Type 0 where
+  pub exactly : (accepts v ≡ true) ↔ P
+  pub is : accepts v ≡ true → v ≡ z
+
+module _ {A : Type 0} (accepts : A → Bool) {P : Type 0} where
+  pub ends-unless : {Q : Type 0} {x y z : A} {t : Bool} → accepts x ≡ false
+      → (t ≡ false) ↔ P → Ends accepts y Q z → Ends accepts (cond t x y) (P and Q) z
+  ends-unless {t = true} e p q = record { exactly = unless accepts e p (q .exactly); is = λ h. absurd (false≢true (sym e ∙ h)) }
+  ends-unless {t = false} e p q = record { exactly = unless accepts e p (q .exactly); is = q .is }
+
+  pub ends-if-needed : {Q : Type 0} {x y z : A} {b : Bool} → accepts x ≡ true → (b ≡ true) ↔ P
+      → Ends accepts y Q z → Ends accepts (cond (not b) x y) (P → Q) (cond (not b) x z)
+  ends-if-needed {b = true} e p q = record { exactly = if-needed accepts e p (q .exactly); is = q .is }
+  ends-if-needed {b = false} e p q = record { exactly = if-needed accepts e p (q .exactly); is = λ h. refl }
+
+  -- the same conditions in other words
+  pub ends-when : {Q : Type 0} {y z : A} → P ↔ Q → Ends accepts y P z → Ends accepts y Q z
+  ends-when e p = record { exactly = Iff·trans (p .exactly) e; is = p .is }
+
+  -- the last test
+  pub ends-last : {x y : A} {t : Bool} → accepts x ≡ false → (t ≡ false) ↔ P → accepts y ≡ true → Ends accepts (cond t x y) P y
+  ends-last {t = true} e p q = record { exactly = unless-last accepts e p q; is = λ h. absurd (false≢true (sym e ∙ h)) }
+  ends-last {t = false} e p q = record { exactly = unless-last accepts e p q; is = λ h. refl }
 
 -- ---- conditions that single numbers bring
 
@@ -111,7 +132,8 @@ module _ {A : Type 0} (accepts : A → Bool) (m : ℕ) where
       isn't t = (λ h. absurd (false≢true (sym e ∙ h)), λ h. absurd (eqb-false m n t (h .0)))
 
   -- a number below those that follow
-  pub or-case : (n : ℕ) {low : ℕ} {x y : A} {P Q : Type 0} → n < low → (accepts x ≡ true) ↔ P → Cases low y Q → Cases n (cond (eqb m n) x y) (((m ≡ n) and P) ⊎ Q)
+  pub or-case : (n : ℕ) {low : ℕ} {x y : A} {P Q : Type 0} → n < low → (accepts x ≡ true) ↔ P
+      → Cases low y Q → Cases n (cond (eqb m n) x y) (((m ≡ n) and P) ⊎ Q)
   or-case n {low} {x} {y} {P} {Q} l p q = record { exactly = by-test Exactly (eqb m n) is isn't; above = ⊎-elim (λ h. let k = h .0 in omega arith) (λ h. let k = q .above h in omega arith) }
     where
       Exactly : A → Type 0

@@ -1,8 +1,8 @@
 -- Document 01, "OCC packets": the commands that hold a few numbers, judged in the order 0x12, 0x13, 0x16, 0x15. d is the data.
-use Prim.Native.Nat.{ℕ, zero, suc, _+_, _-_, _*_, _/_, _%_, _^_}
+use Prim.Native.Nat.{ℕ}
 use mathlib.Core.Bool.{Bool, true, false, cond, not}
-use mathlib.Core.List.{List, [], _∷_, _++_}
-use lib.ListN.{length, getD, take, drop, replicate}
+use mathlib.Core.List.{List}
+use lib.ListN.{length, getD, take, drop}
 use lib.Dec.{ltb, leb, eqb}
 use Rattle.wire.specs.Wire.{beNat}
 use Rattle.record.specs.Record.{noLog}

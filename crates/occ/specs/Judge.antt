@@ -1,9 +1,9 @@
 -- Document 01, "OCC packets": a whole packet judged. After 0x12 and 0x14 of the packet come 0x11, 0x12, 0x13, 0x16, 0x15.
-use Prim.Native.Nat.{ℕ, zero, suc, _+_, _-_, _*_, _/_, _%_, _^_}
-use mathlib.Core.Bool.{Bool, true, false, cond, not}
-use mathlib.Core.List.{List, [], _∷_, _++_}
-use lib.ListN.{length, getD, take, drop, replicate}
-use lib.Dec.{ltb, leb, eqb}
+use Prim.Native.Nat.{ℕ, _-_, _*_}
+use mathlib.Core.Bool.{Bool, true, cond, not}
+use mathlib.Core.List.{List}
+use lib.ListN.{length, getD, drop, replicate}
+use lib.Dec.{ltb, eqb}
 use Rattle.record.specs.Record.{noThrottles}
 use Rattle.record.specs.declared.Record.{Record}
 use Rattle.record.specs.declared.Worked.{Worked}

@@ -1,14 +1,13 @@
 -- Laws of judged commands that other crates build on: what is known of a change that a command makes. Assumes nothing.
-use Prim.Native.Nat.{ℕ, _+_, _-_, _*_, _<_, _≤_}
-use mathlib.Core.Bool.{Bool, true, false, cond, not}
-use mathlib.Core.Path.{_≡_, refl, sym, ap, subst, _∙_}
+use Prim.Native.Nat.{ℕ, _-_, _*_, _<_, _≤_}
+use mathlib.Core.Bool.{Bool, true, cond, not}
+use mathlib.Core.Path.{_≡_, refl, sym, subst, _∙_}
 use mathlib.Core.List.{List}
-use mathlib.Core.Logic.{Iff·rfl, _⊎_, inl, inr, ⊎-elim}
+use mathlib.Core.Logic.{_⊎_, inl, inr, ⊎-elim}
 use native.Mathlib.Omega.{arith}
-use borrow.Author.Tests.{ltb-false, leb-false, eqb-true, eqb-false, not-false, le-leb, eq-eqb}
-use lib.Dec.{ltb, leb, eqb}
-use lib.ListN.{length, getD, take, drop, replicate, length-drop}
-use Rattle.wire.specs.Wire.{beNat}
+use borrow.Author.Tests.{not-false, le-leb}
+use lib.Dec.{ltb, eqb}
+use lib.ListN.{length, getD, drop, replicate}
 use Rattle.wire.specs.Cases.{else-eq, cond-elim}
 use Rattle.record.specs.Record.{noLog, noThrottles}
 use Rattle.record.specs.declared.Log.{Log}
@@ -16,22 +15,22 @@ use Rattle.record.specs.declared.Caps.{Caps}
 use Rattle.record.specs.declared.Throttles.{Throttles}
 use Rattle.record.specs.declared.Record.{Record}
 use Rattle.record.specs.declared.Worked.{Worked}
-use Rattle.change.specs.Logs.{pendingOf, firstWith, findOf, pendsAt}
+use Rattle.change.specs.Logs.{pendingOf, findOf, pendsAt}
 use Rattle.change.specs.Change.{noTables}
 use Rattle.change.specs.declared.Tables.{Tables}
 use Rattle.change.specs.declared.Change.{Change}
 use Rattle.change.specs.declared.Change.the-variants.{Clear, Unclear, SetState, SetRole, SetCaps, SetUser, SetThermal, SetThrottles, Reset, Unreset, SetMask, SetDeadman, SetAreas}
-use Rattle.formed.specs.Formed.{stateOk, flagOk, roleOk, capsOk, thermalOk, thermalRule, throttlesOk, absentZero, nextOk, reasonOk, recordOk, clearedOk, madeOk, changeOk}
+use Rattle.formed.specs.Formed.{stateOk, flagOk, roleOk, capsOk, thermalOk, thermalRule, throttlesOk, absentZero, nextOk, reasonOk, recordOk, madeOk, changeOk}
 use Rattle.formed.specs.Laws.{Sound, sound, pends-cleared}
 use Rattle.sets.specs.Sets.{emptySets, setsOf, emptyFrus, frusOf}
 use Rattle.sets.specs.Laws.{sets-formed, frus-formed}
 use Rattle.occ.specs.declared.Verdict.{Verdict}
 use Rattle.occ.specs.declared.Verdict.the-variants.{Refuse, Poll, Make}
 use Rattle.occ.specs.declared.Judged.{Judged}
-use Rattle.occ.specs.Commands.{pollVerdict, clearAt, clearVerdict, stateFits, stateVerdict, roleVerdict, capsFor, sentCaps, capsVerdict, userFor, userVerdict, logDue, resetFor, resetVerdict}
+use Rattle.occ.specs.Commands.{pollVerdict, clearVerdict, stateVerdict, roleVerdict, capsVerdict, userVerdict, logDue, resetVerdict}
 use Rattle.occ.specs.Judge.{plainly, setsJudged, throttlesFor, throttlesJudged, frusJudged, thermalFor, thermalJudged, formatJudged, configureJudged, openTo, typeJudged, judgeOf}
-use Rattle.occ.specs.Chains.{_and_, holds, by-test, eq-holds, le-holds, eq-passes, lt-passes, le-passes, not-passes, unless, or-else, passing}
-use Rattle.occ.specs.Exactly.{setsTested, first-there, state-fits-exactly, ready-exactly, user-allowed-exactly, log-due-exactly}
+use Rattle.occ.specs.Chains.{_and_, holds, by-test, eq-holds, le-holds, eq-passes, lt-passes, not-passes, unless, or-else, Ends}
+use Rattle.occ.specs.Exactly.{Pends, ClearLogOk, SetStateOk, RoleFormatOk, CapsFormatOk, ResetPrepOk, accepts, setsTested, resetMade, found-there, found-exactly, poll-exactly, clear-log-exactly, set-state-exactly, role-format-exactly, caps-format-exactly, user-cap-exactly, log-due-exactly, reset-prep-exactly}
 
 -- ---- what is known of a change that is made
 
@@ -41,7 +40,7 @@ Drawn r next log =
     (log .id ≡ next) and (next ≤ 255) and (pendingOf (r .logs) < 4) and ((log .reason ≡ 1) ⊎ (log .reason ≡ 2))
 
 -- a cleared log pends, as it is, at its place; a log that is made is drawn
-unfoldable pub Known : Record → ℕ → Change → Type 0
+unfoldable Known : Record → ℕ → Change → Type 0
 Known r next (Clear place log) = pendsAt place log (r .logs) ≡ true
 Known r next (Unclear place log) = Unit {0}
 Known r next (SetState state) = Unit {0}
@@ -57,11 +56,11 @@ Known r next (SetDeadman deadman) = Unit {0}
 Known r next (SetAreas areas) = Unit {0}
 
 -- and its values are ones that a well-formed record could hold
-unfoldable pub Right : Record → ℕ → Tables → Change → Type 0
+unfoldable Right : Record → ℕ → Tables → Change → Type 0
 Right r next t ch = (changeOk t ch ≡ true) and Known r next ch
 
 -- of what a verdict makes, if it makes a change
-unfoldable pub Makes : (Change → Type 0) → Verdict → Type 0
+unfoldable Makes : (Change → Type 0) → Verdict → Type 0
 Makes P (Refuse status) = Unit {0}
 Makes P Poll = Unit {0}
 Makes P (Make ch) = P ch
@@ -78,24 +77,26 @@ make-makes : (P : Change → Type 0) (ch : Change) → P ch → Makes P (Make ch
 unfolding Makes
 make-makes P ch p = p
 
+-- what a verdict ends in, where it accepts, tells all that it makes
+makes-by : (P : Change → Type 0) (v : Verdict) {z : Verdict} {C : Type 0} → Ends accepts v C z → (C → Makes P z) → Makes P v
+unfolding Makes accepts
+makes-by P (Refuse status) e h = tt
+makes-by P Poll e h = tt
+makes-by P (Make ch) e h = subst (Makes P) (sym (e .is refl)) (h (e .exactly .0 refl))
+
 -- ---- each command, on a well-formed record
 
 module _ (r : Record) (next : ℕ) (s : Sound r next) (four : length (r .logs) ≡ 4) where
+  -- of a change without tables
   abbrev Plain : Change → Type 0
   Plain = Right r next noTables
 
-  abbrev Sends : Verdict → Type 0
-  Sends = Makes Plain
+  poll-right : (d : List ℕ) → Makes Plain (pollVerdict d)
+  poll-right d = makes-by Plain _ (poll-exactly d) (λ c. poll-makes Plain)
 
-  none : (status : ℕ) → Sends (Refuse status)
-  none status = refuse-makes Plain status
-
-  poll-right : (d : List ℕ) → Sends (pollVerdict d)
-  unfolding pollVerdict
-  poll-right d = passing Sends (none 0x12) (not-passes (eq-holds (length d) 1)) (λ e. passing Sends (none 0x13) (not-passes (eq-holds (getD d 0 0) 0x10)) (λ f. poll-makes Plain))
-
-  -- the log found by an id pends where it was found
-  there-pends : (id place : ℕ) → (id ≡ 0 → ⊥) → place < 4 → getD (r .logs) place noLog .id ≡ id → pendsAt place (getD (r .logs) place noLog) (r .logs) ≡ true
+  -- a log with an id pends at its place
+  there-pends : (id place : ℕ) → (id ≡ 0 → ⊥) → place < 4 → getD (r .logs) place noLog .id ≡ id
+      → pendsAt place (getD (r .logs) place noLog) (r .logs) ≡ true
   unfolding pendsAt
   there-pends id place h l e =
       let log = getD (r .logs) place noLog in
@@ -105,92 +106,72 @@ module _ (r : Record) (next : ℕ) (s : Sound r next) (four : length (r .logs) �
       (unless holds refl (not-passes (eq-holds (log .id) (log .id))) (eq-holds (log .reason) (log .reason)))) .1
       (k, ((λ z. h (sym e ∙ z)), (refl, refl)))
 
-  cleared : (place : ℕ) (log : Log) → pendsAt place log (r .logs) ≡ true → Plain (Clear place log)
+  clear : (id : ℕ) → Pends id (r .logs) → Plain (Clear (findOf id (r .logs)) (getD (r .logs) (findOf id (r .logs)) noLog))
   unfolding Right Known changeOk
-  cleared place log p = (pends-cleared next (r .logs) (s .logs) place log p, p)
+  clear id c =
+      let l = found-exactly id (r .logs) four .1 c in
+      let f = found-there id (r .logs) four l in
+      let p = there-pends id (findOf id (r .logs)) (f .0) l (f .1) in
+      (pends-cleared next (r .logs) (s .logs) _ _ p, p)
 
-  found-right : (id : ℕ) → Sends (clearAt (findOf id (r .logs)) (r .logs))
-  unfolding findOf clearAt
-  found-right id =
-      by-test (λ (n : ℕ). Sends (clearAt n (r .logs))) (eqb id 0)
-      (λ t. none 0x13)
-      (λ t.
-      passing Sends (none 0x13) (le-passes 4 _)
-      (λ l.
-      let k : firstWith id (r .logs) < length (r .logs) = omega arith in
-      make-makes Plain _ (cleared _ _ (there-pends id _ (eqb-false id 0 t) l (first-there id (r .logs) k)))))
-
-  clear-right : (d : List ℕ) → Sends (clearVerdict (r .logs) d)
-  unfolding clearVerdict
-  clear-right d = passing Sends (none 0x12) (not-passes (eq-holds (length d) 1)) (λ e. found-right _)
+  clear-right : (d : List ℕ) → Makes Plain (clearVerdict (r .logs) d)
+  unfolding ClearLogOk
+  clear-right d = makes-by Plain _ (clear-log-exactly (r .logs) d four) (λ c. make-makes Plain _ (clear _ (c .1)))
 
   set-state : (state : ℕ) → 1 ≤ state → state ≤ 3 → Plain (SetState state)
   unfolding Right Known changeOk stateOk
   set-state state l h = (unless holds refl (lt-passes state 1) (le-holds state 3) .1 (l, h), tt)
 
-  state-right : (w : Worked) (d : List ℕ) → Sends (stateVerdict w d)
-  unfolding stateVerdict
+  state-right : (w : Worked) (d : List ℕ) → Makes Plain (stateVerdict w d)
+  unfolding SetStateOk
   state-right w d =
-      passing Sends (none 0x12) (not-passes (eq-holds (length d) 3))
-      (λ e. passing Sends (none 0x13) (not-passes (state-fits-exactly (getD d 0 0) (getD d 1 0) (getD d 2 0)))
-      (λ f. passing Sends (none 0x16) (ready-exactly w (getD d 1 0))
-      (λ g. make-makes Plain _ (set-state _ (f .1 .0) (f .1 .1 .0)))))
+      makes-by Plain _ (set-state-exactly w d) (λ c. make-makes Plain _ (set-state _ (c .1 .0 .1 .0) (c .1 .0 .1 .1 .0)))
 
   set-role : (role : ℕ) → role ≤ 1 → Plain (SetRole 1 role)
   unfolding Right Known changeOk roleOk flagOk
   set-role role h = (le-leb role 1 h, tt)
 
-  role-right : (state : ℕ) (d : List ℕ) → Sends (roleVerdict state d)
-  unfolding roleVerdict
-  role-right state d =
-      passing Sends (none 0x12) (not-passes (eq-holds (length d) 2))
-      (λ e. passing Sends (none 0x13) (lt-passes 1 (getD d 1 0))
-      (λ f. passing Sends (none 0x16) (not-passes (eq-holds state 1)) (λ g. make-makes Plain _ (set-role _ f))))
+  role-right : (state : ℕ) (d : List ℕ) → Makes Plain (roleVerdict state d)
+  unfolding RoleFormatOk
+  role-right state d = makes-by Plain _ (role-format-exactly state d) (λ c. make-makes Plain _ (set-role _ (c .1 .0)))
 
   set-caps : (caps : Caps) → caps .min ≤ caps .max → Plain (SetCaps 1 caps)
   unfolding Right Known changeOk capsOk flagOk
   set-caps caps h = (le-leb (caps .min) (caps .max) h, tt)
 
-  caps-right : (role : ℕ) (d : List ℕ) → Sends (capsVerdict role d)
-  unfolding capsVerdict capsFor
-  caps-right role d =
-      passing Sends (none 0x12) (not-passes (eq-holds (length d) 8))
-      (λ e. passing Sends (none 0x13) (not-passes (eq-holds (getD d 1 0) 0x10))
-      (λ f. passing Sends (none 0x13) (lt-passes (sentCaps d .max) (sentCaps d .min))
-      (λ g. passing Sends (none 0x16) (eq-passes role 0) (λ h. make-makes Plain _ (set-caps _ g)))))
+  caps-right : (role : ℕ) (d : List ℕ) → Makes Plain (capsVerdict role d)
+  unfolding CapsFormatOk
+  caps-right role d = makes-by Plain _ (caps-format-exactly role d) (λ c. make-makes Plain _ (set-caps _ (c .1 .1 .0)))
 
   set-user : (user : ℕ) → Plain (SetUser user)
   unfolding Right Known changeOk
   set-user user = (refl, tt)
 
-  user-right : (role got : ℕ) (caps : Caps) (d : List ℕ) → Sends (userVerdict role got caps d)
-  unfolding userVerdict userFor
-  user-right role got caps d =
-      passing Sends (none 0x12) (not-passes (eq-holds (length d) 2))
-      (λ e. passing Sends (none 0x13) (not-passes (user-allowed-exactly got caps (beNat (take 2 d))))
-      (λ f. passing Sends (none 0x16) (eq-passes role 0) (λ g. make-makes Plain _ (set-user _))))
+  user-right : (role got : ℕ) (caps : Caps) (d : List ℕ) → Makes Plain (userVerdict role got caps d)
+  user-right role got caps d = makes-by Plain _ (user-cap-exactly role got caps d) (λ c. make-makes Plain _ (set-user _))
 
   reset-alone : Plain (Reset noLog)
   unfolding Right Known changeOk madeOk
   reset-alone = (refl, λ some. absurd (some refl))
 
-  reset-logged : (reason : ℕ) → (reason ≡ 1) ⊎ (reason ≡ 2) → pendingOf (r .logs) < 4 → next < 256 → Plain (Reset (record { id = next; reason = reason }))
+  reset-logged : (reason : ℕ) → (reason ≡ 1) ⊎ (reason ≡ 2) → pendingOf (r .logs) < 4
+      → next < 256 → Plain (Reset (record { id = next; reason = reason }))
   unfolding Right Known Drawn changeOk madeOk reasonOk nextOk
   reset-logged reason w l h =
       let ids = unless holds refl (lt-passes next 1) (le-holds next 256) .0 (s .next) in
       let k = or-else holds refl (eq-holds reason 1) (eq-holds reason 2) .1 w in
       (sym (else-eq _ _ {m = next} {n = 0} (λ z. omega (arith, ids .0)) (sym k)), λ some. (refl, (omega arith, (l, w))))
 
-  reset-right : (role : ℕ) (d : List ℕ) → Sends (resetVerdict role (r .logs) next d)
-  unfolding resetVerdict resetFor
+  reset-right : (role : ℕ) (d : List ℕ) → Makes Plain (resetVerdict role (r .logs) next d)
+  unfolding ResetPrepOk resetMade
   reset-right role d =
-      passing Sends (none 0x12) (not-passes (eq-holds (length d) 2))
-      (λ e. passing Sends (none 0x13) (not-passes (eq-holds (getD d 0 0) 0))
-      (λ f. passing Sends (none 0x13) (lt-passes 2 (getD d 1 0))
-      (λ g. passing Sends (make-makes Plain _ reset-alone) (not-passes (log-due-exactly role (getD d 1 0)))
-      (λ due. passing Sends (none 0x15) (le-passes 4 (pendingOf (r .logs)))
-      (λ k. passing Sends (none 0x15) (le-passes 256 next)
-      (λ l. make-makes Plain _ (reset-logged _ (⊎-elim inl (λ h. inr (h .0)) due) k l)))))))
+      makes-by Plain _ (reset-prep-exactly role (r .logs) next d)
+      (λ c. by-test (Makes Plain) (not (logDue role (getD d 1 0)))
+      (λ t. make-makes Plain _ reset-alone)
+      (λ t.
+      let due = log-due-exactly role (getD d 1 0) .0 (not-false _ t) in
+      let room = c .1 .1 .1 due in
+      make-makes Plain _ (reset-logged _ (⊎-elim inl (λ h. inr (h .0)) due) (room .0) (room .1))))
 
   -- ---- with the tables beside the change
 
@@ -198,18 +179,20 @@ module _ (r : Record) (next : ℕ) (s : Sound r next) (four : length (r .logs) �
   unfoldable Rightly : Judged → Type 0
   Rightly j = Makes (Right r next (j .tables)) (j .verdict)
 
-  plain-right : (v : Verdict) → Sends v → Rightly (plainly v)
+  plain-right : (v : Verdict) → Makes Plain v → Rightly (plainly v)
   unfolding Rightly plainly
   plain-right v h = h
 
   refused-right : (status : ℕ) → Rightly (plainly (Refuse status))
-  refused-right status = plain-right (Refuse status) (none status)
+  refused-right status = plain-right (Refuse status) (refuse-makes Plain status)
 
-  set-throttles : (t : Throttles) → absentZero (t .present) (t .sets) ≡ true → Rightly (record { verdict = Make (SetThrottles 1); tables = record { thermal = replicate 9 0; throttles = t } })
+  set-throttles : (t : Throttles) → absentZero (t .present) (t .sets) ≡ true
+      → Rightly (record { verdict = Make (SetThrottles 1); tables = record { thermal = replicate 9 0; throttles = t } })
   unfolding Rightly Makes Right Known changeOk throttlesOk flagOk
   set-throttles t h = (h, tt)
 
-  set-thermal : (t : List ℕ) → thermalRule t ≡ true → Rightly (record { verdict = Make (SetThermal 1); tables = record { thermal = t; throttles = noThrottles } })
+  set-thermal : (t : List ℕ) → thermalRule t ≡ true
+      → Rightly (record { verdict = Make (SetThermal 1); tables = record { thermal = t; throttles = noThrottles } })
   unfolding Rightly Makes Right Known changeOk thermalOk flagOk
   set-thermal t h = (h, tt)
 

@@ -4,3 +4,5 @@ pub mod ComputedOcc
 pub mod ComputedSbe
 pub mod Examples
 pub mod History
+pub mod Image
+pub mod Steps

@@ -36,7 +36,8 @@ returns-3 c =
     else-ne _ _ (q .before .before .before .if1 .left)
     (else-ne _ _ (q .before .if2 .left)
     (c .caps-for .ensures
-    ∙ ap (capsFor (q .before .before .before .before .before .args .role)) (λ i. record { min = q .be16 .ensures i; max = c .before .before .be162 .ensures i; over = c .before .be163 .ensures i })))
+    ∙ ap (capsFor (q .before .before .before .before .before .args .role))
+    (λ i. record { min = q .be16 .ensures i; max = c .before .before .be162 .ensures i; over = c .before .be163 .ensures i })))
 
 pub caps-format-spec : {M : Type 1} → statement M
 caps-format-spec =

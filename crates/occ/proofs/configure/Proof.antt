@@ -44,28 +44,32 @@ unfolding configureJudged formatJudged
 returns-2 c =
     let a = c .before .before .before .before .before .before .args in
     else-eq _ _ (c .before .before .before .before .if1 .left)
-    (at-key (λ (n : ℕ). formatJudged n (a .state) (a .role) (a .d .now)) (c .before .before .match .keys1) (c .plain2 .ensures ∙ ap plainly (c .before .role-format .ensures)))
+    (at-key (λ (n : ℕ). formatJudged n (a .state) (a .role) (a .d .now)) (c .before .before .match .keys1)
+    (c .plain2 .ensures ∙ ap plainly (c .before .role-format .ensures)))
 
 returns-3 : tie.Need-returns-3
 unfolding configureJudged formatJudged
 returns-3 c =
     let a = c .before .before .before .before .before .before .args in
     else-eq _ _ (c .before .before .before .before .if1 .left)
-    (at-key (λ (n : ℕ). formatJudged n (a .state) (a .role) (a .d .now)) (c .before .before .match .keys2) (c .plain3 .ensures ∙ ap plainly (c .before .caps-format .ensures)))
+    (at-key (λ (n : ℕ). formatJudged n (a .state) (a .role) (a .d .now)) (c .before .before .match .keys2)
+    (c .plain3 .ensures ∙ ap plainly (c .before .caps-format .ensures)))
 
 returns-4 : tie.Need-returns-4
 unfolding configureJudged formatJudged
 returns-4 c =
     let a = c .before .before .before .before .before .args in
     else-eq _ _ (c .before .before .before .if1 .left)
-    (at-key (λ (n : ℕ). formatJudged n (a .state) (a .role) (a .d .now)) (c .before .match .keys3) (c .throttles-format .ensures))
+    (at-key (λ (n : ℕ). formatJudged n (a .state) (a .role) (a .d .now)) (c .before .match .keys3)
+    (c .throttles-format .ensures))
 
 returns-5 : tie.Need-returns-5
 unfolding configureJudged formatJudged
 returns-5 c =
     let a = c .before .before .before .before .before .args in
     else-eq _ _ (c .before .before .before .if1 .left)
-    (at-key (λ (n : ℕ). formatJudged n (a .state) (a .role) (a .d .now)) (c .before .match .keys4) (c .thermal-format .ensures))
+    (at-key (λ (n : ℕ). formatJudged n (a .state) (a .role) (a .d .now)) (c .before .match .keys4)
+    (c .thermal-format .ensures))
 
 returns-6 : tie.Need-returns-6
 unfolding configureJudged formatJudged

@@ -61,7 +61,8 @@ returns-2 c =
     let q = c .before .before .before in
     let a = q .before .before .before .before .before .before .args in
     else-not _ _ (q .before .open-to .ensures) (q .if1 .left)
-    (at-key (λ (n : ℕ). typeJudged n (a .r) (a .w) (a .next) (a .d .now)) (c .before .before .match .keys1) (c .plain2 .ensures ∙ ap plainly (c .before .poll .ensures)))
+    (at-key (λ (n : ℕ). typeJudged n (a .r) (a .w) (a .next) (a .d .now)) (c .before .before .match .keys1)
+    (c .plain2 .ensures ∙ ap plainly (c .before .poll .ensures)))
 
 returns-3 : tie.Need-returns-3
 unfolding judgeOf typeJudged
@@ -69,7 +70,8 @@ returns-3 c =
     let q = c .before .before .before in
     let a = q .before .before .before .before .before .before .args in
     else-not _ _ (q .before .open-to .ensures) (q .if1 .left)
-    (at-key (λ (n : ℕ). typeJudged n (a .r) (a .w) (a .next) (a .d .now)) (c .before .before .match .keys2) (c .plain3 .ensures ∙ ap plainly (c .before .clear-log .ensures)))
+    (at-key (λ (n : ℕ). typeJudged n (a .r) (a .w) (a .next) (a .d .now)) (c .before .before .match .keys2)
+    (c .plain3 .ensures ∙ ap plainly (c .before .clear-log .ensures)))
 
 returns-4 : tie.Need-returns-4
 unfolding judgeOf typeJudged
@@ -77,7 +79,8 @@ returns-4 c =
     let q = c .before .before .before in
     let a = q .before .before .before .before .before .before .args in
     else-not _ _ (q .before .open-to .ensures) (q .if1 .left)
-    (at-key (λ (n : ℕ). typeJudged n (a .r) (a .w) (a .next) (a .d .now)) (c .before .before .match .keys3) (c .plain4 .ensures ∙ ap plainly (c .before .set-state .ensures)))
+    (at-key (λ (n : ℕ). typeJudged n (a .r) (a .w) (a .next) (a .d .now)) (c .before .before .match .keys3)
+    (c .plain4 .ensures ∙ ap plainly (c .before .set-state .ensures)))
 
 returns-5 : tie.Need-returns-5
 unfolding judgeOf typeJudged
@@ -85,7 +88,8 @@ returns-5 c =
     let q = c .before .before in
     let a = q .before .before .before .before .before .before .args in
     else-not _ _ (q .before .open-to .ensures) (q .if1 .left)
-    (at-key (λ (n : ℕ). typeJudged n (a .r) (a .w) (a .next) (a .d .now)) (c .before .match .keys4) (c .configure .ensures))
+    (at-key (λ (n : ℕ). typeJudged n (a .r) (a .w) (a .next) (a .d .now)) (c .before .match .keys4)
+    (c .configure .ensures))
 
 returns-6 : tie.Need-returns-6
 unfolding judgeOf typeJudged
@@ -93,7 +97,8 @@ returns-6 c =
     let q = c .before .before .before in
     let a = q .before .before .before .before .before .before .args in
     else-not _ _ (q .before .open-to .ensures) (q .if1 .left)
-    (at-key (λ (n : ℕ). typeJudged n (a .r) (a .w) (a .next) (a .d .now)) (c .before .before .match .keys5) (c .plain5 .ensures ∙ ap plainly (c .before .user-cap .ensures)))
+    (at-key (λ (n : ℕ). typeJudged n (a .r) (a .w) (a .next) (a .d .now)) (c .before .before .match .keys5)
+    (c .plain5 .ensures ∙ ap plainly (c .before .user-cap .ensures)))
 
 returns-7 : tie.Need-returns-7
 unfolding judgeOf typeJudged
@@ -101,7 +106,8 @@ returns-7 c =
     let q = c .before .before .before in
     let a = q .before .before .before .before .before .before .args in
     else-not _ _ (q .before .open-to .ensures) (q .if1 .left)
-    (at-key (λ (n : ℕ). typeJudged n (a .r) (a .w) (a .next) (a .d .now)) (c .before .before .match .keys6) (c .plain6 .ensures ∙ ap plainly (c .before .reset-prep .ensures)))
+    (at-key (λ (n : ℕ). typeJudged n (a .r) (a .w) (a .next) (a .d .now)) (c .before .before .match .keys6)
+    (c .plain6 .ensures ∙ ap plainly (c .before .reset-prep .ensures)))
 
 returns-8 : tie.Need-returns-8
 unfolding judgeOf typeJudged

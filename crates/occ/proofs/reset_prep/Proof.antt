@@ -29,7 +29,10 @@ reset-for-requires c κs = search needs
 
 returns-4 : tie.Need-returns-4
 unfolding resetVerdict
-returns-4 c = else-ne _ _ (c .before .before .before .before .before .if1 .left) (else-ne _ _ (c .before .before .if2 .left) (else-lt _ _ (c .before .if3 .left) (c .reset-for .ensures)))
+returns-4 c =
+    else-ne _ _ (c .before .before .before .before .before .if1 .left)
+    (else-ne _ _ (c .before .before .if2 .left)
+    (else-lt _ _ (c .before .if3 .left) (c .reset-for .ensures)))
 
 pub reset-prep-spec : {M : Type 1} → statement M
 reset-prep-spec =

@@ -49,7 +49,10 @@ plain-requires-3 c κs = search needs
 
 returns-3 : tie.Need-returns-3
 unfolding thermalJudged thermalFor frusJudged
-returns-3 c = else-lt _ _ (c .before .before .before .before .before .if1 .left) (else-ne _ _ (c .before .before .before .if2 .left) (if-ne _ _ (c .before .if3 .taken) (c .plain3 .ensures)))
+returns-3 c =
+    else-lt _ _ (c .before .before .before .before .before .if1 .left)
+    (else-ne _ _ (c .before .before .before .if2 .left)
+    (if-ne _ _ (c .before .if3 .taken) (c .plain3 .ensures)))
 
 plain-requires-4 : tie.Need-plain-requires-4
 plain-requires-4 c κs = search needs
@@ -72,7 +75,11 @@ part-read-frus-end : tie.Need-part-read-frus-end
 part-read-frus-end c = search needs
 
 read-frus-requires : tie.Need-read-frus-requires
-read-frus-requires c κs = (omega (arith, c .before .before .before .before .before .shared-slice-known2 .given 2), length-rest (c .before .before .before .before .before .before .before .before .args .d .now) 3 ∙ c .before .before .before .before .if2 .left)
+read-frus-requires c κs =
+    let d = c .before .before .before .before .before .before .before .before .args .d .now in (
+      omega (arith, c .before .before .before .before .before .shared-slice-known2 .given 2),
+      length-rest d 3 ∙ c .before .before .before .before .if2 .left,
+    )
 
 plain-requires-5 : tie.Need-plain-requires-5
 plain-requires-5 c κs = search needs
@@ -99,7 +106,8 @@ returns-6 c =
     (else-ne _ _ (q .before .before .before .if2 .left)
     (else-ne _ _ (q .before .if3 .left)
     (else-eq _ _ (q .if4 .left)
-    (else-not _ _ (ap (λ (t : Frus). t .ok) read) (c .if5 .left) (λ i. record { verdict = Make (SetThermal 1); tables = record { thermal = read i .bytes; throttles = noThrottles } })))))
+    (else-not _ _ (ap (λ (t : Frus). t .ok) read) (c .if5 .left)
+    (λ i. record { verdict = Make (SetThermal 1); tables = record { thermal = read i .bytes; throttles = noThrottles } })))))
 
 pub thermal-format-spec : {M : Type 1} → statement M
 thermal-format-spec =

@@ -48,7 +48,10 @@ plain-requires-3 c κs = search needs
 
 returns-3 : tie.Need-returns-3
 unfolding throttlesJudged throttlesFor setsJudged
-returns-3 c = else-lt _ _ (c .before .before .before .before .before .if1 .left) (else-ne _ _ (c .before .before .before .if2 .left) (if-ne _ _ (c .before .if3 .taken) (c .plain3 .ensures)))
+returns-3 c =
+    else-lt _ _ (c .before .before .before .before .before .if1 .left)
+    (else-ne _ _ (c .before .before .before .if2 .left)
+    (if-ne _ _ (c .before .if3 .taken) (c .plain3 .ensures)))
 
 plain-requires-4 : tie.Need-plain-requires-4
 plain-requires-4 c κs = search needs
@@ -71,7 +74,11 @@ part-read-sets-end : tie.Need-part-read-sets-end
 part-read-sets-end c = search needs
 
 read-sets-requires : tie.Need-read-sets-requires
-read-sets-requires c κs = (omega (arith, c .before .before .before .before .before .shared-slice-known2 .given 2), length-rest (c .before .before .before .before .before .before .before .before .args .d .now) 3 ∙ c .before .before .before .before .if2 .left)
+read-sets-requires c κs =
+    let d = c .before .before .before .before .before .before .before .before .args .d .now in (
+      omega (arith, c .before .before .before .before .before .shared-slice-known2 .given 2),
+      length-rest d 3 ∙ c .before .before .before .before .if2 .left,
+    )
 
 plain-requires-5 : tie.Need-plain-requires-5
 plain-requires-5 c κs = search needs
@@ -98,7 +105,8 @@ returns-6 c =
     (else-ne _ _ (q .before .before .before .if2 .left)
     (else-ne _ _ (q .before .if3 .left)
     (else-eq _ _ (q .if4 .left)
-    (else-not _ _ (ap (λ (t : Sets). t .ok) read) (c .if5 .left) (λ i. record { verdict = Make (SetThrottles 1); tables = record { thermal = replicate 9 0; throttles = read i .table } })))))
+    (else-not _ _ (ap (λ (t : Sets). t .ok) read) (c .if5 .left)
+    (λ i. record { verdict = Make (SetThrottles 1); tables = record { thermal = replicate 9 0; throttles = read i .table } })))))
 
 pub throttles-format-spec : {M : Type 1} → statement M
 throttles-format-spec =

@@ -19,7 +19,10 @@ user-for-requires c κs = search needs
 
 returns-2 : tie.Need-returns-2
 unfolding userVerdict
-returns-2 c = let a = c .before .before .before .before .args in else-ne _ _ (c .before .before .if1 .left) (c .user-for .ensures ∙ ap (λ (n : ℕ). userFor (a .role) (a .got) (a .caps) n) (c .before .be16 .ensures))
+returns-2 c =
+    let a = c .before .before .before .before .args in
+    else-ne _ _ (c .before .before .if1 .left)
+    (c .user-for .ensures ∙ ap (λ (n : ℕ). userFor (a .role) (a .got) (a .caps) n) (c .before .be16 .ensures))
 
 pub user-cap-spec : {M : Type 1} → statement M
 user-cap-spec = tie.close (tie.spec returns be16-requires user-for-requires returns-2)

@@ -6,3 +6,4 @@ pub mod Examples
 pub mod History
 pub mod Image
 pub mod Steps
+pub mod Asked

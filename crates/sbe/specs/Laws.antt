@@ -62,7 +62,7 @@ pub be-fits : (bs : List ℕ) → Bytes bs → beNat bs < 256 ^ length bs
 unfolding beNat
 be-fits bs h = subst (λ (i : ℕ). beOnto 0 bs < 256 ^ i) (zero-add (length bs)) (onto-fits 0 0 bs (lit< tt) h)
 
-part-fits : (n at : ℕ) (r : List ℕ) → Bytes r → beNat (take n (drop at r)) < 256 ^ n
+pub part-fits : (n at : ℕ) (r : List ℕ) → Bytes r → beNat (take n (drop at r)) < 256 ^ n
 part-fits n at r h =
     let l : length (take n (drop at r)) ≤ n = simp length-take (omega arith) in
     lt-of-lt-of-le (be-fits (take n (drop at r)) (bytes-take n (drop at r) (bytes-drop at r h))) (pow-le-pow-right (lit< tt) l)

@@ -7,3 +7,4 @@ pub mod History
 pub mod Image
 pub mod Steps
 pub mod Asked
+pub mod Demand3

@@ -143,10 +143,10 @@ module _ (d : List ℕ) (bytes : Bytes d) where
   -- n sets of a width, each of which may be refused
   sets-shape : (width : ℕ) (ok : Bool) (j : Judged) → Shaped j
       → Shaped (cond (ltb (length d) 3) (plainly (Refuse 0x12))
-        (cond (not (eqb (length d - 3) (getD d 2 0 * width))) (plainly (Refuse 0x12))
-        (cond (not (eqb (getD d 1 0) 0x10)) (plainly (Refuse 0x13))
-        (cond (eqb (getD d 2 0) 0) (plainly (Refuse 0x13))
-        (cond (not ok) (plainly (Refuse 0x13)) j)))))
+      (cond (not (eqb (length d - 3) (getD d 2 0 * width))) (plainly (Refuse 0x12))
+      (cond (not (eqb (getD d 1 0) 0x10)) (plainly (Refuse 0x13))
+      (cond (eqb (getD d 2 0) 0) (plainly (Refuse 0x13))
+      (cond (not ok) (plainly (Refuse 0x13)) j)))))
   sets-shape width ok j h =
       cond-elim Shaped (ltb (length d) 3) (refuse-shape 0x12)
       (cond-elim Shaped (not (eqb (length d - 3) (getD d 2 0 * width))) (refuse-shape 0x12)

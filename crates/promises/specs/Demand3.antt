@@ -34,6 +34,7 @@ use Rattle.links.specs.Typed.{TypedRecord}
 use Rattle.links.specs.Made.{Made}
 use Rattle.promises.specs.Calls.{Call, occ, sbe, undo, Said, said}
 use Rattle.promises.specs.History.{Deed, keeps, adds, strikes, adding, occVerdict, occJudgement, sbeVerdict, deed, Mark, strike, marked, left, logsMade, replay, Run, next-run, run, start, OfBytes, AllOfBytes, undoAnswer, Demand3}
+use Rattle.promises.specs.Ids.{idsMade, countdown, drew, ids-add, ids-strike}
 use Rattle.promises.specs.Image.{image, Sane, image-formed}
 use Rattle.promises.specs.Steps.{carried-image, carried-sane, undo-image, undone-sane, undo-nothing}
 use Rattle.promises.specs.Asked.{occ-made, sbe-made}
@@ -138,17 +139,17 @@ module _ (s : Session) (formed : wellFormed s ≡ true) (ok : recordOk (s .held)
 
 -- ---- marks
 
-tail : List Edit → List Edit
+abbrev pub tail : List Edit → List Edit
 tail [] = []
 tail (e ∷ es) = es
 
 left-strike : (ms : List Mark) → left (strike ms) ≡ tail (left ms)
-unfolding left strike tail
+unfolding left strike
 left-strike [] = refl
 left-strike (m ∷ ms) = go (m .struck) (left-strike ms)
   where
     go : (b : Bool) → left (strike ms) ≡ tail (left ms)
-       → left (cond b (record { edit = m .edit; struck = b } ∷ strike ms) (record { edit = m .edit; struck = true } ∷ ms)) ≡ tail (cond b (left ms) (m .edit ∷ left ms))
+        → left (cond b (record { edit = m .edit; struck = b } ∷ strike ms) (record { edit = m .edit; struck = true } ∷ ms)) ≡ tail (cond b (left ms) (m .edit ∷ left ms))
     go true e = e
     go false e = refl
 
@@ -160,7 +161,7 @@ logs-strike (m ∷ ms) =
 
 -- an undo strikes one out exactly while one is left
 undo-left : (ms : List Mark) (l : List Edit) → left ms ≡ l → left (marked ms (cond (eqb (undoAnswer l) 0) strikes keeps)) ≡ tail l
-unfolding undoAnswer marked tail
+unfolding undoAnswer marked
 undo-left ms [] e = e
 undo-left ms (x ∷ l) e = left-strike ms ∙ ap tail e
 
@@ -168,6 +169,10 @@ undo-logs : (ms : List Mark) (l : List Edit) → logsMade (marked ms (cond (eqb 
 unfolding undoAnswer marked
 undo-logs ms [] = refl
 undo-logs ms (x ∷ l) = logs-strike ms
+
+undo-ids : (ms : List Mark) (a : ℕ) → idsMade (marked ms (cond (eqb a 0) strikes keeps)) ≡ idsMade ms
+unfolding marked
+undo-ids ms a = cond-elim (λ (d : Deed). idsMade (marked ms d) ≡ idsMade ms) (eqb a 0) (ids-strike ms) refl
 
 undo-fair : (l : List Edit) → Fair (undoAnswer l)
 unfolding undoAnswer
@@ -180,10 +185,11 @@ module _ (base : Record) where
   pub record Inv (p : Run) : Type 0 where
     pub is : p .session ≡ image base (left (p .marks)) (logsMade (p .marks))
     pub sane : Sane base (left (p .marks)) (logsMade (p .marks))
+    pub ids : idsMade (p .marks) ≡ countdown (logsMade (p .marks))
 
-  undone : (es : List Edit) (n : ℕ) → Sane base es n
+  pub undone : (es : List Edit) (n : ℕ) → Sane base es n
       → (undoCall (image base es n) .answer ≡ undoAnswer es) × (undoCall (image base es n) .session ≡ image base (tail es) n) × Sane base (tail es) n
-  unfolding undoAnswer tail notUndone
+  unfolding undoAnswer notUndone
   undone [] n g = (ap (λ (u : Undone). u .answer) (undo-nothing base n g), ap (λ (u : Undone). u .session) (undo-nothing base n g), g)
   undone (e ∷ es) n g =
       (ap (λ (u : Undone). u .answer) (undo-image base e es n g), ap (λ (u : Undone). u .session) (undo-image base e es n g), undone-sane base e es n g)
@@ -225,11 +231,13 @@ module _ (base : Record) where
     follow d a t (stays b f) = v
     follow d a t (carries e m f) =
         let made : Made (replay base es) (suc n) (e .tables) (e .change) =
-            subst (λ (k : ℕ). Made (replay base es) k (e .tables) (e .change)) next-is (subst (λ (r : Record). Made r (p .session .next) (e .tables) (e .change)) held-is m) in
+        subst (λ (k : ℕ). Made (replay base es) k (e .tables) (e .change)) next-is (subst (λ (r : Record). Made r (p .session .next) (e .tables) (e .change)) held-is m) in
         let fits : carriedOf (image base es n) e .full ≡ false = ap (λ (s : Session). carriedOf s e .full) (sym (v .is)) ∙ f in
         record {
           is = ap (λ (s : Session). carriedOf s e .session) (v .is) ∙ carried-image base e es n (v .sane) made fits;
-          sane = carried-sane base e es n (v .sane) made fits }
+          sane = carried-sane base e es n (v .sane) made fits;
+          ids = ids-add (record { edit = e; struck = false }) (p .marks) (drew (replay base es) (suc n) (e .tables) (e .change) made) (v .ids);
+        }
 
     -- undo
     take-back : Inv (record { session = undoCall (p .session) .session; marks = marked (p .marks) (cond (eqb (undoCall (p .session) .answer) 0) strikes keeps) })
@@ -242,9 +250,11 @@ module _ (base : Record) where
         let there = marks (undoCall (p .session) .answer) in
         record {
           is = s ∙ sym (ap₂ (image base) l k);
-          sane = subst (λ (x : List Edit). Sane base x (logsMade there)) (sym l) (subst (Sane base (tail es)) (sym k) (u .2)) }
+          sane = subst (λ (x : List Edit). Sane base x (logsMade there)) (sym l) (subst (Sane base (tail es)) (sym k) (u .2));
+          ids = undo-ids (p .marks) (undoCall (p .session) .answer) ∙ v .ids ∙ ap countdown (sym k);
+        }
 
-    next-inv : (c : Call) → OfBytes c → Inv (next-run p c)
+    pub next-inv : (c : Call) → OfBytes c → Inv (next-run p c)
     unfolding next-run said deed
     next-inv (occ sender c d) b = follow _ _ _ (occ-follows (p .session) formed ok typed sender c d b)
     next-inv (sbe r d) b = follow _ _ _ (sbe-follows (p .session) formed ok typed r d b)
@@ -262,10 +272,14 @@ module _ (base : Record) where
 
   -- ---- any calls
 
-  invariant : (cs : List Call) (p : Run) → AllOfBytes cs → Inv p → Inv (run p cs)
+  pub invariant : (cs : List Call) (p : Run) → AllOfBytes cs → Inv p → Inv (run p cs)
   unfolding run
   invariant [] p b v = v
   invariant (c ∷ cs) p b v = invariant cs (next-run p c) (b .1) (next-inv p v c (b .0))
+
+  -- the logs ever made have the ids 1, 2, 3, ..
+  pub ids-in-order : (cs : List Call) (p : Run) → AllOfBytes cs → Inv p → idsMade (run p cs .marks) ≡ countdown (logsMade (run p cs .marks))
+  ids-in-order cs p b v = invariant cs p b v .ids
 
   pub demand3 : (cs : List Call) (p : Run) → AllOfBytes cs → Inv p → Demand3 base (run p cs)
   demand3 cs p b v = demand (run p cs) (invariant cs p b v)

@@ -74,15 +74,22 @@ unfolding pasted padded
 paste-padded l b h =
     let m : ℕ = 2048 - (length l + length b) in
     let z : drop (length b) (zeros (2048 - length l)) ≡ zeros m =
-        ap (drop (length b)) (zeros-split (length b) m (2048 - length l) (omega arith)) ∙ drop-at (zeros (length b)) (zeros m) (length b) (length-zeros (length b)) in
+    ap (drop (length b)) (zeros-split (length b) m (2048 - length l) (omega arith)) ∙ drop-at (zeros (length b)) (zeros m) (length b) (length-zeros (length b)) in
     rw (take-append-seam l (zeros (2048 - length l)), drop-append-add l (zeros (2048 - length l)) (length b), z, length-append l b, append-assoc l b (zeros m))
 
 pub unpaste-padded : (l b : List ℕ) → length l + length b ≤ 2048 → pasted (length l) (zeros (length b)) (padded (l ++ b)) ≡ padded l
 unfolding pasted padded
 unpaste-padded l b h =
     let m : ℕ = 2048 - (length l + length b) in
-    rw (length-append l b, append-assoc l b (zeros m), take-append-seam l (b ++ zeros m), length-zeros (length b),
-        drop-append-add l (b ++ zeros m) (length b), drop-append-seam b (zeros m), ← zeros-split (length b) m (2048 - length l) (omega arith))
+    rw (
+      length-append l b,
+      append-assoc l b (zeros m),
+      take-append-seam l (b ++ zeros m),
+      length-zeros (length b),
+      drop-append-add l (b ++ zeros m) (length b),
+      drop-append-seam b (zeros m),
+      ← zeros-split (length b) m (2048 - length l) (omega arith),
+    )
 
 -- ---- the session of a history
 

@@ -111,7 +111,7 @@ module _ (base : Record) (e : Edit) (es : List Edit) (n : ℕ) where
     unfolding replay
     carried-sane =
         let ok : recordOk (putOf (replay base es) e .after) (suc (n + madeOf (e .change))) ≡ true =
-            subst (λ (k : ℕ). recordOk (putOf (replay base es) e .after) k ≡ true) grown (l .put-sound) in
+        subst (λ (k : ℕ). recordOk (putOf (replay base es) e .after) k ≡ true) grown (l .put-sound) in
         let small = next-small (putOf (replay base es) e .after) (suc (n + madeOf (e .change))) ok in
         let up : suc n ≤ suc (n + madeOf (e .change)) = omega arith in
         record {
@@ -171,7 +171,7 @@ module _ (base : Record) (e : Edit) (es : List Edit) (n : ℕ) where
         let whole = length-padded (journalOf base (e ∷ es)) (g .fits) in
         let k : length (journalOf base (e ∷ es)) - length old ≡ length bytes = omega (arith, all-used) in
         sym (else-lt _ _ {m = length (padded (journalOf base (e ∷ es)))} {n = length (journalOf base (e ∷ es))} (omega (arith, whole, g .fits))
-          (else-lt _ _ {m = length (journalOf base (e ∷ es))} {n = length old} (omega (arith, all-used)) refl))
+        (else-lt _ _ {m = length (journalOf base (e ∷ es))} {n = length old} (omega (arith, all-used)) refl))
         ∙ ap (λ (m : ℕ). pasted (length old) (zeros m) (padded (journalOf base (e ∷ es)))) k
         ∙ unpasted
 
@@ -216,4 +216,4 @@ undo-nothing base n g =
     let s = image base [] n in
     let rest = undoneRead s (readingOf (scan (take (s .used) (s .journal)))) in
     sym (else-b (notUndone 1 s) (cond (eqb (s .used) 0) (notUndone 6 s) rest) (ap not (image-formed base [] n g))
-      (if-eq (notUndone 6 s) rest {m = s .used} {n = 0} refl refl))
+    (if-eq (notUndone 6 s) rest {m = s .used} {n = 0} refl refl))

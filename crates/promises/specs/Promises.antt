@@ -1,0 +1,86 @@
+-- What the stand-in promises, each in a few lines, each proved by pointing at the file that does the work.
+-- s, p: a session, a run of calls; c: a call with any bytes and any buffer. The calls are those of the public contracts (Calls.antt).
+use Prim.Native.Nat.{ℕ, suc, _+_, _≤_}
+use mathlib.Core.Bool.{true}
+use mathlib.Core.Logic.{_↔_, _⊎_}
+use mathlib.Core.Path.{_≡_}
+use mathlib.Core.List.{List, []}
+use lib.ListN.{length, getD}
+use Rattle.wire.specs.Wire.{pasted}
+use Rattle.record.specs.Record.{freshRecord, workedOf}
+use Rattle.record.specs.declared.Record.{Record}
+use Rattle.record.specs.declared.Worked.{Worked}
+use Rattle.change.specs.declared.Edit.{Edit}
+use Rattle.packet.specs.Packet.{packetStatus, replied}
+use Rattle.packet.specs.Exactly.{Fits, Summed, good-exactly}
+use Rattle.occ.specs.Judge.{judgeOf}
+use Rattle.occ.specs.Exactly.{CommandOk, accepts, judge-exactly}
+use Rattle.sbe.specs.Mailbox as mailbox
+use Rattle.sbe.specs.Exactly as requests
+use Rattle.session.specs.Session.{freshSession, wellFormed, madeOf}
+use Rattle.session.specs.declared.Session.{Session}
+use Rattle.occ_call.specs.Occ.{occCall}
+use Rattle.occ_call.specs.Came as occ-came
+use Rattle.sbe_call.specs.Sbe.{sbeCall}
+use Rattle.sbe_call.specs.Came as sbe-came
+use Rattle.undo_call.specs.Undo.{undoCall}
+use Rattle.undo_call.specs.Came as undo-came
+use Rattle.promises.specs.Calls.{Call, occ, sbe, undo, said}
+use Rattle.promises.specs.History.{Run, adds, deed, logsMade, run, next-run, start, OfBytes, AllOfBytes, Demand3}
+use Rattle.promises.specs.Ids.{idsMade, countdown}
+use Rattle.promises.specs.Fresh.{fresh-start}
+use Rattle.promises.specs.Demand3.{demand3, ids-in-order, invariant}
+use Rattle.promises.specs.NoTrace.{withNext, trace-free}
+use Rattle.promises.specs.Examples.{All, holds, table, examples}
+
+-- ---- demand 1: a refusal changes nothing, for every session, right or damaged
+
+pub refusal-of-occ-keeps : (s : Session) (sender : ℕ) (c d : List ℕ) → (occCall s sender c d .outcome .answer ≡ 0 → ⊥)
+    → (occCall s sender c d .outcome .session ≡ s) × (occCall s sender c d .reply ≡ d)
+refusal-of-occ-keeps s sender c d = occ-came.refusal-keeps s sender c d (occCall s sender c d) (occ-came.came s sender c d)
+
+pub refusal-of-sbe-keeps : (s : Session) (r d : List ℕ) → (sbeCall s r d .outcome .answer ≡ 0 → ⊥)
+    → (sbeCall s r d .outcome .session ≡ s) × (sbeCall s r d .reply ≡ d) × (sbeCall s r d .outcome .bell ≡ 0)
+refusal-of-sbe-keeps s r d = sbe-came.refusal-keeps s r d (sbeCall s r d) (sbe-came.came s r d)
+
+pub refusal-of-undo-keeps : (s : Session) → (undoCall s .answer ≡ 0 → ⊥) → (undoCall s .session ≡ s) × (undoCall s .kind ≡ 0)
+refusal-of-undo-keeps s = undo-came.refusal-keeps s (undoCall s) (undo-came.came s)
+
+-- a session that isn't the one handed in comes with the reply of success, so every error reply returns it as it was
+pub error-of-occ-keeps : (s : Session) (sender : ℕ) (c d : List ℕ)
+    → (occCall s sender c d .outcome .session ≡ s) ⊎ (occCall s sender c d .reply ≡ replied (getD c 0 0) (getD c 1 0) 0x00 [] d)
+error-of-occ-keeps s sender c d = occ-came.error-keeps s sender c d (occCall s sender c d) (occ-came.came s sender c d)
+
+-- ---- demand 2: accepted exactly when (the conditions: packet, occ and sbe, specs/Exactly.antt)
+
+pub packet-read-exactly-when : (c : List ℕ) → (packetStatus c ≡ 0) ↔ (Fits c × Summed c)
+packet-read-exactly-when = good-exactly
+
+pub command-accepted-exactly-when : (r : Record) (w : Worked) (next sender kind : ℕ) (d : List ℕ) → length (r .logs) ≡ 4
+    → (accepts (judgeOf r w next sender kind d .verdict) ≡ true) ↔ CommandOk r w next sender kind d
+command-accepted-exactly-when = judge-exactly
+
+pub request-accepted-exactly-when : (r : List ℕ) → (requests.accepts (mailbox.judgeOf r) ≡ true) ↔ requests.Accepted r
+request-accepted-exactly-when = requests.accepted-exactly
+
+-- ---- demand 3: start fresh, and hand each session on unchanged through any calls
+
+pub undo-over-any-calls : (cs : List Call) → AllOfBytes cs → Demand3 freshRecord (run (start freshSession) cs)
+undo-over-any-calls cs b = demand3 freshRecord cs (start freshSession) b fresh-start
+
+-- ---- no trace: a change followed by its undo leaves all but the next id as it was, and that only where a log was made
+
+pub no-trace : (cs : List Call) → AllOfBytes cs → (c : Call) → OfBytes c → (e : Edit) → deed (run (start freshSession) cs .session) c ≡ adds e
+    → said (next-run (run (start freshSession) cs) c .session) undo .session
+    ≡ withNext (run (start freshSession) cs .session) (run (start freshSession) cs .session .next + madeOf (e .change))
+no-trace cs b c bc e = trace-free freshRecord (run (start freshSession) cs) (invariant freshRecord cs (start freshSession) b fresh-start) c bc e
+
+-- ---- no id twice: the logs ever made, struck out or not, have the ids 1, 2, 3, .. in the order they were made
+
+pub no-id-twice : (cs : List Call) → AllOfBytes cs → idsMade (run (start freshSession) cs .marks) ≡ countdown (logsMade (run (start freshSession) cs .marks))
+no-id-twice cs b = ids-in-order freshRecord cs (start freshSession) b fresh-start
+
+-- ---- the ten worked examples of document 01, at the bytes
+
+pub ten-examples : All holds table
+ten-examples = examples

@@ -8,7 +8,8 @@ use native.Mathlib.Omega.{arith}
 use borrow.Author.Tests.{ltb-false, leb-true, eq-eqb}
 use lib.Dec.{ltb, leb, eqb, lit<}
 use lib.ListN.{length, getD, take, drop, replicate}
-use Rattle.wire.specs.Laws.{Bytes}
+use Rattle.wire.specs.Laws.{Bytes, bytes-take, bytes-drop}
+use Rattle.packet.specs.Packet.{dataLength, dataAt, dataOf}
 use Rattle.wire.specs.Wire.{beNat}
 use Rattle.wire.specs.Cases.{cond-elim, if-b, if-eq}
 use Rattle.record.specs.Record.{noLog, noThrottles}
@@ -37,6 +38,11 @@ use Rattle.sbe.specs.Laws.{Fitting, change-ok, change-fits, part-fits}
 use Rattle.sbe.specs.declared.Verdict.the-variants.{Make as Granted}
 use Rattle.links.specs.Typed.{TypedRecord}
 use Rattle.links.specs.Made.{NewLog, Values, Made}
+
+-- the data of a command of bytes
+pub data-bytes : (c : List ℕ) → Bytes c → Bytes (dataOf c)
+unfolding dataOf dataAt
+data-bytes c h = cond-elim Bytes (ltb (length c) (dataLength c + 6)) tt (bytes-take (dataLength c) (drop 4 c) (bytes-drop 4 c h))
 
 -- ---- OCC: which changes a command can make, and the widths of their numbers
 

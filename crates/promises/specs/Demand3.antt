@@ -7,7 +7,7 @@ use native.Mathlib.Omega.{arith}
 use borrow.Author.Tests.{eqb-true, eqb-false, not-true, not-false, eq-eqb}
 use lib.Dec.{eqb, ltb}
 use lib.ListN.{length, getD, take, drop}
-use Rattle.wire.specs.Laws.{Bytes, bytes-take, bytes-drop}
+use Rattle.wire.specs.Laws.{Bytes}
 use Rattle.wire.specs.Cases.{cond-elim}
 use Rattle.record.specs.Record.{workedOf}
 use Rattle.record.specs.declared.Record.{Record}
@@ -16,7 +16,7 @@ use Rattle.change.specs.declared.Change.{Change}
 use Rattle.change.specs.declared.Tables.{Tables}
 use Rattle.change.specs.declared.Edit.{Edit}
 use Rattle.formed.specs.Formed.{recordOk}
-use Rattle.packet.specs.Packet.{dataLength, packetStatus, dataAt, dataOf}
+use Rattle.packet.specs.Packet.{packetStatus, dataOf}
 use Rattle.occ.specs.Judge.{judgeOf}
 use Rattle.occ.specs.declared.Judged.{Judged}
 use Rattle.occ.specs.declared.Verdict.{Verdict}
@@ -37,7 +37,7 @@ use Rattle.promises.specs.History.{Deed, keeps, adds, strikes, adding, o
 use Rattle.promises.specs.Ids.{idsMade, countdown, drew, ids-add, ids-strike}
 use Rattle.promises.specs.Image.{image, Sane, image-formed}
 use Rattle.promises.specs.Steps.{carried-image, carried-sane, undo-image, undone-sane, undo-nothing}
-use Rattle.promises.specs.Asked.{occ-made, sbe-made}
+use Rattle.promises.specs.Asked.{data-bytes, occ-made, sbe-made}
 
 -- two choices by the same test
 by-both : {A B : Type 0} (Q : A → B → Type 0) (b : Bool) {x y : A} {u v : B} → (b ≡ true → Q x u) → (b ≡ false → Q y v) → Q (cond b x y) (cond b u v)
@@ -78,10 +78,6 @@ module _ (s : Session) (formed : wellFormed s ≡ true) (ok : recordOk (s .held)
       (cond-elim Fair (ltb c 4) ((λ z. omega (arith, z)), (λ z. omega (arith, z))) ((λ z. omega (arith, z)), (λ z. omega (arith, z))))))
 
   module _ (sender : ℕ) (c d : List ℕ) (bytes : Bytes c) where
-    data-bytes : Bytes (dataOf c)
-    unfolding dataOf dataAt
-    data-bytes = cond-elim Bytes (ltb (length c) (dataLength c + 6)) tt (bytes-take (dataLength c) (drop 4 c) (bytes-drop 4 c bytes))
-
     abbrev j : Judged
     j = judgeOf (s .held) (s .worked) (s .next) sender (getD c 1 0) (dataOf c)
 
@@ -90,7 +86,7 @@ module _ (s : Session) (formed : wellFormed s ≡ true) (ok : recordOk (s .held)
     unfolding adding occs.occMade occs.carriedSays occs.kept occs.says occs.answered
     occ-makes ch v =
         by-both OccFollows (carriedOf s (record { change = ch; tables = j .tables }) .full) (λ f. full)
-        (λ f. carries (record { change = ch; tables = j .tables }) (occ-made (s .held) (s .worked) (s .next) sender (getD c 1 0) (dataOf c) data-bytes ok typed ch v) f)
+        (λ f. carries (record { change = ch; tables = j .tables }) (occ-made (s .held) (s .worked) (s .next) sender (getD c 1 0) (dataOf c) (data-bytes c bytes) ok typed ch v) f)
 
     occ-verdict : (v : Verdict) → j .verdict ≡ v → OccFollows (occVerdict s (j .tables) v) (occs.verdictSays s (getD c 0 0) (getD c 1 0) d (j .tables) v)
     unfolding occVerdict occs.verdictSays occs.refuses occs.says occs.answered

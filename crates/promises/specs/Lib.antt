@@ -8,6 +8,7 @@ pub mod Asked
 pub mod Ids
 pub mod Demand3
 pub mod NoTrace
+pub mod WellFormed
 pub mod Fresh
 pub mod ComputedSession
 pub mod ComputedOcc

@@ -1,12 +1,12 @@
 -- What the stand-in promises, each in a few lines, each proved by pointing at the file that does the work.
 -- s, p: a session, a run of calls; c: a call with any bytes and any buffer. The calls are those of the public contracts (Calls.antt).
-use Prim.Native.Nat.{ℕ, suc, _+_, _≤_}
+use Prim.Native.Nat.{ℕ, _+_}
 use mathlib.Core.Bool.{true}
 use mathlib.Core.Logic.{_↔_, _⊎_}
-use mathlib.Core.Path.{_≡_}
+use mathlib.Core.Path.{_≡_, sym, _∙_}
 use mathlib.Core.List.{List, []}
 use lib.ListN.{length, getD}
-use Rattle.wire.specs.Wire.{pasted}
+use Rattle.wire.specs.Laws.{Bytes}
 use Rattle.record.specs.Record.{freshRecord, workedOf}
 use Rattle.record.specs.declared.Record.{Record}
 use Rattle.record.specs.declared.Worked.{Worked}
@@ -30,6 +30,8 @@ use Rattle.promises.specs.History.{Run, adds, deed, logsMade, run, next-
 use Rattle.promises.specs.Ids.{idsMade, countdown}
 use Rattle.promises.specs.Fresh.{fresh-start}
 use Rattle.promises.specs.Demand3.{demand3, ids-in-order, invariant}
+use Rattle.links.specs.Typed.{TypedSession}
+use Rattle.promises.specs.WellFormed.{occ-formed, sbe-formed, undo-formed}
 use Rattle.promises.specs.NoTrace.{withNext, trace-free}
 use Rattle.promises.specs.Examples.{All, holds, table, examples}
 
@@ -50,6 +52,32 @@ refusal-of-undo-keeps s = undo-came.refusal-keeps s (undoCall s) (undo-came.came
 pub error-of-occ-keeps : (s : Session) (sender : ℕ) (c d : List ℕ)
     → (occCall s sender c d .outcome .session ≡ s) ⊎ (occCall s sender c d .reply ≡ replied (getD c 0 0) (getD c 1 0) 0x00 [] d)
 error-of-occ-keeps s sender c d = occ-came.error-keeps s sender c d (occCall s sender c d) (occ-came.came s sender c d)
+
+-- ---- the contracts determine everything: two outcomes that one allows are equal (they are functions of what is handed in)
+
+pub one-outcome : {A : Type 0} (allowed x y : A) → x ≡ allowed → y ≡ allowed → x ≡ y
+one-outcome allowed x y p q = p ∙ sym q
+
+-- ---- well-formed in, well-formed out, on every session of the type; and what is worked out is the record's
+
+pub occ-stays-well-formed : (s : Session) → TypedSession s → wellFormed s ≡ true → (sender : ℕ) (c d : List ℕ) → Bytes c → wellFormed (occCall s sender c d .outcome .session) ≡ true
+occ-stays-well-formed = occ-formed
+
+pub sbe-stays-well-formed : (s : Session) → TypedSession s → wellFormed s ≡ true → (r d : List ℕ) → Bytes r → wellFormed (sbeCall s r d .outcome .session) ≡ true
+sbe-stays-well-formed = sbe-formed
+
+pub undo-stays-well-formed : (s : Session) → TypedSession s → wellFormed s ≡ true → wellFormed (undoCall s .session) ≡ true
+undo-stays-well-formed = undo-formed
+
+pub worked-out-after-occ : (s : Session) (sender : ℕ) (c d : List ℕ) → wellFormed s ≡ true
+    → occCall s sender c d .outcome .session .worked ≡ workedOf (occCall s sender c d .outcome .session .held)
+worked-out-after-occ s sender c d = occ-came.worked-after s sender c d (occCall s sender c d) (occ-came.came s sender c d)
+
+pub worked-out-after-sbe : (s : Session) (r d : List ℕ) → wellFormed s ≡ true → sbeCall s r d .outcome .session .worked ≡ workedOf (sbeCall s r d .outcome .session .held)
+worked-out-after-sbe s r d = sbe-came.worked-after s r d (sbeCall s r d) (sbe-came.came s r d)
+
+pub worked-out-after-undo : (s : Session) → wellFormed s ≡ true → undoCall s .session .worked ≡ workedOf (undoCall s .session .held)
+worked-out-after-undo s = undo-came.worked-after s (undoCall s) (undo-came.came s)
 
 -- ---- demand 2: accepted exactly when (the conditions: packet, occ and sbe, specs/Exactly.antt)
 

@@ -47,7 +47,7 @@ next-small r n h = leb-true n 256 (passed (ltb n 1) _ (sound h .next))
     passed false b h = h
 
 -- an entry that isn't refused has room
-end-room : (s : Session) (e b : Edit) (n used : ℕ) → carriedTo s e (endOf n used b) .full ≡ false → used + entryLen b ≤ n
+pub end-room : (s : Session) (e b : Edit) (n used : ℕ) → carriedTo s e (endOf n used b) .full ≡ false → used + entryLen b ≤ n
 unfolding endOf carriedTo
 end-room s e b n used f = go (ltb n used) (ltb (n - used) (entryLen b)) refl refl f
   where

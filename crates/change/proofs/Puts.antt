@@ -1,5 +1,4 @@
 -- What a record is after logs are put into it. Assumes nothing.
-use Prim.Native.Nat.{ℕ}
 use mathlib.Core.Path.{_≡_, sym, ap, ap₂, _∙_}
 use mathlib.Core.List.{List}
 use Rattle.record.specs.declared.Log.{Log}
@@ -8,7 +7,7 @@ use Rattle.change.specs.declared.Change.{Change}
 use Rattle.change.specs.declared.Edit.{Edit}
 use Rattle.change.specs.declared.Changed.{Changed}
 use Rattle.change.specs.Change.{accepted, putWith, putOf, backOf}
-use Rattle.change.specs.With.{withState, withLogs}
+use Rattle.change.specs.With.{withLogs}
 
 pub with-logs-put : (r y : Record) (x : Changed) (l m : List Log) → x ≡ accepted y → y ≡ withLogs r l → l ≡ m → x ≡ accepted (withLogs r m)
 with-logs-put r y x l m p q e = p ∙ ap accepted (q ∙ ap (withLogs r) e)

@@ -1,14 +1,9 @@
 -- An entry written field after field from the front. Assumes nothing.
 use Prim.Native.Nat.{ℕ}
-use mathlib.Core.Path.{_≡_, refl, ap, _∙_}
+use mathlib.Core.Path.{_≡_, refl}
 use mathlib.Core.List.{List, [], _∷_, _++_}
-use lib.ListN.{length}
 use Rattle.wire.specs.Wire.{toBE, pasted}
-use Rattle.wire.specs.Laws.{paste-next}
-
--- the bytes bs after those written before
-pub field-next : (at : ℕ) (xs bs d x y : List ℕ) → x ≡ pasted 0 xs d → y ≡ pasted at bs x → at ≡ length xs → y ≡ pasted 0 (xs ++ bs) d
-field-next at xs bs d x y p q e = q ∙ ap (pasted at bs) p ∙ paste-next at xs bs d e
+use Rattle.wire.specs.Laws.{field-next}
 
 module _ (k got : ℕ) (d x y : List ℕ) where
   pub number-put : (n v : ℕ) → x ≡ pasted 0 (k ∷ []) d → y ≡ pasted 1 (toBE n v) x → y ≡ pasted 0 (k ∷ toBE n v) d

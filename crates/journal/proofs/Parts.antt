@@ -3,19 +3,19 @@ use Prim.Native.Nat.{ℕ, zero, suc, _+_, _-_, _≤_, _<_}
 use mathlib.Core.Bool.{Bool, true, false, cond, false≢true}
 use mathlib.Core.Path.{_≡_, refl, sym, ap, subst, _∙_}
 use mathlib.Core.List.{List, [], _∷_, _++_, append-nil}
-use native.Mathlib.Nat.{zero-add, not-suc-le-zero, le-of-suc-le-suc}
+use native.Mathlib.Nat.{zero-add}
 use native.Mathlib.Omega.{arith}
 use borrow.Author.Tests.{leb-true}
 use lib.Dec.{leb}
-use lib.ListN.{length, getD, take, drop, replicate, length-take, length-drop, length-replicate, drop-of-length-le}
-use lib.Seq.{take-all, drop-drop, length-take-le}
+use lib.ListN.{length, getD, take, drop, replicate, length-drop, length-replicate, drop-of-length-le}
+use lib.Seq.{drop-drop, length-take-le}
 use Rattle.wire.specs.Wire.{pasted}
 use Rattle.wire.specs.Laws.{tail-part}
 use Rattle.change.specs.declared.Change.{Change}
 use Rattle.change.specs.declared.Edit.{Edit}
 use Rattle.change.specs.Change.{kindOf}
 use Rattle.entries.specs.Entries.{bytesOf, bodyLengths, bodyLen}
-use Rattle.formed.specs.Formed.{changeOk, editOk}
+use Rattle.formed.specs.Formed.{editOk}
 use Rattle.journal.specs.declared.Found.{Found}
 use Rattle.journal.specs.declared.Found.the-variants.{Good, Bad}
 use Rattle.journal.specs.declared.Got.{Got}

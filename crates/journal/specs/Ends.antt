@@ -16,7 +16,7 @@ use Rattle.change.specs.Change.{kindOf}
 use Rattle.entries.specs.Entries.{Entry, bodyLen, bytesOf, between, scan}
 use Rattle.entries.specs.Laws.{read-append}
 use Rattle.journal.specs.declared.End.the-variants.{At}
-use Rattle.journal.specs.Bytes.{bodyOf, entryFor, entryBytes}
+use Rattle.journal.specs.Bytes.{entryFor, entryBytes}
 use Rattle.journal.specs.Add.{entryLen, endOf, addedTo, cutFrom}
 use Rattle.journal.specs.Laws.{Writable, length-body, some-body}
 

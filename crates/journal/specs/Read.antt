@@ -10,7 +10,6 @@ use Rattle.record.specs.declared.Caps.{Caps}
 use Rattle.record.specs.declared.Area.{Area}
 use Rattle.record.specs.declared.Throttles.{Throttles}
 use Rattle.change.specs.Change.{noTables}
-use Rattle.change.specs.declared.Change.{Change}
 use Rattle.change.specs.declared.Change.the-variants.{Unclear, SetState, SetRole, SetCaps, SetUser, SetThermal, SetThrottles, Unreset, SetMask, SetDeadman, SetAreas}
 use Rattle.change.specs.declared.Tables.{Tables}
 use Rattle.entries.specs.Entries.{Entry, bodyLen, Scan, between, within, unknown, scan}

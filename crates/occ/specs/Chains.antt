@@ -1,4 +1,5 @@
 -- A chain of tests, each of which may refuse: from "it accepts" to the conditions, and back. Assumes nothing.
+use Rattle.wire.specs.Cases.{cond-cases}
 use Prim.Native.Nat.{ℕ, _<_, _≤_}
 use mathlib.Core.Bool.{Bool, true, false, cond, not, false≢true, true≢false}
 use mathlib.Core.Path.{_≡_, refl, sym, ap, _∙_}
@@ -15,11 +16,6 @@ P and Q = P × Q
 -- a test is itself a chain that accepts or doesn't
 abbrev pub holds : Bool → Bool
 holds b = b
-
--- what holds where a test holds, and where it doesn't, holds of the choice
-pub by-test : {A : Type 0} (P : A → Type 0) {x y : A} (t : Bool) → (t ≡ true → P x) → (t ≡ false → P y) → P (cond t x y)
-by-test P true f g = f refl
-by-test P false f g = g refl
 
 -- ---- one test: when it holds, and when it lets pass
 
@@ -99,14 +95,14 @@ module _ (m n : ℕ) {x : Bool} {P : Type 0} (p : (x ≡ false) ↔ P) where
   -- n brings one, and the rest another, which n fulfils
   pub if-is : {y : Bool} {Q : Type 0} → (y ≡ false) ↔ Q → (m ≡ n → Q) → (cond (eqb m n) x y ≡ false) ↔ ((m ≡ n → P) and Q)
   if-is {Q = Q} q free =
-      by-test (λ (z : Bool). (z ≡ false) ↔ ((m ≡ n → P) and Q)) (eqb m n)
+      cond-cases (λ (z : Bool). (z ≡ false) ↔ ((m ≡ n → P) and Q)) (eqb m n)
       (λ t. let e = eqb-true m n t in (λ h. (λ k. p .0 h, free e), λ h. p .1 (h .0 e)))
       (λ t. (λ h. (λ k. absurd (eqb-false m n t k), q .0 h), λ h. q .1 (h .1)))
 
   -- n alone brings one
   pub if-is-last : (cond (eqb m n) x false ≡ false) ↔ (m ≡ n → P)
   if-is-last =
-      by-test (λ (z : Bool). (z ≡ false) ↔ (m ≡ n → P)) (eqb m n)
+      cond-cases (λ (z : Bool). (z ≡ false) ↔ (m ≡ n → P)) (eqb m n)
       (λ t. (λ h k. p .0 h, λ h. p .1 (h (eqb-true m n t))))
       (λ t. (λ h k. absurd (eqb-false m n t k), λ h. refl))
 
@@ -120,7 +116,7 @@ module _ {A : Type 0} (accepts : A → Bool) (m : ℕ) where
 
   -- the last number; any other is refused
   pub last-case : (n : ℕ) {x y : A} {P : Type 0} → (accepts x ≡ true) ↔ P → accepts y ≡ false → Cases n (cond (eqb m n) x y) ((m ≡ n) and P)
-  last-case n {x} {y} {P} p e = record { exactly = by-test Exactly (eqb m n) is isn't; above = λ h. let k = h .0 in omega arith }
+  last-case n {x} {y} {P} p e = record { exactly = cond-cases Exactly (eqb m n) is isn't; above = λ h. let k = h .0 in omega arith }
     where
       Exactly : A → Type 0
       Exactly z = (accepts z ≡ true) ↔ ((m ≡ n) and P)
@@ -134,7 +130,7 @@ module _ {A : Type 0} (accepts : A → Bool) (m : ℕ) where
   -- a number below those that follow
   pub or-case : (n : ℕ) {low : ℕ} {x y : A} {P Q : Type 0} → n < low → (accepts x ≡ true) ↔ P
       → Cases low y Q → Cases n (cond (eqb m n) x y) (((m ≡ n) and P) ⊎ Q)
-  or-case n {low} {x} {y} {P} {Q} l p q = record { exactly = by-test Exactly (eqb m n) is isn't; above = ⊎-elim (λ h. let k = h .0 in omega arith) (λ h. let k = q .above h in omega arith) }
+  or-case n {low} {x} {y} {P} {Q} l p q = record { exactly = cond-cases Exactly (eqb m n) is isn't; above = ⊎-elim (λ h. let k = h .0 in omega arith) (λ h. let k = q .above h in omega arith) }
     where
       Exactly : A → Type 0
       Exactly z = (accepts z ≡ true) ↔ (((m ≡ n) and P) ⊎ Q)

@@ -1,4 +1,5 @@
 -- Document 01, "OCC packets": each command is accepted exactly when its conditions hold. d is the data. Assumes nothing.
+use Rattle.wire.specs.Cases.{cond-cases}
 use Prim.Native.Nat.{ℕ, zero, suc, _+_, _-_, _*_, _<_, _≤_}
 use mathlib.Core.Bool.{Bool, true, false, cond, not}
 use mathlib.Core.Path.{_≡_, refl}
@@ -24,7 +25,7 @@ use Rattle.occ.specs.declared.Verdict.the-variants.{Refuse, Poll, Make}
 use Rattle.occ.specs.declared.Judged.{Judged}
 use Rattle.occ.specs.Commands.{pollVerdict, clearAt, clearVerdict, stateFits, notReady, stateVerdict, roleVerdict, capsFor, sentCaps, capsVerdict, userAllowed, userFor, userVerdict, logDue, resetFor, resetVerdict}
 use Rattle.occ.specs.Judge.{plainly, setsJudged, throttlesFor, throttlesJudged, frusJudged, thermalFor, thermalJudged, formatJudged, configureJudged, openTo, typeJudged, judgeOf}
-use Rattle.occ.specs.Chains.{_and_, holds, by-test, eq-holds, le-holds, eq-passes, lt-passes, le-passes, zero-passes, not-passes, unless, unless-last, if-needed, or-else, Ends, ends-unless, ends-if-needed, ends-when, ends-last, if-is, if-is-last, last-case, or-case}
+use Rattle.occ.specs.Chains.{_and_, holds, eq-holds, le-holds, eq-passes, lt-passes, le-passes, zero-passes, not-passes, unless, unless-last, if-needed, or-else, Ends, ends-unless, ends-if-needed, ends-when, ends-last, if-is, if-is-last, last-case, or-case}
 use Rattle.occ.specs.SetsExactly.{SetsOk, FrusOk, sets-exactly, frus-exactly}
 
 -- ---- the conditions, in the document's words and order
@@ -151,7 +152,7 @@ first-there : (id : ℕ) (logs : List Log) → firstWith id logs < length logs �
 unfolding firstWith
 first-there id [] = λ h. absurd (not-suc-le-zero h)
 first-there id (x ∷ logs) =
-    by-test (λ (n : ℕ). n < suc (length logs) → getD (x ∷ logs) n noLog .id ≡ id) (eqb (x .id) id)
+    cond-cases (λ (n : ℕ). n < suc (length logs) → getD (x ∷ logs) n noLog .id ≡ id) (eqb (x .id) id)
     (λ t h. eqb-true (x .id) id t)
     (λ t h. first-there id logs (le-of-suc-le-suc h))
 
@@ -160,9 +161,9 @@ first-before : (id place : ℕ) (logs : List Log) → place < length logs → ge
 unfolding firstWith
 first-before id place [] h e = absurd (not-suc-le-zero h)
 first-before id zero (x ∷ logs) h e =
-    by-test (λ (n : ℕ). n ≤ 0) (eqb (x .id) id) (λ t. omega arith) (λ t. absurd (eqb-false (x .id) id t e))
+    cond-cases (λ (n : ℕ). n ≤ 0) (eqb (x .id) id) (λ t. omega arith) (λ t. absurd (eqb-false (x .id) id t e))
 first-before id (suc place) (x ∷ logs) h e =
-    by-test (λ (n : ℕ). n ≤ suc place) (eqb (x .id) id)
+    cond-cases (λ (n : ℕ). n ≤ suc place) (eqb (x .id) id)
     (λ t. omega arith)
     (λ t. let k = first-before id place logs (le-of-suc-le-suc h) e in omega arith)
 
@@ -171,7 +172,7 @@ module _ (id : ℕ) (logs : List Log) (four : length logs ≡ 4) where
   pub found-there : findOf id logs < 4 → (id ≡ 0 → ⊥) and (getD logs (findOf id logs) noLog .id ≡ id)
   unfolding findOf
   found-there =
-      by-test (λ (n : ℕ). n < 4 → (id ≡ 0 → ⊥) and (getD logs n noLog .id ≡ id)) (eqb id 0)
+      cond-cases (λ (n : ℕ). n < 4 → (id ≡ 0 → ⊥) and (getD logs n noLog .id ≡ id)) (eqb id 0)
       (λ t h. absurd (omega arith))
       (λ t h. let k : firstWith id logs < length logs = omega arith in (eqb-false id 0 t, first-there id logs k))
 
@@ -179,7 +180,7 @@ module _ (id : ℕ) (logs : List Log) (four : length logs ≡ 4) where
   there-found : Pends id logs → findOf id logs < 4
   unfolding findOf Pends
   there-found h =
-      by-test (λ (n : ℕ). n < 4) (eqb id 0)
+      cond-cases (λ (n : ℕ). n < 4) (eqb id 0)
       (λ t. absurd (h .0 (eqb-true id 0 t)))
       (λ t.
       let l : h .1 .0 < length logs = omega (arith, h .1 .1) in

@@ -8,7 +8,7 @@ use native.Mathlib.Omega.{arith}
 use borrow.Author.Tests.{not-false, le-leb}
 use lib.Dec.{ltb, eqb}
 use lib.ListN.{length, getD, drop, replicate}
-use Rattle.wire.specs.Cases.{else-eq, cond-elim}
+use Rattle.wire.specs.Cases.{else-eq, cond-elim, cond-cases}
 use Rattle.record.specs.Record.{noLog, noThrottles}
 use Rattle.record.specs.declared.Log.{Log}
 use Rattle.record.specs.declared.Caps.{Caps}
@@ -29,7 +29,7 @@ use Rattle.occ.specs.declared.Verdict.the-variants.{Refuse, Poll, Make}
 use Rattle.occ.specs.declared.Judged.{Judged}
 use Rattle.occ.specs.Commands.{pollVerdict, clearVerdict, stateVerdict, roleVerdict, capsVerdict, userVerdict, logDue, resetVerdict}
 use Rattle.occ.specs.Judge.{plainly, setsJudged, throttlesFor, throttlesJudged, frusJudged, thermalFor, thermalJudged, formatJudged, configureJudged, openTo, typeJudged, judgeOf}
-use Rattle.occ.specs.Chains.{_and_, holds, by-test, eq-holds, le-holds, eq-passes, lt-passes, not-passes, unless, or-else, Ends}
+use Rattle.occ.specs.Chains.{_and_, holds, eq-holds, le-holds, eq-passes, lt-passes, not-passes, unless, or-else, Ends}
 use Rattle.occ.specs.Exactly.{Pends, ClearLogOk, SetStateOk, RoleFormatOk, CapsFormatOk, ResetPrepOk, accepts, setsTested, resetMade, found-there, found-exactly, poll-exactly, clear-log-exactly, set-state-exactly, role-format-exactly, caps-format-exactly, user-cap-exactly, log-due-exactly, reset-prep-exactly}
 
 -- ---- what is known of a change that is made
@@ -166,7 +166,7 @@ module _ (r : Record) (next : ℕ) (s : Sound r next) (four : length (r .logs) �
   unfolding ResetPrepOk resetMade
   reset-right role d =
       makes-by Plain _ (reset-prep-exactly role (r .logs) next d)
-      (λ c. by-test (Makes Plain) (not (logDue role (getD d 1 0)))
+      (λ c. cond-cases (Makes Plain) (not (logDue role (getD d 1 0)))
       (λ t. make-makes Plain _ reset-alone)
       (λ t.
       let due = log-due-exactly role (getD d 1 0) .0 (not-false _ t) in

@@ -1,4 +1,5 @@
 -- Document 01, formats 0x12 and 0x13: sets are read without fault exactly when each is in range and none comes twice. Assumes nothing.
+use Rattle.wire.specs.Cases.{cond-cases}
 use Prim.Native.Nat.{ℕ, zero, suc, _+_, _*_, _/_, _%_, _^_, _<_, _≤_}
 use mathlib.Core.Bool.{Bool, true, false, cond, not, false≢true}
 use mathlib.Core.Path.{_≡_, refl, sym, ap, subst, _∙_}
@@ -12,7 +13,7 @@ use Rattle.sets.specs.declared.Sets.{Sets}
 use Rattle.sets.specs.declared.Frus.{Frus}
 use Rattle.sets.specs.Sets.{bitOf, emptySets, badSets, withPair, oneSet, setsOf, emptyFrus, badFrus, withFru, oneFru, frusOf}
 use Rattle.sets.specs.Laws.{Parted, sets-parted, frus-parted}
-use Rattle.occ.specs.Chains.{_and_, by-test, eq-holds, lt-passes, not-passes, Ends, ends-unless, ends-last}
+use Rattle.occ.specs.Chains.{_and_, eq-holds, lt-passes, not-passes, Ends, ends-unless, ends-last}
 
 -- ---- the conditions
 
@@ -205,7 +206,7 @@ module _ {A : Type 0} {one : A → List ℕ → A} {w : ℕ} {all : ℕ → A �
 
 -- read on only where nothing was wrong before
 ends-on : {A : Type 0} (ok : A → Bool) (t : A) {y z : A} {Q : Type 0} → Ends ok y Q z → Ends ok (cond (not (ok t)) t y) ((ok t ≡ true) and Q) z
-ends-on ok t {y} {z} {Q} q = by-test (λ v. Ends ok v ((ok t ≡ true) and Q) z) (not (ok t)) bad good
+ends-on ok t {y} {z} {Q} q = cond-cases (λ v. Ends ok v ((ok t ≡ true) and Q) z) (not (ok t)) bad good
   where
     bad : not (ok t) ≡ true → Ends ok t ((ok t ≡ true) and Q) z
     bad e =

@@ -1,29 +1,27 @@
 -- What can come of the call `occ`, whatever is handed in: refused, replied to with the session as it was, or a change carried out.
 -- Demand 1 and the promises on the session after a call are read off these three. Assumes nothing.
+use Rattle.wire.specs.Cases.{cond-cases}
 use Prim.Native.Nat.{ℕ}
-use mathlib.Core.Bool.{Bool, true, false, cond, not}
+use mathlib.Core.Bool.{true, false, not}
 use mathlib.Core.Logic.{_⊎_, inl, inr}
-use mathlib.Core.Path.{_≡_, refl, sym, ap, subst, _∙_}
+use mathlib.Core.Path.{_≡_, refl}
 use mathlib.Core.List.{List, []}
 use native.Mathlib.Omega.{arith}
 use borrow.Author.Tests.{not-false, eqb-true, eqb-false, not-true}
-use lib.Dec.{eqb, ltb}
+use lib.Dec.{eqb}
 use lib.ListN.{length, getD}
 use Rattle.record.specs.Record.{workedOf}
 use Rattle.change.specs.declared.Change.{Change}
-use Rattle.change.specs.declared.Tables.{Tables}
 use Rattle.change.specs.declared.Edit.{Edit}
-use Rattle.packet.specs.Packet.{packetStatus, dataOf, noLogId, replied}
+use Rattle.packet.specs.Packet.{packetStatus, dataOf, replied}
 use Rattle.occ.specs.Judge.{judgeOf}
 use Rattle.occ.specs.declared.Verdict.{Verdict}
 use Rattle.occ.specs.declared.Verdict.the-variants.{Refuse, Poll, Make}
 use Rattle.occ.specs.declared.Judged.{Judged}
 use Rattle.session.specs.Session.{wellFormed, carriedOf}
-use Rattle.session.specs.Laws.{formed, carried-worked}
+use Rattle.session.specs.Laws.{formed, none-due, carried-worked}
 use Rattle.session.specs.declared.Session.{Session}
-use Rattle.session.specs.declared.Carried.{Carried}
-use Rattle.occ_call.specs.declared.Outcome.{Outcome}
-use Rattle.occ_call.specs.Occ.{Result, answered, kept, says, refuses, knownSender, occRefusal, carriedSays, occMade, verdictSays, judgedSays, occJudged, occRead, occFrom, occCall}
+use Rattle.occ_call.specs.Occ.{Result, answered, kept, says, refuses, occRefusal, carriedSays, occMade, verdictSays, judgedSays, occJudged, occRead, occFrom, occCall}
 
 module _ (s : Session) (sender : ℕ) (c d : List ℕ) where
   abbrev pub judgement : Judged
@@ -38,13 +36,9 @@ module _ (s : Session) (sender : ℕ) (c d : List ℕ) where
     carried-out : (ch : Change) → wellFormed s ≡ true → judgement .verdict ≡ Make ch → carriedOf s (edit ch) .full ≡ false
         → Came (says (carriedOf s (edit ch) .session) (replied (getD c 0 0) (getD c 1 0) 0x00 [] d))
 
-  by-test : (b : Bool) {x y : Result} → (b ≡ true → Came x) → (b ≡ false → Came y) → Came (cond b x y)
-  by-test true f g = f refl
-  by-test false f g = g refl
-
   came-carried : (ch : Change) → wellFormed s ≡ true → judgement .verdict ≡ Make ch → Came (occMade s (edit ch) (getD c 0 0) (getD c 1 0) d)
   unfolding occMade carriedSays
-  came-carried ch w v = by-test (carriedOf s (edit ch) .full) (λ f. refused 5 (λ z. omega (arith, z))) (λ f. carried-out ch w v f)
+  came-carried ch w v = cond-cases Came (carriedOf s (edit ch) .full) (λ f. refused 5 (λ z. omega (arith, z))) (λ f. carried-out ch w v f)
 
   came-verdict : (v : Verdict) → wellFormed s ≡ true → judgement .verdict ≡ v → Came (verdictSays s (getD c 0 0) (getD c 1 0) d (judgement .tables) v)
   unfolding verdictSays refuses
@@ -54,17 +48,12 @@ module _ (s : Session) (sender : ℕ) (c d : List ℕ) where
 
   came-read : wellFormed s ≡ true → Came (occRead s sender c (packetStatus c) d)
   unfolding occRead refuses occJudged judgedSays
-  came-read w = by-test (not (eqb (packetStatus c) 0)) (λ f. replied-to _) (λ f. came-verdict (judgement .verdict) w refl)
-
-  -- no refusal is due only of a well-formed session
-  none-due : (b : Bool) (n : ℕ) → cond (not b) 1 n ≡ 0 → b ≡ true
-  none-due true n h = refl
-  none-due false n h = let z : ⊥ = omega (arith, h) in absurd z
+  came-read w = cond-cases Came (not (eqb (packetStatus c) 0)) (λ f. replied-to _) (λ f. came-verdict (judgement .verdict) w refl)
 
   pub came : Came (occCall s sender c d)
   unfolding occCall occFrom occRefusal
   came =
-      by-test (not (eqb (occRefusal s sender (length c) (length d)) 0))
+      cond-cases Came (not (eqb (occRefusal s sender (length c) (length d)) 0))
       (λ f. refused _ (eqb-false _ 0 (not-true _ f)))
       (λ f. came-read (none-due (wellFormed s) _ (eqb-true _ 0 (not-false _ f))))
 

@@ -6,13 +6,9 @@ use native.Mathlib.Nat.{zero-add}
 use native.Mathlib.Omega.{arith}
 use lib.ListN.{length, take}
 use Rattle.wire.specs.Wire.{toBE, packetSum, pasted}
-use Rattle.wire.specs.Laws.{paste-next, take-pasted}
+use Rattle.wire.specs.Laws.{take-pasted, field-next}
 use Rattle.packet.specs.Packet.{unsummed, replyBytes, replied}
 use Rattle.packet.specs.Laws.{length-unsummed, replied-room}
-
--- the bytes bs after those written before
-field-next : (at : ℕ) (xs bs d x y : List ℕ) → x ≡ pasted 0 xs d → y ≡ pasted at bs x → at ≡ length xs → y ≡ pasted 0 (xs ++ bs) d
-field-next at xs bs d x y p q e = q ∙ ap (pasted at bs) p ∙ paste-next at xs bs d e
 
 -- the bytes written from the front are read back
 front : (xs d : List ℕ) → length xs ≤ length d → take (length xs) (pasted 0 xs d) ≡ xs

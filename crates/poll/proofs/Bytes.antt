@@ -1,11 +1,11 @@
 -- The reply's bytes as the code writes them. Assumes nothing.
 use Prim.Native.Nat.{ℕ, _+_, _*_, _/_, _%_, _<_}
-use mathlib.Core.Path.{_≡_, refl, sym, ap, _∙_}
+use mathlib.Core.Path.{_≡_, refl, sym, _∙_}
 use mathlib.Core.List.{List, [], _∷_, _++_, append-nil}
 use native.Mathlib.Omega.{arith}
 use lib.ListN.{length, drop, drop-of-length-le}
 use Rattle.wire.specs.Wire.{toBE, pasted}
-use Rattle.wire.specs.Laws.{paste-next}
+use Rattle.wire.specs.Laws.{field-next}
 use Rattle.record.specs.declared.Caps.{Caps}
 use Rattle.poll.specs.Poll.{logLength, codeLevel, sensorText, pollHead, capsBlock}
 
@@ -35,9 +35,6 @@ head-bytes status wanted state id blocks len h l e = rw (address-bytes id h, ←
 
 -- ---- parts written one after the other, over a whole array
 
-part-next : (at : ℕ) (xs bs d x y : List ℕ) → x ≡ pasted 0 xs d → y ≡ pasted at bs x → at ≡ length xs → y ≡ pasted 0 (xs ++ bs) d
-part-next at xs bs d x y p q e = q ∙ ap (pasted at bs) p ∙ paste-next at xs bs d e
-
 whole : (xs d y : List ℕ) → y ≡ pasted 0 xs d → length xs ≡ length d → y ≡ xs
 unfolding pasted
 whole xs d y p e =
@@ -45,7 +42,7 @@ whole xs d y p e =
     p ∙ rw (z, append-nil)
 
 pub both-put : (xs bs d x y : List ℕ) (at : ℕ) → x ≡ pasted 0 xs d → y ≡ pasted at bs x → at ≡ length xs → length (xs ++ bs) ≡ length d → y ≡ xs ++ bs
-both-put xs bs d x y at p q e l = whole (xs ++ bs) d y (part-next at xs bs d x y p q e) l
+both-put xs bs d x y at p q e l = whole (xs ++ bs) d y (field-next at xs bs d x y p q e) l
 
 -- the CAPS block's header
 abbrev header : List ℕ
@@ -62,9 +59,9 @@ block-put limit caps user d a b c e f g h l p q r s t u v =
     let four = three ++ toBE 2 (caps .max) in
     let five = four ++ toBE 2 (caps .max) in
     let six = five ++ toBE 2 (caps .min) in
-    let i = part-next 8 header (toBE 2 limit) d a b p q refl in
-    let j = part-next 10 two (toBE 2 0) d b c i r refl in
-    let k = part-next 12 three (toBE 2 (caps .max)) d c e j s refl in
-    let m = part-next 14 four (toBE 2 (caps .max)) d e f k t refl in
-    let n = part-next 16 five (toBE 2 (caps .min)) d f g m u refl in
+    let i = field-next 8 header (toBE 2 limit) d a b p q refl in
+    let j = field-next 10 two (toBE 2 0) d b c i r refl in
+    let k = field-next 12 three (toBE 2 (caps .max)) d c e j s refl in
+    let m = field-next 14 four (toBE 2 (caps .max)) d e f k t refl in
+    let n = field-next 16 five (toBE 2 (caps .min)) d f g m u refl in
     both-put six (toBE 2 user) d g h 18 n v refl (sym l)

@@ -1,17 +1,17 @@
 -- A change that a command of bytes makes is one that links can undo: its values pass, its numbers are of their widths. Assumes nothing.
-use Prim.Native.Nat.{ℕ, _+_, _-_, _*_, _^_, _≤_, _<_}
+use Prim.Native.Nat.{ℕ, _+_, _-_, _*_, _≤_}
 use mathlib.Core.Bool.{Bool, true, false, cond, not, false≢true}
 use mathlib.Core.Logic.{_⊎_, inl, inr, ⊎-elim}
-use mathlib.Core.Path.{_≡_, refl, sym, ap, subst, _∙_}
+use mathlib.Core.Path.{_≡_, refl, sym, subst}
 use mathlib.Core.List.{List}
 use native.Mathlib.Omega.{arith}
-use borrow.Author.Tests.{ltb-false, leb-true, eq-eqb}
-use lib.Dec.{ltb, leb, eqb, lit<}
+use borrow.Author.Tests.{ltb-false, eq-eqb}
+use lib.Dec.{ltb, leb, eqb}
 use lib.ListN.{length, getD, take, drop, replicate}
-use Rattle.wire.specs.Laws.{Bytes, bytes-take, bytes-drop}
+use Rattle.wire.specs.Laws.{Bytes, bytes-take, bytes-drop, part-fits}
 use Rattle.packet.specs.Packet.{dataLength, dataAt, dataOf}
 use Rattle.wire.specs.Wire.{beNat}
-use Rattle.wire.specs.Cases.{cond-elim, if-b, if-eq}
+use Rattle.wire.specs.Cases.{cond-elim, if-eq}
 use Rattle.record.specs.Record.{noLog, noThrottles}
 use Rattle.record.specs.declared.Log.{Log}
 use Rattle.record.specs.declared.Caps.{Caps}
@@ -22,7 +22,7 @@ use Rattle.change.specs.Logs.{pendingOf, findOf}
 use Rattle.change.specs.declared.Change.{Change}
 use Rattle.change.specs.declared.Change.the-variants.{Clear, Unclear, SetState, SetRole, SetCaps, SetUser, SetThermal, SetThrottles, Reset, Unreset, SetMask, SetDeadman, SetAreas}
 use Rattle.change.specs.declared.Tables.{Tables}
-use Rattle.formed.specs.Formed.{recordOk, nextOk, reasonOk, changeOk}
+use Rattle.formed.specs.Formed.{recordOk, nextOk, reasonOk}
 use Rattle.formed.specs.Laws.{sound}
 use Rattle.journal.specs.Laws.{CapsFit, Writable}
 use Rattle.sets.specs.Sets.{emptySets, setsOf, emptyFrus, frusOf}
@@ -34,7 +34,7 @@ use Rattle.occ.specs.declared.Verdict.{Verdict}
 use Rattle.occ.specs.declared.Verdict.the-variants.{Refuse, Poll, Make}
 use Rattle.occ.specs.declared.Judged.{Judged}
 use Rattle.sbe.specs.Mailbox as mailbox
-use Rattle.sbe.specs.Laws.{Fitting, change-ok, change-fits, part-fits}
+use Rattle.sbe.specs.Laws.{change-ok, change-fits}
 use Rattle.sbe.specs.declared.Verdict.the-variants.{Make as Granted}
 use Rattle.links.specs.Typed.{TypedRecord}
 use Rattle.links.specs.Made.{NewLog, Values, Made}

@@ -1,19 +1,17 @@
 -- Demand 3 over any calls: at every moment the session is the one of the changes that are left. Assumes nothing.
-use Prim.Native.Nat.{ℕ, zero, suc, _+_, _≤_}
+use Prim.Native.Nat.{ℕ, suc, _+_}
 use mathlib.Core.Bool.{Bool, true, false, cond, not}
 use mathlib.Core.Path.{_≡_, refl, sym, ap, ap₂, subst, _∙_}
 use mathlib.Core.List.{List, [], _∷_}
 use native.Mathlib.Omega.{arith}
-use borrow.Author.Tests.{eqb-true, eqb-false, not-true, not-false, eq-eqb}
 use lib.Dec.{eqb, ltb}
-use lib.ListN.{length, getD, take, drop}
+use lib.ListN.{length, getD}
 use Rattle.wire.specs.Laws.{Bytes}
 use Rattle.wire.specs.Cases.{cond-elim}
 use Rattle.record.specs.Record.{workedOf}
 use Rattle.record.specs.declared.Record.{Record}
-use Rattle.change.specs.Change.{noTables, kindOf, inverseOf}
+use Rattle.change.specs.Change.{noTables}
 use Rattle.change.specs.declared.Change.{Change}
-use Rattle.change.specs.declared.Tables.{Tables}
 use Rattle.change.specs.declared.Edit.{Edit}
 use Rattle.formed.specs.Formed.{recordOk}
 use Rattle.packet.specs.Packet.{packetStatus, dataOf}
@@ -32,8 +30,8 @@ use Rattle.undo_call.specs.Undo.{notUndone, undoCall}
 use Rattle.undo_call.specs.declared.Undone.{Undone}
 use Rattle.links.specs.Typed.{TypedRecord}
 use Rattle.links.specs.Made.{Made}
-use Rattle.promises.specs.Calls.{Call, occ, sbe, undo, Said, said}
-use Rattle.promises.specs.History.{Deed, keeps, adds, strikes, adding, occVerdict, occJudgement, sbeVerdict, deed, Mark, strike, marked, left, logsMade, replay, Run, next-run, run, start, OfBytes, AllOfBytes, undoAnswer, Demand3}
+use Rattle.promises.specs.Calls.{Call, occ, sbe, undo, said}
+use Rattle.promises.specs.History.{Deed, keeps, adds, strikes, adding, occVerdict, occJudgement, sbeVerdict, deed, Mark, strike, marked, left, logsMade, replay, Run, next-run, run, OfBytes, AllOfBytes, undoAnswer, Demand3}
 use Rattle.promises.specs.Ids.{idsMade, countdown, drew, ids-add, ids-strike}
 use Rattle.promises.specs.Image.{image, Sane, image-formed}
 use Rattle.promises.specs.Steps.{carried-image, carried-sane, undo-image, undone-sane, undo-nothing}

@@ -1,10 +1,8 @@
 -- Document 01, "Worked examples (proved)": ten rows under one claim, at the bytes, replies whole.
-use Prim.Native.Nat.{ℕ, _+_}
-use mathlib.Core.Bool.{Bool, true, false, cond}
-use mathlib.Core.Path.{_≡_, refl, ap₂}
+use Prim.Native.Nat.{ℕ}
+use mathlib.Core.Path.{_≡_, refl}
 use mathlib.Core.List.{List, [], _∷_, _++_}
-use lib.Dec.{T, eqb, eqb→eq}
-use lib.ListN.{length, getD, take, replicate}
+use lib.ListN.{getD, take, replicate}
 use Rattle.wire.specs.Wire.{toBE, packetSum}
 use Rattle.record.specs.Record.{noLog}
 use Rattle.session.specs.Session.{freshSession}

@@ -1,44 +1,27 @@
 -- A session by its history: the changes that are left and the number of logs ever made determine it, byte for byte. Assumes nothing.
-use Prim.Native.Nat.{ℕ, zero, suc, _+_, _-_, _≤_, _<_}
-use mathlib.Core.Bool.{Bool, true, false, cond, not, true≢false}
-use mathlib.Core.Path.{_≡_, refl, sym, ap, ap₂, subst, _∙_}
-use mathlib.Core.List.{List, [], _∷_, _++_, append-assoc, append-nil}
-use native.Mathlib.Nat.{suc-add, add-zero}
-use native.Mathlib.Numerals.{add-one}
+use Prim.Native.Nat.{ℕ, suc, _+_, _-_, _≤_}
+use mathlib.Core.Bool.{true}
+use mathlib.Core.Path.{_≡_, refl, sym, ap, _∙_}
+use mathlib.Core.List.{List, [], _∷_, _++_, append-assoc}
 use native.Mathlib.Omega.{arith}
-use borrow.Author.Tests.{ltb-false}
-use lib.Dec.{ltb, eqb}
 use lib.ListN.{length, take, drop, replicate, length-append, length-replicate, replicate-append-replicate}
-use lib.Seq.{take-append-seam, drop-append-seam, drop-append-add, take-at, drop-at}
+use lib.Seq.{take-append-seam, drop-append-seam, drop-append-add, drop-at}
 use Rattle.wire.specs.Wire.{allAre, pasted}
 use Rattle.wire.specs.Laws.{all-replicate}
-use Rattle.wire.specs.Cases.{if-b, else-b, else-lt, if-eq, else-eq}
-use Rattle.record.specs.Record.{workedOf}
+use Rattle.wire.specs.Cases.{if-b}
 use Rattle.record.specs.declared.Record.{Record}
-use Rattle.change.specs.Change.{accepted, kindOf, putOf, inverseOf}
-use Rattle.change.specs.declared.Changed.{Changed}
+use Rattle.change.specs.Change.{inverseOf}
 use Rattle.change.specs.declared.Edit.{Edit}
 use Rattle.formed.specs.Formed.{recordOk}
-use Rattle.entries.specs.Entries.{Entry, bodyLen, bytesOf, written, between, scanFrom, scan, newestAt, readingOf}
+use Rattle.entries.specs.Entries.{Entry, bodyLen, bytesOf, written, between, scanFrom, scan}
 use Rattle.entries.specs.Laws.{read-append}
-use Rattle.entries.specs.declared.Reading.{Reading}
-use Rattle.entries.specs.declared.Reading.the-variants.{Whole}
 use Rattle.journal.specs.Bytes.{entryFor, entryBytes}
-use Rattle.journal.specs.Read.{gotOf, allOk, scanOk, journalOk}
-use Rattle.journal.specs.Add.{entryLen, endOf, addedTo, cutFrom}
+use Rattle.journal.specs.Read.{allOk, scanOk, journalOk}
 use Rattle.journal.specs.Laws.{Writable, length-body, some-body}
-use Rattle.journal.specs.Ends.{length-entry, end-at, added}
-use Rattle.journal.specs.declared.End.{End}
-use Rattle.journal.specs.declared.End.the-variants.{At, Full}
-use Rattle.journal.specs.declared.Found.the-variants.{Good}
-use Rattle.journal.specs.declared.Got.{Got}
-use Rattle.session.specs.Session.{wellFormed, withHeld, madeOf, carriedTo, carriedOf}
-use Rattle.session.specs.Laws.{Formed, formed-ok}
+use Rattle.session.specs.Session.{wellFormed, withHeld}
+use Rattle.session.specs.Laws.{formed-ok}
 use Rattle.session.specs.declared.Session.{Session}
-use Rattle.undo_call.specs.declared.Undone.{Undone}
-use Rattle.undo_call.specs.Undo.{notUndone, undone, undonePut, undoneWith, undoneFound, undoneGot, undoneAt, undoneRead, undoCall}
 use Rattle.links.specs.Typed.{TypedRecord}
-use Rattle.links.specs.Made.{Made}
 use Rattle.links.specs.Links.{Link, next-up}
 use Rattle.promises.specs.History.{replay}
 

@@ -1,7 +1,7 @@
 -- No trace: a change followed by its undo leaves the session as if nobody had tried, but for the next id. Assumes nothing.
 use Prim.Native.Nat.{ℕ, suc, _+_}
 use mathlib.Core.Bool.{false}
-use mathlib.Core.Path.{_≡_, refl, sym, ap, ap₂, subst, _∙_}
+use mathlib.Core.Path.{_≡_, sym, ap, ap₂, _∙_}
 use mathlib.Core.List.{List, _∷_}
 use lib.ListN.{length}
 use native.Mathlib.Nat.{suc-add, add-zero}
@@ -11,7 +11,7 @@ use Rattle.session.specs.Session.{withHeld, madeOf}
 use Rattle.session.specs.declared.Session.{Session}
 use Rattle.undo_call.specs.Undo.{undoCall}
 use Rattle.promises.specs.Calls.{Call, undo, said}
-use Rattle.promises.specs.History.{Deed, adds, deed, Mark, marked, left, logsMade, replay, Run, next-run, OfBytes}
+use Rattle.promises.specs.History.{adds, deed, Mark, marked, left, logsMade, replay, Run, next-run, OfBytes}
 use Rattle.promises.specs.Image.{padded, journalOf, image}
 use Rattle.promises.specs.Demand3.{Inv, tail, undone, next-inv}
 

@@ -25,8 +25,8 @@ use Rattle.sbe_call.specs.Sbe.{sbeCall}
 use Rattle.sbe_call.specs.Came as sbe-came
 use Rattle.undo_call.specs.Undo.{undoCall}
 use Rattle.undo_call.specs.Came as undo-came
-use Rattle.promises.specs.Calls.{Call, occ, sbe, undo, said}
-use Rattle.promises.specs.History.{Run, adds, deed, logsMade, run, next-run, start, OfBytes, AllOfBytes, Demand3}
+use Rattle.promises.specs.Calls.{Call, undo, said}
+use Rattle.promises.specs.History.{adds, deed, logsMade, run, next-run, start, OfBytes, AllOfBytes, Demand3}
 use Rattle.promises.specs.Ids.{idsMade, countdown}
 use Rattle.promises.specs.Fresh.{fresh-start}
 use Rattle.promises.specs.Demand3.{demand3, ids-in-order, invariant}

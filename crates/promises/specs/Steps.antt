@@ -1,5 +1,5 @@
 -- One change more, and the newest one taken back, on the session of a history. Assumes nothing.
-use Prim.Native.Nat.{ℕ, zero, suc, _+_, _-_, _≤_, _<_}
+use Prim.Native.Nat.{ℕ, suc, _+_, _-_, _≤_}
 use mathlib.Core.Bool.{Bool, true, false, cond, not, true≢false}
 use mathlib.Core.Path.{_≡_, refl, sym, ap, subst, _∙_}
 use mathlib.Core.List.{List, [], _∷_, _++_, append-assoc}
@@ -7,18 +7,16 @@ use native.Mathlib.Nat.{suc-add}
 use native.Mathlib.Omega.{arith}
 use borrow.Author.Tests.{ltb-false, leb-true}
 use lib.Dec.{ltb, eqb}
-use lib.ListN.{length, take, drop, replicate, length-append, length-drop}
+use lib.ListN.{length, take, drop, replicate, length-append}
 use lib.Seq.{take-at, drop-append-seam}
 use Rattle.wire.specs.Cases.{if-eq, else-b, else-eq, else-lt}
 use Rattle.wire.specs.Wire.{pasted}
 use Rattle.record.specs.declared.Record.{Record}
 use Rattle.change.specs.Change.{accepted, kindOf, putOf, inverseOf}
-use Rattle.change.specs.declared.Changed.{Changed}
 use Rattle.change.specs.declared.Edit.{Edit}
 use Rattle.formed.specs.Formed.{recordOk, nextOk}
 use Rattle.formed.specs.Laws.{sound}
-use Rattle.entries.specs.Entries.{written, between, scan, newestAt, readingOf}
-use Rattle.entries.specs.declared.Reading.{Reading}
+use Rattle.entries.specs.Entries.{scan, newestAt, readingOf}
 use Rattle.entries.specs.declared.Reading.the-variants.{Whole}
 use Rattle.journal.specs.Bytes.{entryBytes}
 use Rattle.journal.specs.Read.{gotOf}
@@ -27,15 +25,14 @@ use Rattle.journal.specs.Ends.{length-entry, end-at, added}
 use Rattle.journal.specs.declared.End.{End}
 use Rattle.journal.specs.declared.End.the-variants.{At, Full}
 use Rattle.journal.specs.declared.Found.the-variants.{Good}
-use Rattle.journal.specs.declared.Got.{Got}
-use Rattle.session.specs.Session.{wellFormed, withHeld, madeOf, carriedTo, carriedOf}
+use Rattle.session.specs.Session.{withHeld, madeOf, carriedTo, carriedOf}
 use Rattle.session.specs.declared.Session.{Session}
 use Rattle.undo_call.specs.declared.Undone.{Undone}
 use Rattle.undo_call.specs.Undo.{notUndone, undone, undonePut, undoneWith, undoneFound, undoneGot, undoneAt, undoneRead, undoCall}
 use Rattle.links.specs.Made.{Made}
 use Rattle.links.specs.Links.{Link, link, next-up}
 use Rattle.promises.specs.History.{replay}
-use Rattle.promises.specs.Image.{zeros, padded, length-padded, take-padded, paste-padded, unpaste-padded, entered, journalOf, stack, image, Step, Kept, Sane, kept-up, stack-reads, stack-written, image-formed}
+use Rattle.promises.specs.Image.{zeros, padded, length-padded, take-padded, paste-padded, unpaste-padded, entered, journalOf, stack, image, Step, Sane, kept-up, stack-reads, stack-written, image-formed}
 
 -- a well-formed record's next id is 256 at most
 next-small : (r : Record) (n : ℕ) → recordOk r n ≡ true → n ≤ 256

@@ -1,17 +1,15 @@
 -- Well-formed in, well-formed out: for every call, on every well-formed session, reached from a fresh one or not. Assumes nothing.
-use Prim.Native.Nat.{ℕ, zero, suc, _+_, _-_, _≤_, _<_}
-use mathlib.Core.Bool.{Bool, true, false, cond, not, true≢false, false≢true}
-use mathlib.Core.Path.{_≡_, refl, sym, ap, subst, _∙_}
+use Prim.Native.Nat.{ℕ, _+_, _-_, _≤_}
+use mathlib.Core.Bool.{Bool, true, false, cond, false≢true}
+use mathlib.Core.Path.{_≡_, refl, sym, ap, _∙_}
 use mathlib.Core.List.{List, [], _∷_, _++_}
 use native.Mathlib.Omega.{arith}
 use lib.Dec.{eqb}
-use lib.ListN.{length, getD, take, drop, replicate, length-append, length-drop, length-replicate}
+use lib.ListN.{length, getD, take, drop, replicate, length-append, length-replicate}
 use lib.Seq.{length-take-le, take-take, take-at, drop-at}
-use Rattle.wire.specs.Laws.{Bytes, all-drop, all-replicate}
+use Rattle.wire.specs.Laws.{Bytes, all-replicate}
 use Rattle.wire.specs.Wire.{allAre, pasted}
 use Rattle.wire.specs.Cases.{if-b, else-lt}
-use Rattle.record.specs.Record.{workedOf}
-use Rattle.record.specs.declared.Record.{Record}
 use Rattle.change.specs.Change.{kindOf, putOf, inverseOf}
 use Rattle.change.specs.declared.Edit.{Edit}
 use Rattle.formed.specs.Formed.{recordOk}
@@ -19,9 +17,8 @@ use Rattle.change.specs.declared.Changed.{Changed}
 use Rattle.entries.specs.Entries.{Entry, Scan, between, within, unknown, scanFrom, scan, newestAt, readingOf}
 use Rattle.entries.specs.Laws.{scan-written, scan-older, take-newest, newest-written}
 use Rattle.entries.specs.declared.Reading.the-variants.{Whole}
-use Rattle.journal.specs.Bytes.{entryFor}
 use Rattle.journal.specs.Read.{entryOk, allOk, scanOk, journalOk}
-use Rattle.journal.specs.Add.{entryLen, endOf, addedTo, cutFrom}
+use Rattle.journal.specs.Add.{entryLen, addedTo, cutFrom}
 use Rattle.packet.specs.Packet.{dataOf}
 use Rattle.occ_call.specs.Occ as occs
 use Rattle.occ_call.specs.Came as occ-came

@@ -7,8 +7,6 @@ use lib.Dec.{ltb, eqb}
 use Rattle.record.specs.declared.Log.{Log}
 use Rattle.record.specs.declared.Caps.{Caps}
 use Rattle.record.specs.declared.Area.{Area}
-use Rattle.record.specs.declared.Areas.{Areas}
-use Rattle.record.specs.declared.Deadman.{Deadman}
 use Rattle.record.specs.declared.Received.{Received}
 use Rattle.record.specs.declared.Throttles.{Throttles}
 use Rattle.record.specs.declared.Record.{Record}

@@ -1,17 +1,13 @@
 -- A response written field after field from the front. Assumes nothing.
 use Prim.Native.Nat.{ℕ, _≤_}
-use mathlib.Core.Path.{_≡_, refl, ap, _∙_}
+use mathlib.Core.Path.{_≡_, refl}
 use mathlib.Core.List.{List, _++_}
 use native.Mathlib.Omega.{arith}
 use lib.ListN.{length, take, drop, replicate, length-drop}
 use lib.Seq.{length-take-le}
 use Rattle.wire.specs.Wire.{toBE, pasted}
-use Rattle.wire.specs.Laws.{paste-next}
+use Rattle.wire.specs.Laws.{field-next}
 use Rattle.sbe.specs.Mailbox.{responseBytes}
-
--- the bytes bs after those written before
-field-next : (at : ℕ) (xs bs d x y : List ℕ) → x ≡ pasted 0 xs d → y ≡ pasted at bs x → at ≡ length xs → y ≡ pasted 0 (xs ++ bs) d
-field-next at xs bs d x y p q e = q ∙ ap (pasted at bs) p ∙ paste-next at xs bs d e
 
 pub response-put : (primary secondary : ℕ) (r d v w x y : List ℕ) → 32 ≤ length r → v ≡ pasted 0 (toBE 2 primary) d → w ≡ pasted 2 (toBE 2 secondary) v
     → x ≡ pasted 4 (take 4 (drop 4 r)) w → y ≡ pasted 8 (replicate 24 0) x → y ≡ pasted 0 (responseBytes primary secondary r) d

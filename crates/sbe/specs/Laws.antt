@@ -1,17 +1,15 @@
 -- Laws of the mailbox that other crates build on: how long a response is, and what a change made may hold. Assumes nothing.
-use Prim.Native.Nat.{ℕ, suc, _+_, _*_, _%_, _^_, _<_, _≤_}
+use Prim.Native.Nat.{ℕ, _+_, _%_, _^_, _<_, _≤_}
 use mathlib.Core.Bool.{Bool, true, false, cond}
 use mathlib.Core.Logic.{⊎-elim}
-use mathlib.Core.Path.{_≡_, refl, sym, subst, _∙_}
-use mathlib.Core.List.{List, [], _∷_}
-use native.Mathlib.Nat.{add-zero, add-suc, suc-add, zero-add, pow-suc, pow-le-pow-right, lt-of-lt-of-le}
+use mathlib.Core.Path.{_≡_, refl, sym}
+use mathlib.Core.List.{List}
 use native.Mathlib.Omega.{arith}
 use borrow.Author.Tests.{eqb-false, eq-eqb, le-leb}
 use lib.Dec.{lit<, eqb}
-use lib.ListN.{length, take, drop, length-append, length-take, length-drop, length-replicate}
+use lib.ListN.{length, take, drop, length-append, length-drop, length-replicate}
 use lib.Seq.{length-take-le}
-use Rattle.wire.specs.Wire.{beOnto, beNat}
-use Rattle.wire.specs.Laws.{Bytes, bytes-take, bytes-drop, length-toBE}
+use Rattle.wire.specs.Laws.{Bytes, length-toBE, part-fits}
 use Rattle.wire.specs.Cases.{else-b, cond-elim}
 use Rattle.record.specs.Record.{noArea}
 use Rattle.record.specs.declared.Area.{Area}
@@ -49,23 +47,6 @@ unfolding changeOk deadmanOk flagOk areasOk
 change-ok r = of-change r (λ (ch : Change). changeOk noTables ch ≡ true) refl refl refl (λ a. hold-both (area-ok _ _ (a .ffdc)) (area-ok _ _ (a .pass)))
 
 -- ---- its numbers are of their widths
-
-onto-fits : (k n : ℕ) (bs : List ℕ) → n < 256 ^ k → Bytes bs → beOnto n bs < 256 ^ (k + length bs)
-unfolding beOnto
-onto-fits k n [] h b = rw add-zero h
-onto-fits k n (x ∷ bs) h b =
-    let m : n * 256 + x < 256 ^ suc k = rw pow-suc (omega (arith, b .0)) in
-    subst (λ (i : ℕ). beOnto (n * 256 + x) bs < 256 ^ i) (suc-add k (length bs) ∙ sym (add-suc k (length bs))) (onto-fits (suc k) (n * 256 + x) bs m (b .1))
-
--- so many bytes spell a number of that width
-pub be-fits : (bs : List ℕ) → Bytes bs → beNat bs < 256 ^ length bs
-unfolding beNat
-be-fits bs h = subst (λ (i : ℕ). beOnto 0 bs < 256 ^ i) (zero-add (length bs)) (onto-fits 0 0 bs (lit< tt) h)
-
-pub part-fits : (n at : ℕ) (r : List ℕ) → Bytes r → beNat (take n (drop at r)) < 256 ^ n
-part-fits n at r h =
-    let l : length (take n (drop at r)) ≤ n = simp length-take (omega arith) in
-    lt-of-lt-of-le (be-fits (take n (drop at r)) (bytes-take n (drop at r) (bytes-drop at r h))) (pow-le-pow-right (lit< tt) l)
 
 pub record AreaFits (area : Area) : Type 0 where
   pub address : area .address < 256 ^ 8

@@ -1,7 +1,8 @@
 -- What can come of the call `sbe`, whatever is handed in: refused, responded to with the session as it was, or a change carried out.
 -- Demand 1 and the promises on the session after a call are read off these three. Assumes nothing.
+use Rattle.wire.specs.Cases.{cond-cases}
 use Prim.Native.Nat.{ℕ}
-use mathlib.Core.Bool.{Bool, true, false, cond, not}
+use mathlib.Core.Bool.{true, false, not}
 use mathlib.Core.Logic.{_⊎_, inl, inr}
 use mathlib.Core.Path.{_≡_, refl}
 use mathlib.Core.List.{List}
@@ -18,7 +19,7 @@ use Rattle.sbe.specs.Mailbox.{judgeOf, bellOf, responseBytes}
 use Rattle.sbe.specs.declared.Verdict.{Verdict}
 use Rattle.sbe.specs.declared.Verdict.the-variants.{Refuse, Make}
 use Rattle.session.specs.Session.{wellFormed, carriedOf}
-use Rattle.session.specs.Laws.{formed, carried-worked}
+use Rattle.session.specs.Laws.{formed, none-due, carried-worked}
 use Rattle.session.specs.declared.Session.{Session}
 use Rattle.sbe_call.specs.Sbe.{Result, rung, kept, responds, sbeRefusal, carriedSays, sbeMade, verdictSays, sbeFrom, sbeCall}
 
@@ -32,28 +33,19 @@ module _ (s : Session) (r d : List ℕ) where
     carried-out : (ch : Change) → wellFormed s ≡ true → judgeOf r ≡ Make ch → carriedOf s (edit ch) .full ≡ false
         → Came (responds (carriedOf s (edit ch) .session) 0x00 0x00 r d)
 
-  by-test : (b : Bool) {x y : Result} → (b ≡ true → Came x) → (b ≡ false → Came y) → Came (cond b x y)
-  by-test true f g = f refl
-  by-test false f g = g refl
-
   came-carried : (ch : Change) → wellFormed s ≡ true → judgeOf r ≡ Make ch → Came (sbeMade s ch r d)
   unfolding sbeMade carriedSays
-  came-carried ch w v = by-test (carriedOf s (edit ch) .full) (λ f. refused 5 (λ z. omega (arith, z))) (λ f. carried-out ch w v f)
+  came-carried ch w v = cond-cases Came (carriedOf s (edit ch) .full) (λ f. refused 5 (λ z. omega (arith, z))) (λ f. carried-out ch w v f)
 
   came-verdict : (v : Verdict) → wellFormed s ≡ true → judgeOf r ≡ v → Came (verdictSays s r d v)
   unfolding verdictSays
   came-verdict (Refuse primary secondary) w e = responded-to primary secondary
   came-verdict (Make ch) w e = came-carried ch w e
 
-  -- no refusal is due only of a well-formed session
-  none-due : (b : Bool) (n : ℕ) → cond (not b) 1 n ≡ 0 → b ≡ true
-  none-due true n h = refl
-  none-due false n h = let z : ⊥ = omega (arith, h) in absurd z
-
   pub came : Came (sbeCall s r d)
   unfolding sbeCall sbeFrom sbeRefusal
   came =
-      by-test (not (eqb (sbeRefusal s (length r) (length d)) 0))
+      cond-cases Came (not (eqb (sbeRefusal s (length r) (length d)) 0))
       (λ f. refused _ (eqb-false _ 0 (not-true _ f)))
       (λ f. came-verdict (judgeOf r) (none-due (wellFormed s) _ (eqb-true _ 0 (not-false _ f))) refl)
 

@@ -10,7 +10,6 @@ use lib.ListN.{length}
 use Rattle.wire.specs.Cases.{cond-elim}
 use Rattle.record.specs.Record.{workedOf}
 use Rattle.record.specs.declared.Log.{Log}
-use Rattle.record.specs.declared.Record.{Record}
 use Rattle.record.specs.declared.Worked.{Worked}
 use Rattle.change.specs.Change.{madeBy, putOf, inverseOf}
 use Rattle.change.specs.declared.Change.{Change}

@@ -2,17 +2,16 @@
 use Prim.Native.Nat.{ℕ, _≤_}
 use mathlib.Core.Bool.{Bool, true, false, cond, not, false≢true, true≢false}
 use mathlib.Core.Path.{_≡_, refl, sym, ap, _∙_}
-use mathlib.Core.List.{List}
 use native.Mathlib.Omega.{arith}
 use borrow.Author.Tests.{ltb-false, leb-true, eqb-true, eq-eqb}
-use lib.Dec.{ltb, leb, eqb}
+use lib.Dec.{ltb, eqb}
 use lib.ListN.{length, take, drop}
 use Rattle.wire.specs.Wire.{allAre}
-use Rattle.wire.specs.Cases.{else-b, else-lt, else-ne}
+use Rattle.wire.specs.Cases.{else-lt, else-ne}
 use Rattle.record.specs.Record.{workedOf}
 use Rattle.record.specs.declared.Worked.{Worked}
 use Rattle.formed.specs.Formed.{recordOk, nextOk}
-use Rattle.formed.specs.Laws.{both-hold, hold-both, sound, Sound}
+use Rattle.formed.specs.Laws.{both-hold, hold-both, sound}
 use Rattle.journal.specs.Read.{journalOk}
 use Rattle.session.specs.declared.Session.{Session}
 use Rattle.change.specs.Change.{inverseOf}
@@ -76,6 +75,11 @@ formed-ok s f =
 pub formed-next : (s : Session) → wellFormed s ≡ true → s .next ≤ 256
 unfolding nextOk
 formed-next s h = leb-true (s .next) 256 (ltb-hold (s .next) 1 _ (sound (formed s h .record-ok) .next) .1)
+
+-- a refusal that begins with answer 1 is none only of a well-formed session
+pub none-due : (b : Bool) (n : ℕ) → cond (not b) 1 n ≡ 0 → b ≡ true
+none-due true n h = refl
+none-due false n h = let z : ⊥ = omega (arith, h) in absurd z
 
 -- after carrying out, what is worked out is the new record's
 pub carried-worked : (s : Session) (e : Edit) → carriedOf s e .full ≡ false → carriedOf s e .session .worked ≡ workedOf (carriedOf s e .session .held)

@@ -1,6 +1,6 @@
 -- Laws of the sets that other crates build on: what was read is what a well-formed record can hold. Assumes nothing.
 use Prim.Native.Nat.{ℕ, zero, suc, _+_, _-_, _*_, _/_, _%_, _^_, _<_, _≤_}
-use mathlib.Core.Bool.{Bool, true, false, cond, not}
+use mathlib.Core.Bool.{true, not}
 use mathlib.Core.Path.{_≡_, refl, sym, ap, subst, _∙_}
 use mathlib.Core.List.{List, [], _∷_, _++_, append-assoc}
 use native.Mathlib.Nat.{two-pow-succ, pow-succ', div-div-eq-div-mul, div-one, add-assoc, not-suc-le-zero, le-of-suc-le-suc}
@@ -10,7 +10,7 @@ use lib.Dec.{ltb, eqb}
 use lib.ListN.{length, getD, take, drop, length-take, length-drop}
 use lib.Seq.{take-add, take-at, drop-at, drop-drop, drop-append-add, length-take-le}
 use Rattle.wire.specs.Wire.{pasted, allAre}
-use Rattle.wire.specs.Cases.{if-eq, else-lt}
+use Rattle.wire.specs.Cases.{if-eq, else-lt, cond-cases}
 use Rattle.wire.specs.Laws.{length-pasted}
 use Rattle.record.specs.declared.Throttles.{Throttles}
 use Rattle.formed.specs.Formed.{pairOk, pairsOk, absentZero, thermalRule}
@@ -40,11 +40,6 @@ parts-keep : {A : Type 0} {one : A → List ℕ → A} {w : ℕ} {all : ℕ → 
 parts-keep P p keep zero t l h = subst P (sym (p .none t l)) h
 parts-keep {one = one} {w = w} P p keep (suc n) t l h =
     subst P (sym (p .more n t l)) (parts-keep P p keep n (one t (take w l)) (drop w l) (keep t (take w l) h))
-
--- what holds of both ways, each under its test, holds of the choice
-cond-cases : {A : Type 0} (P : A → Type 0) (b : Bool) {x y : A} → (b ≡ true → P x) → (b ≡ false → P y) → P (cond b x y)
-cond-cases P true p q = p refl
-cond-cases P false p q = q refl
 
 -- bytes pasted past the first k
 paste-past : (k at : ℕ) (v d : List ℕ) → pasted (k + at) v d ≡ take k d ++ pasted at v (drop k d)

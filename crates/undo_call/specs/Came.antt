@@ -1,16 +1,15 @@
 -- What can come of the call `undo`, whatever session is handed in: refused, or the newest change taken back. Assumes nothing.
+use Rattle.wire.specs.Cases.{cond-cases}
 use Prim.Native.Nat.{ℕ, suc, _-_}
-use mathlib.Core.Bool.{Bool, true, false, cond, not}
-use mathlib.Core.Path.{_≡_, refl, sym, ap, _∙_}
-use mathlib.Core.List.{List}
+use mathlib.Core.Bool.{true, not}
+use mathlib.Core.Path.{_≡_, refl}
 use native.Mathlib.Omega.{arith}
-use borrow.Author.Tests.{not-false, not-true, eqb-false}
+use borrow.Author.Tests.{not-false}
 use lib.Dec.{eqb}
 use lib.ListN.{take, drop}
 use Rattle.record.specs.Record.{workedOf}
 use Rattle.change.specs.Change.{kindOf, putOf}
 use Rattle.change.specs.declared.Change.{Change}
-use Rattle.change.specs.declared.Tables.{Tables}
 use Rattle.change.specs.declared.Edit.{Edit}
 use Rattle.formed.specs.Formed.{recordOk}
 use Rattle.entries.specs.Entries.{scan, readingOf}
@@ -39,10 +38,6 @@ module _ (s : Session) where
         → newest at .found ≡ Good ch → putOf (s .held) (edit at ch) .ok ≡ true → recordOk (putOf (s .held) (edit at ch) .after) (s .next) ≡ true
         → Came (undone s at (kindOf ch) (putOf (s .held) (edit at ch)))
 
-  by-test : (b : Bool) {x y : Undone} → (b ≡ true → Came x) → (b ≡ false → Came y) → Came (cond b x y)
-  by-test true f g = f refl
-  by-test false f g = g refl
-
   refuses : (n : ℕ) → Came (notUndone (suc n) s)
   refuses n = refused (suc n) (λ z. omega (arith, z))
 
@@ -50,8 +45,8 @@ module _ (s : Session) where
     came-put : (ch : Change) → newest at .found ≡ Good ch → Came (undoneWith s at (edit at ch))
     unfolding undoneWith undonePut
     came-put ch g =
-        by-test (not (putOf (s .held) (edit at ch) .ok)) (λ f. refuses 6)
-        (λ ok. by-test (not (recordOk (putOf (s .held) (edit at ch) .after) (s .next))) (λ f. refuses 6)
+        cond-cases Came (not (putOf (s .held) (edit at ch) .ok)) (λ f. refuses 6)
+        (λ ok. cond-cases Came (not (recordOk (putOf (s .held) (edit at ch) .after) (s .next))) (λ f. refuses 6)
         (λ sound. taken-back count at ch w reads g (not-false _ ok) (not-false _ sound)))
 
     came-found : (x : Found) → newest at .found ≡ x → Came (undoneFound s at (newest at .tables) x)
@@ -72,8 +67,8 @@ module _ (s : Session) where
   pub came : Came (undoCall s)
   unfolding undoCall
   came =
-      by-test (not (wellFormed s)) (λ f. refuses 0)
-      (λ w. by-test (eqb (s .used) 0) (λ f. refuses 5)
+      cond-cases Came (not (wellFormed s)) (λ f. refuses 0)
+      (λ w. cond-cases Came (eqb (s .used) 0) (λ f. refuses 5)
       (λ f. came-read (not-false _ w) (readingOf (scan (take (s .used) (s .journal)))) refl))
 
   -- ---- demand 1

@@ -1,7 +1,6 @@
 -- Document 01, "The journal" and "Session answers": what the call `undo` comes to, for every session.
 use Prim.Native.Nat.{ℕ, _-_}
 use mathlib.Core.Bool.{cond, not}
-use mathlib.Core.List.{List}
 use lib.ListN.{take, drop}
 use lib.Dec.{eqb}
 use Rattle.change.specs.Change.{kindOf, putOf}

@@ -1,15 +1,15 @@
 -- What each turn of a loop does. Assumes nothing.
 use Prim.Native.Nat.{ℕ, zero, suc, _+_, _-_, _*_, _/_, _%_, _^_, _<_, _≤_}
-use mathlib.Core.Bool.{Bool, true, false}
-use mathlib.Core.Path.{_≡_, refl, sym, ap, subst, _∙_}
+use mathlib.Core.Bool.{true, false}
+use mathlib.Core.Path.{_≡_, refl, sym, ap, _∙_}
 use mathlib.Core.List.{List, [], _∷_, _++_, append-nil, append-assoc}
 use native.Mathlib.Numerals.{add-one}
-use native.Mathlib.Nat.{add-zero, add-suc, suc-add, pow-suc, pow-le-pow-right, mod-add-mod, not-suc-le-zero}
+use native.Mathlib.Nat.{add-zero, add-suc, pow-suc, pow-le-pow-right, mod-add-mod, not-suc-le-zero}
 use native.Mathlib.Omega.{arith}
 use borrow.Author.Fill.{fill-more}
 use lib.Dec.{lit<}
-use lib.ListN.{length, getD, take, drop, set, replicate, length-append, length-take, length-drop, length-set, take-append-drop, drop-of-length-le}
-use lib.Seq.{take-suc, take-length, drop-length, drop-cons, getD-take, getD-drop, length-take-le, take-set-le, drop-set-lt, take-suc-set, getD-set-same, append-snoc}
+use lib.ListN.{length, getD, take, drop, set, replicate, length-append, length-drop, length-set, take-append-drop, drop-of-length-le}
+use lib.Seq.{take-suc, take-length, drop-length, drop-cons, getD-drop, take-set-le, drop-set-lt, take-suc-set, getD-set-same}
 use Rattle.wire.specs.Wire.{sumOf, packetSum, beOnto, beNat, toBE, pasted, allAre}
 use Rattle.wire.specs.Laws.{onto-append, length-toBE}
 use Rattle.wire.specs.Cases.{if-eq, else-eq}

@@ -1,10 +1,10 @@
 -- Laws of bytes on the wire that other crates build on. Assumes nothing.
 use Prim.Native.Nat.{ℕ, zero, suc, _+_, _-_, _*_, _/_, _%_, _^_, _<_, _≤_}
 use mathlib.Core.Bool.{Bool, true, false, cond, false≢true}
-use mathlib.Core.Path.{_≡_, refl, sym, ap, ap₂, _∙_}
+use mathlib.Core.Path.{_≡_, refl, sym, ap, ap₂, subst, _∙_}
 use mathlib.Core.List.{List, [], _∷_, _++_, append-assoc, append-nil}
 use native.Mathlib.Numerals.{add-one}
-use native.Mathlib.Nat.{add-zero, zero-add, add-suc, suc-add, pow-suc, div-add-mod', div-lt-iff-lt-mul, mod-lt, not-suc-le-zero, le-of-suc-le-suc}
+use native.Mathlib.Nat.{add-zero, zero-add, add-suc, suc-add, pow-suc, pow-le-pow-right, lt-of-lt-of-le, div-add-mod', div-lt-iff-lt-mul, not-suc-le-zero, le-of-suc-le-suc}
 use native.Mathlib.Omega.{arith}
 use lib.Arith.{digits-div, digits-mod}
 use borrow.Author.Tests.{eqb-true}
@@ -67,6 +67,23 @@ pub toBE-be : (bs : List ℕ) → Bytes bs → toBE (length bs) (beNat bs) ≡ b
 unfolding beNat toBE
 toBE-be bs h = ap (λ (m : ℕ). toBE m (beOnto 0 bs)) (sym (zero-add (length bs))) ∙ toBE-onto 0 0 bs h
 
+onto-fits : (k n : ℕ) (bs : List ℕ) → n < 256 ^ k → Bytes bs → beOnto n bs < 256 ^ (k + length bs)
+unfolding beOnto
+onto-fits k n [] h b = rw add-zero h
+onto-fits k n (x ∷ bs) h b =
+    let m : n * 256 + x < 256 ^ suc k = rw pow-suc (omega (arith, b .0)) in
+    subst (λ (i : ℕ). beOnto (n * 256 + x) bs < 256 ^ i) (suc-add k (length bs) ∙ sym (add-suc k (length bs))) (onto-fits (suc k) (n * 256 + x) bs m (b .1))
+
+-- so many bytes spell a number of that width
+pub be-fits : (bs : List ℕ) → Bytes bs → beNat bs < 256 ^ length bs
+unfolding beNat
+be-fits bs h = subst (λ (i : ℕ). beOnto 0 bs < 256 ^ i) (zero-add (length bs)) (onto-fits 0 0 bs (lit< tt) h)
+
+pub part-fits : (n at : ℕ) (r : List ℕ) → Bytes r → beNat (take n (drop at r)) < 256 ^ n
+part-fits n at r h =
+    let l : length (take n (drop at r)) ≤ n = simp length-take (omega arith) in
+    lt-of-lt-of-le (be-fits (take n (drop at r)) (bytes-take n (drop at r) (bytes-drop at r h))) (pow-le-pow-right (lit< tt) l)
+
 -- the part of lent bytes from a place to their end
 pub tail-part : (j : List ℕ) (at : ℕ) → take (length j - at) (drop at j) ≡ drop at j
 tail-part j at = take-all (length j - at) (drop at j) (simp length-drop (omega arith))
@@ -96,6 +113,10 @@ unfolding pasted
 paste-next at xs bs d e =
     ap (λ (n : ℕ). take n (xs ++ drop (0 + length xs) d) ++ (bs ++ drop (n + length bs) (xs ++ drop (0 + length xs) d))) e
     ∙ rw (take-append-seam xs (drop (0 + length xs) d), drop-append-add xs (drop (0 + length xs) d) (length bs), zero-add, drop-drop, zero-add, length-append, append-assoc)
+
+-- the same, for buffers one after the other: x holds xs at its front, y what was written next
+pub field-next : (at : ℕ) (xs bs d x y : List ℕ) → x ≡ pasted 0 xs d → y ≡ pasted at bs x → at ≡ length xs → y ≡ pasted 0 (xs ++ bs) d
+field-next at xs bs d x y p q e = q ∙ ap (pasted at bs) p ∙ paste-next at xs bs d e
 
 -- bytes written over as many
 pub paste-over : (at : ℕ) (xs ys d : List ℕ) → length ys ≡ length xs → at + length xs ≤ length d → pasted at ys (pasted at xs d) ≡ pasted at ys d

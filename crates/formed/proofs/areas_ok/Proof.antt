@@ -1,6 +1,6 @@
 -- The definition asks of one area after the other, as the code does.
+use Rattle.wire.specs.Cases.{if-not, else-not}
 use mathlib.Core.Path.{refl}
-use Rattle.formed.proofs.Calls.{if-not, else-not}
 use Rattle.formed.specs.Formed.{areasOk}
 use borrow.Author.Needs.{needs}
 use Rattle.formed.proofs.areas_ok.Statement.{statement}

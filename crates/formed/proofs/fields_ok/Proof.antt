@@ -1,6 +1,6 @@
 -- The definition asks the fields' rules in the order in which the code calls them.
+use Rattle.wire.specs.Cases.{if-not, else-not}
 use mathlib.Core.Path.{refl}
-use Rattle.formed.proofs.Calls.{if-not, else-not}
 use Rattle.formed.specs.Formed.{fieldsOk}
 use borrow.Author.Needs.{needs}
 use Rattle.formed.proofs.fields_ok.Statement.{statement}

@@ -1,6 +1,6 @@
 -- The definition goes by the tests that the code makes.
+use Rattle.wire.specs.Cases.{if-not, else-not}
 use mathlib.Core.Path.{refl}
-use Rattle.formed.proofs.Calls.{if-not, else-not}
 use Rattle.formed.specs.Formed.{unresetOk}
 use borrow.Author.Needs.{needs}
 use Rattle.formed.proofs.unreset_ok.Statement.{statement}

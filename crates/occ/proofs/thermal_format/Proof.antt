@@ -6,8 +6,7 @@ use Rattle.sets.specs.declared.Frus.{Frus}
 use Rattle.sets.specs.Sets.{emptyFrus, frusOf}
 use Rattle.occ.specs.Judge.{thermalJudged, thermalFor, frusJudged}
 use Rattle.occ.proofs.Parts.{of-rest, length-rest}
-use Rattle.formed.proofs.Calls.{if-not, else-not}
-use Rattle.wire.specs.Cases.{if-lt, else-lt, if-ne, else-ne, if-eq, else-eq}
+use Rattle.wire.specs.Cases.{if-lt, else-lt, if-ne, else-ne, if-eq, else-eq, if-not, else-not}
 use mathlib.Core.Path.{ap, _∙_}
 use native.Mathlib.Omega.{arith}
 use lib.ListN.{getD}

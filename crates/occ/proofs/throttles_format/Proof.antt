@@ -5,8 +5,7 @@ use Rattle.sets.specs.declared.Sets.{Sets}
 use Rattle.sets.specs.Sets.{emptySets, setsOf}
 use Rattle.occ.specs.Judge.{throttlesJudged, throttlesFor, setsJudged}
 use Rattle.occ.proofs.Parts.{of-rest, length-rest}
-use Rattle.formed.proofs.Calls.{if-not, else-not}
-use Rattle.wire.specs.Cases.{if-lt, else-lt, if-ne, else-ne, if-eq, else-eq}
+use Rattle.wire.specs.Cases.{if-lt, else-lt, if-ne, else-ne, if-eq, else-eq, if-not, else-not}
 use mathlib.Core.Path.{ap, _∙_}
 use native.Mathlib.Omega.{arith}
 use lib.ListN.{getD, replicate}

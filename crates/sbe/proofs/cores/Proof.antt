@@ -1,9 +1,9 @@
 -- The flags read are the request's, and plain_flags judges them; the mask is the word read.
+use Rattle.wire.specs.Cases.{if-not, else-not}
 use Rattle.change.specs.declared.Change.the-variants.{SetMask}
 use Rattle.sbe.specs.declared.Verdict.the-variants.{Make}
 use mathlib.Core.Path.{refl, ap}
 use Rattle.sbe.specs.Mailbox.{wordAt, coresOf}
-use Rattle.formed.proofs.Calls.{if-not, else-not}
 use Rattle.sbe.proofs.Requests.{plain-read}
 use Prim.Native.Nat.{ℕ}
 use borrow.Author.Needs.{needs}

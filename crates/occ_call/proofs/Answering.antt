@@ -12,7 +12,13 @@ use Rattle.change.specs.declared.Change.{Change}
 use Rattle.change.specs.declared.Edit.{Edit}
 use Rattle.packet.specs.Packet.{packetStatus, dataOf, noLogId, replied}
 use Rattle.poll.specs.Poll.{pollData}
-use Rattle.occ.specs.Judge.{judgeOf}
+use Rattle.occ.specs.Judge.{plainly, judgeOf}
+use Rattle.occ.proofs.Verdict.{the-type}
+use denote.Enum.Declared.{tagOf}
+use Rattle.record.specs.declared.Record.{Record}
+use Rattle.record.specs.declared.Worked.{Worked}
+use Rattle.change.specs.declared.Tables.{Tables}
+use Rattle.occ.specs.declared.Verdict.{Verdict}
 use Rattle.occ.specs.declared.Verdict.the-variants.{Refuse, Poll, Make}
 use Rattle.occ.specs.declared.Judged.{Judged}
 use Rattle.session.specs.Session.{wellFormed, carriedOf}
@@ -20,7 +26,7 @@ use Rattle.session.specs.Laws.{formed-next}
 use Rattle.session.specs.declared.Session.{Session}
 use Rattle.session.specs.declared.Carried.{Carried}
 use Rattle.occ_call.specs.declared.Outcome.{Outcome}
-use Rattle.occ_call.specs.Occ.{Result, answered, kept, says, refuses, knownSender, occRefusal, carriedSays, occMade, verdictSays, judgedSays, occJudged, occRead, occFrom, occCall}
+use Rattle.occ_call.specs.Occ.{Result, answered, kept, says, knownSender, refusalOf, occRefusal, carriedSays, occMade, toldOf, verdictSays, judgedSays, askedFor, askedOf, occRead, occFrom, occCall}
 
 -- the two halves of a result
 abbrev Halves : Outcome → List ℕ → Result → Type 0
@@ -28,52 +34,6 @@ Halves x y q = (x ≡ q .outcome) × (y ≡ q .reply)
 
 halves : (x : Outcome) (y : List ℕ) (q : Result) → record { outcome = x; reply = y } ≡ q → Halves x y q
 halves x y q e = (ap (λ (r : Result). r .outcome) e, ap (λ (r : Result). r .reply) e)
-
-whole : (x : Outcome) (y : List ℕ) (q : Result) → Halves x y q → record { outcome = x; reply = y } ≡ q
-whole x y q h = λ i. record { outcome = h .0 i; reply = h .1 i }
-
--- ---- a change to make
-
-module _ (s : Session) (e : Edit) (seq kind : ℕ) (d : List ℕ) (c : Carried) (is : c ≡ carriedOf s e) where
-  by-carried : (x : Outcome) (y : List ℕ) → record { outcome = x; reply = y } ≡ carriedSays c s seq kind d → Halves x y (occMade s e seq kind d)
-  unfolding occMade
-  by-carried x y h = halves x y _ (h ∙ ap (λ (k : Carried). carriedSays k s seq kind d) is)
-
-  pub made-full : (x : Outcome) → x ≡ answered 5 s → c .full ≡ true → Halves x d (occMade s e seq kind d)
-  unfolding carriedSays kept
-  made-full x h f = by-carried x d (if-b _ _ f (λ i. record { outcome = h i; reply = d }))
-
-  pub made-done : (x : Outcome) (y : List ℕ) → x ≡ answered 0 (c .session) → y ≡ replied seq kind 0x00 [] d → c .full ≡ false → Halves x y (occMade s e seq kind d)
-  unfolding carriedSays says
-  made-done x y h p f = by-carried x y (else-b _ _ f (λ i. record { outcome = h i; reply = p i }))
-
--- ---- a packet judged
-
-module _ (s : Session) (sender seq kind : ℕ) (part d : List ℕ) (j : Judged) (is : j ≡ judgeOf (s .held) (s .worked) (s .next) sender kind part) where
-  by-judged : (x : Outcome) (y : List ℕ) → record { outcome = x; reply = y } ≡ verdictSays s seq kind d (j .tables) (j .verdict)
-      → Halves x y (occJudged s sender seq kind part d)
-  unfolding occJudged judgedSays
-  by-judged x y h = halves x y _ (h ∙ ap (judgedSays s seq kind d) is)
-
-  pub judged-refuses : (x : Outcome) (y : List ℕ) (status : ℕ) → j .verdict ≡ Refuse status → x ≡ answered 0 s → y ≡ replied seq kind status noLogId d
-      → Halves x y (occJudged s sender seq kind part d)
-  unfolding verdictSays refuses says
-  judged-refuses x y status v h p =
-      by-judged x y ((λ i. record { outcome = h i; reply = p i }) ∙ sym (ap (verdictSays s seq kind d (j .tables)) v))
-
-  pub judged-polls : (x : Outcome) (y : List ℕ) → j .verdict ≡ Poll → x ≡ answered 0 s → y ≡ replied seq 0x00 0x00 (pollData (s .held) (s .worked)) d
-      → Halves x y (occJudged s sender seq kind part d)
-  unfolding verdictSays says
-  judged-polls x y v h p =
-      by-judged x y ((λ i. record { outcome = h i; reply = p i }) ∙ sym (ap (verdictSays s seq kind d (j .tables)) v))
-
-  pub judged-makes : (x : Outcome) (y : List ℕ) (ch : Change) → j .verdict ≡ Make ch → Halves x y (occMade s (record { change = ch; tables = j .tables }) seq kind d)
-      → Halves x y (occJudged s sender seq kind part d)
-  unfolding verdictSays
-  judged-makes x y ch v h =
-      by-judged x y (whole x y (occMade s (record { change = ch; tables = j .tables }) seq kind d) h ∙ sym (ap (verdictSays s seq kind d (j .tables)) v))
-
--- ---- the whole call
 
 -- no refusal is due: the session is well formed, the sender known and both buffers are long enough
 due : (a b c d : Bool) → cond {A = ℕ} (not a) 1 (cond (not b) 2 (cond c 3 (cond d 4 0))) ≡ 0 → (a ≡ true) × (c ≡ false) × (d ≡ false)
@@ -83,34 +43,72 @@ due true true true d h = let z : ⊥ = omega (arith, h) in absurd z
 due true false c d h = let z : ⊥ = omega (arith, h) in absurd z
 due false b c d h = let z : ⊥ = omega (arith, h) in absurd z
 
-pub met : (s : Session) (n sender command reply : ℕ) → n ≡ occRefusal s sender command reply → n ≡ 0 → (s .next ≤ 256) × (4 ≤ command) × (4096 ≤ reply)
-unfolding occRefusal
-met s n sender command reply is none =
-    let m = due (wellFormed s) (knownSender sender) (ltb reply 4096) (ltb command 4) (sym is ∙ none) in
-    (formed-next s (m .0), ltb-false command 4 (m .2), ltb-false reply 4096 (m .1))
+pub met : (s : Session) (f : Bool) (n sender command reply : ℕ) → f ≡ wellFormed s → n ≡ refusalOf f sender command reply → n ≡ 0 → (s .next ≤ 256) × (4 ≤ command)
+unfolding refusalOf
+met s f n sender command reply e is none =
+    let m = due f (knownSender sender) (ltb reply 4096) (ltb command 4) (sym is ∙ none) in
+    (formed-next s (sym e ∙ m .0), ltb-false command 4 (m .2))
 
-module _ (s : Session) (sender : ℕ) (c d : List ℕ) (n : ℕ) (is : n ≡ occRefusal s sender (length c) (length d)) where
+-- ---- what a verdict that makes no change says
+
+told : (s : Session) (seq kind : ℕ) (d : List ℕ) (t : Tables) (v : Verdict) → (tagOf the-type v ≡ 2 → ⊥)
+    → record { outcome = answered 0 s; reply = toldOf v (s .held) (s .worked) seq kind d } ≡ verdictSays s seq kind d t v
+unfolding verdictSays says
+told s seq kind d t (Refuse status) h = refl
+told s seq kind d t Poll h = refl
+told s seq kind d t (Make ch) h = absurd (h refl)
+
+-- the reply told of a verdict is told of what it is
+pub tells : (v w : Verdict) (held : Record) (worked : Worked) (seq kind : ℕ) (d y : List ℕ) → v ≡ w → y ≡ toldOf w held worked seq kind d → y ≡ toldOf v held worked seq kind d
+tells v w held worked seq kind d y e h = h ∙ sym (ap (λ (u : Verdict). toldOf u held worked seq kind d) e)
+
+-- ---- the whole call
+
+module _ (s : Session) (sender : ℕ) (c d : List ℕ) (f : Bool) (n : ℕ) (e : f ≡ wellFormed s) (is : n ≡ refusalOf f sender (length c) (length d)) where
   by-refusal : (x : Outcome) (y : List ℕ) → record { outcome = x; reply = y } ≡ occFrom n s sender c d → Halves x y (occCall s sender c d)
-  unfolding occCall
-  by-refusal x y h = halves x y _ (h ∙ ap (λ (k : ℕ). occFrom k s sender c d) is)
+  unfolding occCall occRefusal
+  by-refusal x y h =
+      halves x y _ (h ∙ ap (λ (k : ℕ). occFrom k s sender c d) (is ∙ ap (λ (b : Bool). refusalOf b sender (length c) (length d)) e))
 
   pub call-refused : (x : Outcome) → x ≡ answered n s → (n ≡ 0 → ⊥) → Halves x d (occCall s sender c d)
   unfolding occFrom kept
   call-refused x h z = by-refusal x d (if-ne _ _ z (λ i. record { outcome = h i; reply = d }))
 
-  module _ (none : n ≡ 0) (status : ℕ) (read : status ≡ packetStatus c) where
-    by-status : (x : Outcome) (y : List ℕ) → record { outcome = x; reply = y } ≡ occRead s sender c status d → Halves x y (occCall s sender c d)
-    unfolding occFrom
-    by-status x y h = by-refusal x y (else-ne _ _ none (h ∙ ap (λ (k : ℕ). occRead s sender c k d) read))
-
-    pub call-unread : (x : Outcome) (y : List ℕ) → (status ≡ 0 → ⊥) → x ≡ answered 0 s → y ≡ replied (getD c 0 0) (getD c 1 0) status noLogId d
+  module _ (none : n ≡ 0) (j : Judged) (asked : j ≡ askedOf (s .held) (s .worked) (s .next) sender c) where
+    by-verdict : (x : Outcome) (y : List ℕ) → record { outcome = x; reply = y } ≡ verdictSays s (getD c 0 0) (getD c 1 0) d (j .tables) (j .verdict)
         → Halves x y (occCall s sender c d)
-    unfolding occRead refuses says
-    call-unread x y z h p = by-status x y (if-ne _ _ z (λ i. record { outcome = h i; reply = p i }))
+    unfolding occFrom occRead judgedSays
+    by-verdict x y h = by-refusal x y (else-ne _ _ none (h ∙ ap (judgedSays s (getD c 0 0) (getD c 1 0) d) asked))
 
-    pub call-judged : (x : Outcome) (y part : List ℕ) → status ≡ 0 → part ≡ dataOf c → Halves x y (occJudged s sender (getD c 0 0) (getD c 1 0) part d)
-        → Halves x y (occCall s sender c d)
-    unfolding occRead
-    call-judged x y part z p h =
-        by-status x y (else-ne _ _ z (whole x y (occJudged s sender (getD c 0 0) (getD c 1 0) part d) h
-        ∙ ap (λ (l : List ℕ). occJudged s sender (getD c 0 0) (getD c 1 0) l d) p))
+    pub call-told : (x : Outcome) (y : List ℕ) → (tagOf the-type (j .verdict) ≡ 2 → ⊥) → x ≡ answered 0 s
+        → y ≡ toldOf (j .verdict) (s .held) (s .worked) (getD c 0 0) (getD c 1 0) d → Halves x y (occCall s sender c d)
+    call-told x y h p q =
+        by-verdict x y ((λ i. record { outcome = p i; reply = q i }) ∙ told s (getD c 0 0) (getD c 1 0) d (j .tables) (j .verdict) h)
+
+    module _ (ch : Change) (v : j .verdict ≡ Make ch) (k : Carried) (carried : k ≡ carriedOf s (record { change = ch; tables = j .tables })) where
+      by-carried : (x : Outcome) (y : List ℕ) → record { outcome = x; reply = y } ≡ carriedSays k s (getD c 0 0) (getD c 1 0) d → Halves x y (occCall s sender c d)
+      unfolding verdictSays occMade
+      by-carried x y h =
+          by-verdict x y (h ∙ ap (λ (a : Carried). carriedSays a s (getD c 0 0) (getD c 1 0) d) carried
+          ∙ sym (ap (verdictSays s (getD c 0 0) (getD c 1 0) d (j .tables)) v))
+
+      pub call-full : (x : Outcome) → x ≡ answered 5 s → k .full ≡ true → Halves x d (occCall s sender c d)
+      unfolding carriedSays kept
+      call-full x h g = by-carried x d (if-b _ _ g (λ i. record { outcome = h i; reply = d }))
+
+      pub call-done : (x : Outcome) (y : List ℕ) → x ≡ answered 0 (k .session) → y ≡ replied (getD c 0 0) (getD c 1 0) 0x00 [] d → k .full ≡ false → Halves x y (occCall s sender c d)
+      unfolding carriedSays says
+      call-done x y h p g = by-carried x y (else-b _ _ g (λ i. record { outcome = h i; reply = p i }))
+
+-- ---- what a command asks for
+
+pub asked-unread : (held : Record) (worked : Worked) (next sender status : ℕ) (c : List ℕ) (x : Judged) → status ≡ packetStatus c → (status ≡ 0 → ⊥) → x ≡ plainly (Refuse status)
+    → x ≡ askedOf held worked next sender c
+unfolding askedOf askedFor
+asked-unread held worked next sender status c x e z p = if-ne _ _ z p ∙ ap (λ (k : ℕ). askedFor k held worked next sender c) e
+
+pub asked-judged : (held : Record) (worked : Worked) (next sender status : ℕ) (c part : List ℕ) (x : Judged) → status ≡ packetStatus c → status ≡ 0 → part ≡ dataOf c
+    → x ≡ judgeOf held worked next sender (getD c 1 0) part → x ≡ askedOf held worked next sender c
+unfolding askedOf askedFor
+asked-judged held worked next sender status c part x e z p q =
+    else-ne _ _ z (q ∙ ap (judgeOf held worked next sender (getD c 1 0)) p) ∙ ap (λ (k : ℕ). askedFor k held worked next sender c) e

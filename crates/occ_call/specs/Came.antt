@@ -14,14 +14,14 @@ use Rattle.record.specs.Record.{workedOf}
 use Rattle.change.specs.declared.Change.{Change}
 use Rattle.change.specs.declared.Edit.{Edit}
 use Rattle.packet.specs.Packet.{packetStatus, dataOf, replied}
-use Rattle.occ.specs.Judge.{judgeOf}
+use Rattle.occ.specs.Judge.{plainly, judgeOf}
 use Rattle.occ.specs.declared.Verdict.{Verdict}
 use Rattle.occ.specs.declared.Verdict.the-variants.{Refuse, Poll, Make}
 use Rattle.occ.specs.declared.Judged.{Judged}
 use Rattle.session.specs.Session.{wellFormed, carriedOf}
 use Rattle.session.specs.Laws.{formed, none-due, carried-worked}
 use Rattle.session.specs.declared.Session.{Session}
-use Rattle.occ_call.specs.Occ.{Result, answered, kept, says, refuses, occRefusal, carriedSays, occMade, verdictSays, judgedSays, occJudged, occRead, occFrom, occCall}
+use Rattle.occ_call.specs.Occ.{Result, answered, kept, says, refusalOf, occRefusal, carriedSays, occMade, verdictSays, judgedSays, askedFor, askedOf, occRead, occFrom, occCall}
 
 module _ (s : Session) (sender : ℕ) (c d : List ℕ) where
   abbrev pub judgement : Judged
@@ -41,17 +41,19 @@ module _ (s : Session) (sender : ℕ) (c d : List ℕ) where
   came-carried ch w v = cond-cases Came (carriedOf s (edit ch) .full) (λ f. refused 5 (λ z. omega (arith, z))) (λ f. carried-out ch w v f)
 
   came-verdict : (v : Verdict) → wellFormed s ≡ true → judgement .verdict ≡ v → Came (verdictSays s (getD c 0 0) (getD c 1 0) d (judgement .tables) v)
-  unfolding verdictSays refuses
+  unfolding verdictSays
   came-verdict (Refuse status) w e = replied-to _
   came-verdict Poll w e = replied-to _
   came-verdict (Make ch) w e = came-carried ch w e
 
-  came-read : wellFormed s ≡ true → Came (occRead s sender c (packetStatus c) d)
-  unfolding occRead refuses occJudged judgedSays
-  came-read w = cond-cases Came (not (eqb (packetStatus c) 0)) (λ f. replied-to _) (λ f. came-verdict (judgement .verdict) w refl)
+  came-read : wellFormed s ≡ true → Came (occRead s sender c d)
+  unfolding occRead askedOf askedFor judgedSays verdictSays plainly
+  came-read w =
+      cond-cases (λ (j : Judged). Came (judgedSays s (getD c 0 0) (getD c 1 0) d j)) (not (eqb (packetStatus c) 0)) (λ f. replied-to _)
+      (λ f. came-verdict (judgement .verdict) w refl)
 
   pub came : Came (occCall s sender c d)
-  unfolding occCall occFrom occRefusal
+  unfolding occCall occFrom occRefusal refusalOf
   came =
       cond-cases Came (not (eqb (occRefusal s sender (length c) (length d)) 0))
       (λ f. refused _ (eqb-false _ 0 (not-true _ f)))

@@ -8,7 +8,9 @@ use Rattle.change.specs.declared.Tables.{Tables}
 use Rattle.change.specs.declared.Edit.{Edit}
 use Rattle.packet.specs.Packet.{packetStatus, dataOf, noLogId, replied}
 use Rattle.poll.specs.Poll.{pollData}
-use Rattle.occ.specs.Judge.{judgeOf}
+use Rattle.record.specs.declared.Record.{Record}
+use Rattle.record.specs.declared.Worked.{Worked}
+use Rattle.occ.specs.Judge.{plainly, judgeOf}
 use Rattle.occ.specs.declared.Verdict.{Verdict}
 use Rattle.occ.specs.declared.Verdict.the-variants.{Refuse, Poll, Make}
 use Rattle.occ.specs.declared.Judged.{Judged}
@@ -33,20 +35,19 @@ kept n s d = record { outcome = answered n s; reply = d }
 unfoldable pub says : Session → List ℕ → Result
 says s d = record { outcome = answered 0 s; reply = d }
 
--- "every error reply returns the session unchanged"
-unfoldable pub refuses : Session → ℕ → ℕ → ℕ → List ℕ → Result
-refuses s seq kind status d = says s (replied seq kind status noLogId d)
-
 -- 1: session not well formed; 2: "OCC sender neither 0x10 (HTMGT) nor 0x20 (BMC)"; 3: reply buffer under 4,096 bytes; 4: command under 4
 unfoldable pub knownSender : ℕ → Bool
 knownSender sender = cond (eqb sender 0x10) true (eqb sender 0x20)
 
-unfoldable pub occRefusal : Session → ℕ → ℕ → ℕ → ℕ
-occRefusal s sender command reply =
-    cond (not (wellFormed s)) 1
+unfoldable pub refusalOf : Bool → ℕ → ℕ → ℕ → ℕ
+refusalOf formed sender command reply =
+    cond (not formed) 1
     (cond (not (knownSender sender)) 2
     (cond (ltb reply 4096) 3
     (cond (ltb command 4) 4 0)))
+
+unfoldable pub occRefusal : Session → ℕ → ℕ → ℕ → ℕ
+occRefusal s sender command reply = refusalOf (wellFormed s) sender command reply
 
 -- 5: "an otherwise accepted change whose entry is longer than the unused journal"; else it is carried out, and "success has no data"
 unfoldable pub carriedSays : Carried → Session → ℕ → ℕ → List ℕ → Result
@@ -55,26 +56,35 @@ carriedSays c s seq kind d = cond (c .full) (kept 5 s d) (says (c .session) (rep
 unfoldable pub occMade : Session → Edit → ℕ → ℕ → List ℕ → Result
 occMade s e seq kind d = carriedSays (carriedOf s e) s seq kind d
 
+-- the reply to what is no change
+unfoldable pub toldOf : Verdict → Record → Worked → ℕ → ℕ → List ℕ → List ℕ
+toldOf (Refuse status) held worked seq kind d = replied seq kind status noLogId d
+toldOf Poll held worked seq kind d = replied seq 0x00 0x00 (pollData held worked) d
+toldOf (Make change) held worked seq kind d = d
+
+-- "every error reply returns the session unchanged", and so does a poll's
 unfoldable pub verdictSays : Session → ℕ → ℕ → List ℕ → Tables → Verdict → Result
-verdictSays s seq kind d t (Refuse status) = refuses s seq kind status d
-verdictSays s seq kind d t Poll = says s (replied seq 0x00 0x00 (pollData (s .held) (s .worked)) d)
+verdictSays s seq kind d t (Refuse status) = says s (toldOf (Refuse status) (s .held) (s .worked) seq kind d)
+verdictSays s seq kind d t Poll = says s (toldOf Poll (s .held) (s .worked) seq kind d)
 verdictSays s seq kind d t (Make change) = occMade s (record { change = change; tables = t }) seq kind d
 
 unfoldable pub judgedSays : Session → ℕ → ℕ → List ℕ → Judged → Result
 judgedSays s seq kind d j = verdictSays s seq kind d (j .tables) (j .verdict)
 
-unfoldable pub occJudged : Session → ℕ → ℕ → ℕ → List ℕ → List ℕ → Result
-occJudged s sender seq kind part d = judgedSays s seq kind d (judgeOf (s .held) (s .worked) (s .next) sender kind part)
+-- what a command asks for: the packet's own statuses 0x12 and 0x14 come first, then its type and data are judged
+unfoldable pub askedFor : ℕ → Record → Worked → ℕ → ℕ → List ℕ → Judged
+askedFor status held worked next sender c =
+    cond (not (eqb status 0)) (plainly (Refuse status)) (judgeOf held worked next sender (getD c 1 0) (dataOf c))
 
--- the packet's own statuses 0x12 and 0x14 come first
-unfoldable pub occRead : Session → ℕ → List ℕ → ℕ → List ℕ → Result
-occRead s sender c status d =
-    cond (not (eqb status 0)) (refuses s (getD c 0 0) (getD c 1 0) status d)
-    (occJudged s sender (getD c 0 0) (getD c 1 0) (dataOf c) d)
+unfoldable pub askedOf : Record → Worked → ℕ → ℕ → List ℕ → Judged
+askedOf held worked next sender c = askedFor (packetStatus c) held worked next sender c
+
+unfoldable pub occRead : Session → ℕ → List ℕ → List ℕ → Result
+occRead s sender c d = judgedSays s (getD c 0 0) (getD c 1 0) d (askedOf (s .held) (s .worked) (s .next) sender c)
 
 -- "Numbers 1 to 4 are tested in that order, first"
 unfoldable pub occFrom : ℕ → Session → ℕ → List ℕ → List ℕ → Result
-occFrom n s sender c d = cond (not (eqb n 0)) (kept n s d) (occRead s sender c (packetStatus c) d)
+occFrom n s sender c d = cond (not (eqb n 0)) (kept n s d) (occRead s sender c d)
 
 unfoldable pub occCall : Session → ℕ → List ℕ → List ℕ → Result
 occCall s sender c d = occFrom (occRefusal s sender (length c) (length d)) s sender c d

@@ -7,7 +7,7 @@ use native.Mathlib.Omega.{arith}
 use lib.Dec.{eqb, ltb}
 use lib.ListN.{length, getD}
 use Rattle.wire.specs.Laws.{Bytes}
-use Rattle.wire.specs.Cases.{cond-elim}
+use Rattle.wire.specs.Cases.{cond-elim, cond-cases}
 use Rattle.record.specs.Record.{workedOf}
 use Rattle.record.specs.declared.Record.{Record}
 use Rattle.change.specs.Change.{noTables}
@@ -15,7 +15,7 @@ use Rattle.change.specs.declared.Change.{Change}
 use Rattle.change.specs.declared.Edit.{Edit}
 use Rattle.formed.specs.Formed.{recordOk}
 use Rattle.packet.specs.Packet.{packetStatus, dataOf}
-use Rattle.occ.specs.Judge.{judgeOf}
+use Rattle.occ.specs.Judge.{plainly, judgeOf}
 use Rattle.occ.specs.declared.Judged.{Judged}
 use Rattle.occ.specs.declared.Verdict.{Verdict}
 use Rattle.occ.specs.declared.Verdict.the-variants.{Refuse, Poll, Make}
@@ -69,7 +69,7 @@ module _ (s : Session) (formed : wellFormed s ≡ true) (ok : recordOk (s .held)
   OccFollows d q = Follows d (q .outcome .answer) (q .outcome .session)
 
   occ-fair : (sender c d : ℕ) → Fair (occs.occRefusal s sender c d)
-  unfolding occs.occRefusal
+  unfolding occs.occRefusal occs.refusalOf
   occ-fair sender c d =
       past-one _ (cond-elim Fair (not (occs.knownSender sender)) ((λ z. omega (arith, z)), (λ z. omega (arith, z)))
       (cond-elim Fair (ltb d 4096) ((λ z. omega (arith, z)), (λ z. omega (arith, z)))
@@ -87,16 +87,21 @@ module _ (s : Session) (formed : wellFormed s ≡ true) (ok : recordOk (s .held)
         (λ f. carries (record { change = ch; tables = j .tables }) (occ-made (s .held) (s .worked) (s .next) sender (getD c 1 0) (dataOf c) (data-bytes c bytes) ok typed ch v) f)
 
     occ-verdict : (v : Verdict) → j .verdict ≡ v → OccFollows (occVerdict s (j .tables) v) (occs.verdictSays s (getD c 0 0) (getD c 1 0) d (j .tables) v)
-    unfolding occVerdict occs.verdictSays occs.refuses occs.says occs.answered
+    unfolding occVerdict occs.verdictSays occs.says occs.answered
     occ-verdict (Refuse status) e = quiet
     occ-verdict Poll e = quiet
     occ-verdict (Make ch) e = occ-makes ch e
 
+    occ-asked : OccFollows (occJudgement s (occs.askedOf (s .held) (s .worked) (s .next) sender c)) (occs.occRead s sender c d)
+    unfolding occJudgement occVerdict occs.occRead occs.askedOf occs.askedFor occs.judgedSays occs.verdictSays occs.says occs.answered plainly
+    occ-asked =
+        cond-cases (λ (x : Judged). OccFollows (occJudgement s x) (occs.judgedSays s (getD c 0 0) (getD c 1 0) d x)) (not (eqb (packetStatus c) 0))
+        (λ g. quiet) (λ g. occ-verdict (j .verdict) refl)
+
     occ-follows : OccFollows (deed s (occ sender c d)) (occs.occCall s sender c d)
-    unfolding deed occJudgement occs.occCall occs.occFrom occs.occRead occs.occJudged occs.judgedSays occs.kept occs.refuses occs.says occs.answered
+    unfolding deed occs.occCall occs.occFrom occs.kept occs.answered
     occ-follows =
-        by-both OccFollows (not (eqb (occs.occRefusal s sender (length c) (length d)) 0)) (λ f. stays _ (occ-fair sender (length c) (length d)))
-        (λ f. by-both OccFollows (not (eqb (packetStatus c) 0)) (λ g. quiet) (λ g. occ-verdict (j .verdict) refl))
+        by-both OccFollows (not (eqb (occs.occRefusal s sender (length c) (length d)) 0)) (λ f. stays _ (occ-fair sender (length c) (length d))) (λ f. occ-asked)
 
   -- SBE
 
@@ -104,7 +109,7 @@ module _ (s : Session) (formed : wellFormed s ≡ true) (ok : recordOk (s .held)
   SbeFollows d q = Follows d (q .outcome .answer) (q .outcome .session)
 
   sbe-fair : (r d : ℕ) → Fair (sbes.sbeRefusal s r d)
-  unfolding sbes.sbeRefusal
+  unfolding sbes.sbeRefusal sbes.refusalOf
   sbe-fair r d =
       past-one _ (cond-elim Fair (ltb d 32) ((λ z. omega (arith, z)), (λ z. omega (arith, z)))
       (cond-elim Fair (ltb r 32) ((λ z. omega (arith, z)), (λ z. omega (arith, z))) ((λ z. omega (arith, z)), (λ z. omega (arith, z)))))

@@ -4,15 +4,13 @@ use mathlib.Core.Bool.{Bool, true, false, cond, not}
 use mathlib.Core.Path.{_≡_}
 use mathlib.Core.List.{List, [], _∷_}
 use lib.Dec.{eqb}
-use lib.ListN.{length, getD}
+use lib.ListN.{length}
 use Rattle.wire.specs.Laws.{Bytes}
 use Rattle.record.specs.Record.{workedOf}
 use Rattle.record.specs.declared.Record.{Record}
 use Rattle.change.specs.Change.{noTables, putOf}
 use Rattle.change.specs.declared.Tables.{Tables}
 use Rattle.change.specs.declared.Edit.{Edit}
-use Rattle.packet.specs.Packet.{packetStatus, dataOf}
-use Rattle.occ.specs.Judge.{judgeOf}
 use Rattle.occ.specs.declared.Judged.{Judged}
 use Rattle.occ.specs.declared.Verdict.{Verdict}
 use Rattle.occ.specs.declared.Verdict.the-variants.{Refuse, Poll, Make}
@@ -21,7 +19,7 @@ use Rattle.sbe.specs.declared.Verdict.{Verdict as Request}
 use Rattle.sbe.specs.declared.Verdict.the-variants.{Refuse as Declined, Make as Granted}
 use Rattle.session.specs.Session.{madeOf, carriedOf}
 use Rattle.session.specs.declared.Session.{Session}
-use Rattle.occ_call.specs.Occ.{occRefusal}
+use Rattle.occ_call.specs.Occ.{occRefusal, askedOf}
 use Rattle.sbe_call.specs.Sbe.{sbeRefusal}
 use Rattle.undo_call.specs.Undo.{undoCall}
 use Rattle.promises.specs.Calls.{Call, occ, sbe, undo, said}
@@ -53,9 +51,7 @@ sbeVerdict s (Granted change) = adding s (record { change = change; tables = noT
 -- the accepted calls that make an entry, and the accepted undos
 unfoldable pub deed : Session → Call → Deed
 deed s (occ sender c d) =
-    cond (not (eqb (occRefusal s sender (length c) (length d)) 0)) keeps
-    (cond (not (eqb (packetStatus c) 0)) keeps
-    (occJudgement s (judgeOf (s .held) (s .worked) (s .next) sender (getD c 1 0) (dataOf c))))
+    cond (not (eqb (occRefusal s sender (length c) (length d)) 0)) keeps (occJudgement s (askedOf (s .held) (s .worked) (s .next) sender c))
 deed s (sbe r d) = cond (not (eqb (sbeRefusal s (length r) (length d)) 0)) keeps (sbeVerdict s (mailbox.judgeOf r))
 deed s undo = cond (eqb (undoCall s .answer) 0) strikes keeps
 

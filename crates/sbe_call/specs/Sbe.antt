@@ -1,6 +1,6 @@
 -- Document 01, "Session answers" and "SBE mailbox": what the call `sbe` comes to, for every session, request and buffer.
 use Prim.Native.Nat.{ℕ}
-use mathlib.Core.Bool.{cond, not}
+use mathlib.Core.Bool.{Bool, cond, not}
 use mathlib.Core.List.{List}
 use lib.ListN.{length}
 use lib.Dec.{ltb, eqb}
@@ -32,8 +32,11 @@ unfoldable pub responds : Session → ℕ → ℕ → List ℕ → List ℕ → 
 responds s primary secondary r d = record { outcome = rung 0 (bellOf r) s; reply = pasted 0 (responseBytes primary secondary r) d }
 
 -- 1: session not well formed; 3: reply buffer under 32 bytes; 4: command under 32
+unfoldable pub refusalOf : Bool → ℕ → ℕ → ℕ
+refusalOf formed request reply = cond (not formed) 1 (cond (ltb reply 32) 3 (cond (ltb request 32) 4 0))
+
 unfoldable pub sbeRefusal : Session → ℕ → ℕ → ℕ
-sbeRefusal s request reply = cond (not (wellFormed s)) 1 (cond (ltb reply 32) 3 (cond (ltb request 32) 4 0))
+sbeRefusal s request reply = refusalOf (wellFormed s) request reply
 
 -- 5: "an otherwise accepted change whose entry is longer than the unused journal"
 unfoldable pub carriedSays : Carried → Session → List ℕ → List ℕ → Result
@@ -41,6 +44,11 @@ carriedSays c s r d = cond (c .full) (kept 5 s d) (responds (c .session) 0x00 0x
 
 unfoldable pub sbeMade : Session → Change → List ℕ → List ℕ → Result
 sbeMade s change r d = carriedSays (carriedOf s (record { change = change; tables = noTables })) s r d
+
+-- the response to what is no change
+unfoldable pub toldOf : Verdict → List ℕ → List ℕ → List ℕ
+toldOf (Refuse primary secondary) r d = pasted 0 (responseBytes primary secondary r) d
+toldOf (Make change) r d = d
 
 unfoldable pub verdictSays : Session → List ℕ → List ℕ → Verdict → Result
 verdictSays s r d (Refuse primary secondary) = responds s primary secondary r d

@@ -2,8 +2,8 @@
 ghost use mathlib.Core.Path.{_≡_};
 ghost use Prim.Native.Nat.{_≤_};
 ghost use lib.ListN.{length};
-ghost use Rattle.sbe_call.specs.Sbe.{rung, sbeRefusal, sbeMade, sbeCall};
-use change::Change;
+ghost use Rattle.change.specs.Change.{noTables};
+ghost use Rattle.sbe_call.specs.Sbe.{rung, refusalOf, toldOf, sbeCall};
 use change::Edit;
 use change::Tables;
 use record::Throttles;
@@ -28,10 +28,10 @@ fn ring(n: u8, bell: u16, s: Session) -> Rung
 }
 
 // Answers 1, 3 and 4 in document 01's order, 0 where none is due.
-fn refusal(s: Session, request: usize, reply: usize) -> u8
-    ensures { λ n. ⌜ n ≡ sbeRefusal s request reply ⌝ }
+fn refusal(formed: bool, request: usize, reply: usize) -> u8
+    ensures { λ n. ⌜ n ≡ refusalOf formed request reply ⌝ }
 {
-    if !session::well_formed(s) {
+    if !formed {
         return 1;
     }
     if reply < 32 {
@@ -43,24 +43,52 @@ fn refusal(s: Session, request: usize, reply: usize) -> u8
     0
 }
 
-// A change to make: answer 5, and no bell, where its entry has no room; else it is carried out.
-fn make(s: Session, change: Change, request: &[u8], reply: &mut [u8]) -> Rung
-    requires { ⌜ (s .next ≤ 256) × (32 ≤ length (now request)) × (32 ≤ length (now reply)) ⌝ }
-    ensures { λ x. ⌜ x ≡ sbeMade s change (now (request .entry)) (now (reply .entry)) .outcome ⌝ }
-    ensures { λ _. ⌜ now (reply .exit) ≡ sbeMade s change (now (request .entry)) (now (reply .entry)) .reply ⌝ }
+// The response to what is no change; a change has none yet.
+fn tell(verdict: Verdict, request: &[u8], reply: &mut [u8])
+    requires { ⌜ (32 ≤ length (now request)) × (32 ≤ length (now reply)) ⌝ }
+    ensures { λ _. ⌜ now (reply .exit) ≡ toldOf verdict (now (request .entry)) (now (reply .entry)) ⌝ }
 {
-    let none = Tables {
+    match verdict {
+        Verdict::Refuse(primary, secondary) => sbe::respond(reply, request, primary, secondary),
+        Verdict::Make(_) => {}
+    }
+}
+
+// The tables of a change that has none.
+fn no_tables() -> Tables
+    ensures { λ x. ⌜ x ≡ noTables ⌝ }
+{
+    Tables {
         thermal: [0; 9],
         throttles: Throttles {
             present: 0,
             sets: [0; 160],
         },
+    }
+}
+
+// The session stands in this function and in those it hands it to, and no deeper: each frame that isn't inlined copies it.
+pub fn sbe(s: Session, request: &[u8], reply: &mut [u8]) -> Rung
+    ensures { λ x. ⌜ x ≡ sbeCall s (now (request .entry)) (now (reply .entry)) .outcome ⌝ }
+    ensures { λ _. ⌜ now (reply .exit) ≡ sbeCall s (now (request .entry)) (now (reply .entry)) .reply ⌝ }
+{
+    let formed = session::well_formed(s);
+    let n = refusal(formed, request.len(), reply.len());
+    if n != 0 {
+        return ring(n, 0, s);
+    }
+    let verdict = sbe::judge(request);
+    let bell = sbe::bell(request);
+    let Verdict::Make(change) = verdict else {
+        tell(verdict, request, reply);
+        return ring(0, bell, s);
     };
+    let tables = no_tables();
     let carried = session::carry(
         s,
         Edit {
             change: change,
-            tables: none,
+            tables: tables,
         },
     );
     let after = carried.session;
@@ -68,23 +96,5 @@ fn make(s: Session, change: Change, request: &[u8], reply: &mut [u8]) -> Rung
         return ring(5, 0, s);
     }
     sbe::respond(reply, request, 0x00, 0x00);
-    ring(0, sbe::bell(request), after)
-}
-
-pub fn sbe(s: Session, request: &[u8], reply: &mut [u8]) -> Rung
-    ensures { λ x. ⌜ x ≡ sbeCall s (now (request .entry)) (now (reply .entry)) .outcome ⌝ }
-    ensures { λ _. ⌜ now (reply .exit) ≡ sbeCall s (now (request .entry)) (now (reply .entry)) .reply ⌝ }
-{
-    let n = refusal(s, request.len(), reply.len());
-    if n != 0 {
-        return ring(n, 0, s);
-    }
-    let verdict = sbe::judge(request);
-    match verdict {
-        Verdict::Refuse(primary, secondary) => {
-            sbe::respond(reply, request, primary, secondary);
-            ring(0, sbe::bell(request), s)
-        }
-        Verdict::Make(change) => make(s, change, request, reply),
-    }
+    ring(0, bell, after)
 }

@@ -1,9 +1,8 @@
 // The call `undo`: the newest change is taken back. The record and all that is worked out from it; the next id stays.
 ghost use mathlib.Core.Path.{_≡_};
 ghost use Prim.Native.Nat.{_≤_};
-ghost use lib.ListN.{length};
 ghost use Rattle.journal.specs.Add.{cutFrom};
-ghost use Rattle.undo_call.specs.Undo.{notUndone, undoneWith, undoneAt, undoCall};
+ghost use Rattle.undo_call.specs.Undo.{notUndone, undoneWith, undoCall};
 use change::Edit;
 use entries::Reading;
 use journal::Found;
@@ -66,29 +65,8 @@ fn take_back(s: Session, at: usize, e: Edit) -> Undone
     }
 }
 
-// The newest entry, which starts at `at`. A well-formed session's entries are good; a bad one would make it ill formed.
-fn undo_at(s: Session, at: usize) -> Undone
-    requires { ⌜ (at ≤ s .used) × (s .used ≤ length (s .journal)) ⌝ }
-    ensures { λ x. ⌜ x ≡ undoneAt s at ⌝ }
-{
-    let j = s.journal;
-    let used = s.used as usize;
-    let got = journal::get(&j[at..used]);
-    let found = got.found;
-    let tables = got.tables;
-    let Found::Good(change) = found else {
-        return refuse_with(1, s);
-    };
-    take_back(
-        s,
-        at,
-        Edit {
-            change: change,
-            tables: tables,
-        },
-    )
-}
-
+// The session stands in this function and in those it hands it to, and no deeper: each frame that isn't inlined copies it.
+// A well-formed session reads as entries with good values; what the two `else` answer can't come.
 pub fn undo(s: Session) -> Undone
     ensures { λ x. ⌜ x ≡ undoCall s ⌝ }
 {
@@ -104,5 +82,18 @@ pub fn undo(s: Session) -> Undone
     let Reading::Whole { count: _, newest } = reading else {
         return refuse_with(1, s);
     };
-    undo_at(s, newest)
+    let got = journal::get(&j[newest..used]);
+    let found = got.found;
+    let tables = got.tables;
+    let Found::Good(change) = found else {
+        return refuse_with(1, s);
+    };
+    take_back(
+        s,
+        newest,
+        Edit {
+            change: change,
+            tables: tables,
+        },
+    )
 }

@@ -9,9 +9,7 @@ use lib.Dec.{ltb}
 use lib.ListN.{length, getD}
 use Rattle.wire.specs.Cases.{if-b, else-b, if-ne, else-ne}
 use Rattle.change.specs.declared.Change.{Change}
-use Rattle.change.specs.declared.Edit.{Edit}
-use Rattle.packet.specs.Packet.{packetStatus, dataOf, noLogId, replied}
-use Rattle.poll.specs.Poll.{pollData}
+use Rattle.packet.specs.Packet.{packetStatus, dataOf, replied}
 use Rattle.occ.specs.Judge.{plainly, judgeOf}
 use Rattle.occ.proofs.Verdict.{the-type}
 use denote.Enum.Declared.{tagOf}

@@ -65,7 +65,7 @@ fn take_back(s: Session, at: usize, e: Edit) -> Undone
     }
 }
 
-// The session stands in this function and in those it hands it to, and no deeper: each frame that isn't inlined copies it.
+// The session stands in this function and in those it hands it to, deeper only to be the answer's: each frame that isn't inlined copies it.
 // A well-formed session reads as entries with good values; what the two `else` answer can't come.
 pub fn undo(s: Session) -> Undone
     ensures { λ x. ⌜ x ≡ undoCall s ⌝ }

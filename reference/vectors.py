@@ -76,6 +76,14 @@ def undo(kind, note=None):
     put("undo", "0 %02X" % kind if kind else "6")
 
 
+def undo_all(kind, times, word):
+    """all the changes since fresh are of one kind: each is taken back, then none is left"""
+    say("%s were accepted: undo of kind %02X %s times, then answer 6" % (word, kind, word))
+    for _ in range(times):
+        undo(kind)
+    undo(0)
+
+
 def sbe(note, cls, cmd, flags, regs=(0, 0, 0), code=(0, 0), bell=None, seq=0x0007, head=0, tail=b""):
     if note:
         say(note)
@@ -528,10 +536,7 @@ sbe("02/19: none at all, no bell", 0xD1, 0x01, 0x0000, (1000, 0, 0), (2, 0x19))
 sbe("02/19: an unknown flag 0004, both bits rung", 0xD1, 0x01, 0x0305, (1000, 0, 0), (2, 0x19))
 sbe("02/19: an unknown flag 0400", 0xD1, 0x01, 0x0501, (1000, 0, 0), (2, 0x19))
 sbe("02/19: an unknown flag 8000", 0xD1, 0x01, 0x8001, (1000, 0, 0), (2, 0x19))
-say("five were accepted: undo of kind 0A five times, then answer 6")
-for _ in range(5):
-    undo(10)
-undo(0)
+undo_all(0x0A, 5, "five")
 
 title("SBE D1 03: core functional states")
 sbe("all cores out; sequence BEEF comes back", 0xD1, 0x03, 0x0100, (0xFFFFFFFF00000000, 0, 0), seq=0xBEEF)
@@ -539,10 +544,7 @@ sbe("reserved bytes are ignored: bytes 0, 1, 12 to 31", 0xD1, 0x03, 0x0300, (0x8
 sbe("bytes after the request are ignored", 0xD1, 0x03, 0x0000, (0, 0, 0), tail=b"\xFF\xFF")
 sbe("02/19: flag 0001 is not this command's", 0xD1, 0x03, 0x0101, (0, 0, 0), (2, 0x19))
 sbe("02/19: flag 0002 neither", 0xD1, 0x03, 0x0002, (0, 0, 0), (2, 0x19))
-say("three were accepted: undo of kind 09 three times, then answer 6")
-for _ in range(3):
-    undo(9)
-undo(0)
+undo_all(0x09, 3, "three")
 
 title("SBE D7 04: set FFDC address")
 A, B, Z = 0x1000, 0x8000000000000000, 0x80
@@ -565,10 +567,7 @@ area("02/19: both wrong, FFDC size and second address: FFDC first", (130, Z), (A
 area("02/03: both wrong, FFDC address and second size: FFDC first", (Z, 130), (A + 1, B), (2, 3))
 area("02/03: FFDC size 0, second address wrong", (0, Z), (A, B + 1), (2, 3))
 area("02/19: flag 0001 is not this command's; before the areas are judged (02/03)", (Z, Z), (A + 1, B), (2, 0x19), flags=0x0101)
-say("six were accepted: undo of kind 0B six times, then answer 6")
-for _ in range(6):
-    undo(11)
-undo(0)
+undo_all(0x0B, 6, "six")
 
 title("SBE class, command, flags: the order of tests")
 for c in (0x00, 0xD0, 0xD2, 0xD8, 0xFF):

@@ -232,7 +232,7 @@ fn reset_prep(role: u8, logs: [Log; 4], next: u16, d: &[u8]) -> Verdict
 
 // ---- configuration
 
-fn plain(verdict: Verdict) -> Judged
+pub fn plain(verdict: Verdict) -> Judged
     ensures { λ x. ⌜ x ≡ plainly verdict ⌝ }
 {
     Judged {

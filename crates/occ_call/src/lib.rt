@@ -4,11 +4,9 @@ ghost use Prim.Native.Nat.{_≤_};
 ghost use lib.ListN.{length};
 ghost use Rattle.occ_call.specs.Occ.{answered, knownSender, refusalOf, askedOf, toldOf, occCall};
 use change::Edit;
-use change::Tables;
 use occ::Judged;
 use occ::Verdict;
 use record::Record;
-use record::Throttles;
 use record::Worked;
 use session::Session;
 
@@ -63,16 +61,7 @@ fn ask(held: Record, worked: Worked, next: u16, sender: u8, command: &[u8]) -> J
 {
     let status = packet::status(command);
     if status != 0 {
-        return Judged {
-            verdict: Verdict::Refuse(status),
-            tables: Tables {
-                thermal: [0; 9],
-                throttles: Throttles {
-                    present: 0,
-                    sets: [0; 160],
-                },
-            },
-        };
+        return occ::plain(Verdict::Refuse(status));
     }
     let kind = command[1];
     occ::judge(held, worked, next, sender, kind, packet::data_part(command))

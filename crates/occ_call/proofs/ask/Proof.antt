@@ -1,6 +1,4 @@
-use Rattle.occ.specs.Judge.{plainly}
 use Rattle.occ_call.proofs.Answering.{asked-unread, asked-judged}
-use mathlib.Core.Path.{refl}
 use borrow.Author.Needs.{needs}
 use Rattle.occ_call.proofs.ask.Statement.{statement}
 use Rattle.occ_call.proofs.ask.Tie as tie
@@ -8,9 +6,11 @@ use Rattle.occ_call.proofs.ask.Tie as tie
 status-requires : tie.Need-status-requires
 status-requires c κs = search needs
 
+plain-requires : tie.Need-plain-requires
+plain-requires c κs = search needs
+
 returns : tie.Need-returns
-unfolding plainly
-returns c = asked-unread _ _ _ _ _ _ _ (c .before .status .ensures) (c .if1 .taken) refl
+returns c = asked-unread _ _ _ _ _ _ _ (c .before .before .status .ensures) (c .before .if1 .taken) (c .plain .ensures)
 
 shared-slice-read-kind : tie.Need-shared-slice-read-kind
 shared-slice-read-kind c = search needs
@@ -29,6 +29,7 @@ ask-spec =
     tie.close
     (tie.spec
     status-requires
+    plain-requires
     returns
     shared-slice-read-kind
     data-part-requires

@@ -40,7 +40,7 @@ out-into p [] h = absurd (not-suc-le-zero h)
 out-into zero (y ∷ l) h = ap (λ (k : List Log). y ∷ k) (take-append-seam l (noLog ∷ []))
 out-into (suc p) (y ∷ l) h = ap (λ (k : List Log). y ∷ k) (out-into p l (le-of-suc-le-suc h))
 
-unused-parts : (x : Log) (l : List Log) → unused (x ∷ l) ≡ true → (x ≡ noLog) × (unused l ≡ true)
+pub unused-parts : (x : Log) (l : List Log) → unused (x ∷ l) ≡ true → (x ≡ noLog) × (unused l ≡ true)
 unfolding unused
 unused-parts x l h =
     let p = both-hold (eqb (x .id) 0) _ h in

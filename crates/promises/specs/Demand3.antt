@@ -38,7 +38,7 @@ use Rattle.promises.specs.Steps.{carried-image, carried-sane, undo-image
 use Rattle.promises.specs.Asked.{data-bytes, occ-made, sbe-made}
 
 -- two choices by the same test
-by-both : {A B : Type 0} (Q : A → B → Type 0) (b : Bool) {x y : A} {u v : B} → (b ≡ true → Q x u) → (b ≡ false → Q y v) → Q (cond b x y) (cond b u v)
+pub by-both : {A B : Type 0} (Q : A → B → Type 0) (b : Bool) {x y : A} {u v : B} → (b ≡ true → Q x u) → (b ≡ false → Q y v) → Q (cond b x y) (cond b u v)
 by-both Q true f g = f refl
 by-both Q false f g = g refl
 
@@ -142,7 +142,7 @@ abbrev pub tail : List Edit → List Edit
 tail [] = []
 tail (e ∷ es) = es
 
-left-strike : (ms : List Mark) → left (strike ms) ≡ tail (left ms)
+pub left-strike : (ms : List Mark) → left (strike ms) ≡ tail (left ms)
 unfolding left strike
 left-strike [] = refl
 left-strike (m ∷ ms) = go (m .struck) (left-strike ms)
@@ -152,19 +152,19 @@ left-strike (m ∷ ms) = go (m .struck) (left-strike ms)
     go true e = e
     go false e = refl
 
-logs-strike : (ms : List Mark) → logsMade (strike ms) ≡ logsMade ms
+pub logs-strike : (ms : List Mark) → logsMade (strike ms) ≡ logsMade ms
 unfolding logsMade strike
 logs-strike [] = refl
 logs-strike (m ∷ ms) =
     cond-elim (λ (l : List Mark). logsMade l ≡ logsMade (m ∷ ms)) (m .struck) (ap (λ (n : ℕ). n + madeOf (m .edit .change)) (logs-strike ms)) refl
 
 -- an undo strikes one out exactly while one is left
-undo-left : (ms : List Mark) (l : List Edit) → left ms ≡ l → left (marked ms (cond (eqb (undoAnswer l) 0) strikes keeps)) ≡ tail l
+pub undo-left : (ms : List Mark) (l : List Edit) → left ms ≡ l → left (marked ms (cond (eqb (undoAnswer l) 0) strikes keeps)) ≡ tail l
 unfolding undoAnswer marked
 undo-left ms [] e = e
 undo-left ms (x ∷ l) e = left-strike ms ∙ ap tail e
 
-undo-logs : (ms : List Mark) (l : List Edit) → logsMade (marked ms (cond (eqb (undoAnswer l) 0) strikes keeps)) ≡ logsMade ms
+pub undo-logs : (ms : List Mark) (l : List Edit) → logsMade (marked ms (cond (eqb (undoAnswer l) 0) strikes keeps)) ≡ logsMade ms
 unfolding undoAnswer marked
 undo-logs ms [] = refl
 undo-logs ms (x ∷ l) = logs-strike ms
@@ -200,18 +200,18 @@ module _ (base : Record) where
     abbrev n : ℕ
     n = logsMade (p .marks)
 
-    formed : wellFormed (p .session) ≡ true
+    pub formed : wellFormed (p .session) ≡ true
     formed = ap wellFormed (v .is) ∙ image-formed base es n (v .sane)
 
-    held-is : p .session .held ≡ replay base es
+    pub held-is : p .session .held ≡ replay base es
     unfolding image withHeld
     held-is = ap (λ (s : Session). s .held) (v .is)
 
-    next-is : p .session .next ≡ suc n
+    pub next-is : p .session .next ≡ suc n
     unfolding image withHeld
     next-is = ap (λ (s : Session). s .next) (v .is)
 
-    worked-is : p .session .worked ≡ workedOf (replay base es)
+    pub worked-is : p .session .worked ≡ workedOf (replay base es)
     unfolding image withHeld
     worked-is = ap (λ (s : Session). s .worked) (v .is)
 
@@ -221,7 +221,7 @@ module _ (base : Record) where
     typed : TypedRecord (p .session .held)
     typed = subst TypedRecord (sym held-is) (v .sane .typed)
 
-    undo-answer : undoCall (p .session) .answer ≡ undoAnswer es
+    pub undo-answer : undoCall (p .session) .answer ≡ undoAnswer es
     undo-answer = ap (λ (s : Session). undoCall s .answer) (v .is) ∙ undone es n (v .sane) .0
 
     -- a command

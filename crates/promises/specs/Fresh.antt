@@ -1,9 +1,12 @@
 -- A fresh session starts a history. Assumes nothing.
+use Prim.Native.Nat.{ℕ, _≤_}
 use mathlib.Core.Bool.{true}
 use mathlib.Core.Path.{_≡_, refl}
 use mathlib.Core.List.{[]}
 use native.Mathlib.Omega.{arith}
+use lib.ListN.{replicate}
 use Rattle.record.specs.Record.{freshRecord}
+use Rattle.change.specs.With.{withLogs}
 use Rattle.formed.specs.Formed.{recordOk}
 use Rattle.session.specs.Session.{freshSession}
 use Rattle.links.specs.Typed.{typed-fresh}
@@ -12,6 +15,7 @@ use Rattle.promises.specs.History.{left, logsMade, replay, start}
 use Rattle.promises.specs.Ids.{idsMade, countdown}
 use Rattle.promises.specs.Image.{padded, journalOf, image, Sane}
 use Rattle.promises.specs.Demand3.{Inv}
+use Rattle.promises.specs.Shifted.{shiftedRecord, no-log}
 
 fresh-ok : recordOk freshRecord 1 ≡ true
 unfolding computedSession
@@ -24,3 +28,8 @@ fresh-sane = record { small = omega arith; fits = omega arith; ok = fresh-ok; ty
 pub fresh-start : Inv freshRecord (start freshSession)
 unfolding computedSession start left logsMade idsMade countdown image padded journalOf replay
 fresh-start = record { is = refl; sane = fresh-sane; ids = refl }
+
+-- a fresh record has no log, so no id in it differs
+pub fresh-still : (k : ℕ) → 1 ≤ k → shiftedRecord k freshRecord ≡ freshRecord
+unfolding computedSession shiftedRecord withLogs
+fresh-still k low = λ i. withLogs freshRecord (replicate 4 (no-log k low i))

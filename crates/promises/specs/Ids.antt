@@ -54,7 +54,7 @@ none-drawn : (log : Log) → log ≡ noLog → (log .id ≡ 0) × (madeBy log �
 unfolding madeBy
 none-drawn log e = (ap (λ (x : Log). x .id) e, sym (if-eq _ _ {m = log .id} {n = 0} (ap (λ (x : Log). x .id) e) refl))
 
-one-made : (r : Record) (n : ℕ) (log : Log) → NewLog r n log → madeBy log ≡ 1
+pub one-made : (r : Record) (n : ℕ) (log : Log) → NewLog r n log → madeBy log ≡ 1
 unfolding madeBy
 one-made r n log new = sym (else-eq _ _ {m = log .id} {n = 0} (λ z. omega (arith, new .id, new .low, z)) refl)
 

@@ -18,10 +18,11 @@ use Rattle.entries.specs.Laws.{read-append}
 use Rattle.journal.specs.Bytes.{entryFor, entryBytes}
 use Rattle.journal.specs.Read.{allOk, scanOk, journalOk}
 use Rattle.journal.specs.Laws.{Writable, length-body, some-body}
-use Rattle.session.specs.Session.{wellFormed, withHeld}
+use Rattle.session.specs.Session.{wellFormed, withHeld, madeOf}
 use Rattle.session.specs.Laws.{formed-ok}
 use Rattle.session.specs.declared.Session.{Session}
 use Rattle.links.specs.Typed.{TypedRecord}
+use Rattle.links.specs.Made.{Made}
 use Rattle.links.specs.Links.{Link, next-up}
 use Rattle.promises.specs.History.{replay}
 
@@ -95,6 +96,8 @@ module _ (base : Record) where
   -- each change that is left is undone by its entry, and the record before it is well formed at the next id hi
   pub record Step (hi : ℕ) (e : Edit) (es : List Edit) : Type 0 where
     pub known : ℕ
+    pub made : Made (replay base es) known (e .tables) (e .change)
+    pub below : known + madeOf (e .change) ≤ hi
     pub links : Link (replay base es) known e
     pub ok : recordOk (replay base es) hi ≡ true
     pub typed : TypedRecord (replay base es)
@@ -113,7 +116,7 @@ module _ (base : Record) where
   pub kept-up : (hi hi′ : ℕ) (es : List Edit) → hi ≤ hi′ → hi′ ≤ 256 → Kept hi es → Kept hi′ es
   kept-up hi hi′ [] h k w = tt
   kept-up hi hi′ (e ∷ es) h k w =
-      (record { known = w .0 .known; links = w .0 .links; ok = next-up (replay base es) hi hi′ (w .0 .ok) h k; typed = w .0 .typed }, kept-up hi hi′ es h k (w .1))
+      (record { known = w .0 .known; made = w .0 .made; below = omega (arith, w .0 .below); links = w .0 .links; ok = next-up (replay base es) hi hi′ (w .0 .ok) h k; typed = w .0 .typed }, kept-up hi hi′ es h k (w .1))
 
   -- ---- the journal reads as the entries of the changes
 

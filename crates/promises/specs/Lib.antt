@@ -8,6 +8,11 @@ pub mod Asked
 pub mod Ids
 pub mod Demand3
 pub mod NoTrace
+pub mod Shifted
+pub mod Later
+pub mod Judgements
+pub mod Heard
+pub mod AsIf
 pub mod WellFormed
 pub mod Fresh
 pub mod ComputedSession

@@ -5,6 +5,7 @@ use mathlib.Core.Bool.{true}
 use mathlib.Core.Logic.{_↔_, _⊎_}
 use mathlib.Core.Path.{_≡_, sym, _∙_}
 use mathlib.Core.List.{List, []}
+use native.Mathlib.Omega.{arith}
 use lib.ListN.{length, getD}
 use Rattle.wire.specs.Laws.{Bytes}
 use Rattle.record.specs.Record.{freshRecord, workedOf}
@@ -26,13 +27,14 @@ use Rattle.sbe_call.specs.Came as sbe-came
 use Rattle.undo_call.specs.Undo.{undoCall}
 use Rattle.undo_call.specs.Came as undo-came
 use Rattle.promises.specs.Calls.{Call, undo, said}
-use Rattle.promises.specs.History.{adds, deed, logsMade, run, next-run, start, OfBytes, AllOfBytes, Demand3}
+use Rattle.promises.specs.History.{adds, deed, logsMade, Run, run, next-run, start, OfBytes, AllOfBytes, Demand3}
 use Rattle.promises.specs.Ids.{idsMade, countdown}
-use Rattle.promises.specs.Fresh.{fresh-start}
-use Rattle.promises.specs.Demand3.{demand3, ids-in-order, invariant}
+use Rattle.promises.specs.Fresh.{fresh-start, fresh-still}
+use Rattle.promises.specs.Demand3.{demand3, ids-in-order, invariant, next-is}
 use Rattle.links.specs.Typed.{TypedSession}
 use Rattle.promises.specs.WellFormed.{occ-formed, sbe-formed, undo-formed}
-use Rattle.promises.specs.NoTrace.{withNext, trace-free}
+use Rattle.promises.specs.Later.{Wish, AsIf}
+use Rattle.promises.specs.NoTrace.{withNext, trace-free, no-log-no-trace, later-alike}
 use Rattle.promises.specs.Examples.{All, holds, table, examples}
 
 -- ---- demand 1: a refusal changes nothing, for every session, right or damaged
@@ -98,10 +100,27 @@ undo-over-any-calls cs b = demand3 freshRecord cs (start freshSession) b fresh-s
 
 -- ---- no trace: a change followed by its undo leaves all but the next id as it was, and that only where a log was made
 
-pub no-trace : (cs : List Call) → AllOfBytes cs → (c : Call) → OfBytes c → (e : Edit) → deed (run (start freshSession) cs .session) c ≡ adds e
-    → said (next-run (run (start freshSession) cs) c .session) undo .session
-    ≡ withNext (run (start freshSession) cs .session) (run (start freshSession) cs .session .next + madeOf (e .change))
-no-trace cs b c bc e = trace-free freshRecord (run (start freshSession) cs) (invariant freshRecord cs (start freshSession) b fresh-start) c bc e
+abbrev after : List Call → Run
+after cs = run (start freshSession) cs
+
+abbrev tried : List Call → Call → Session
+tried cs c = said (next-run (after cs) c .session) undo .session
+
+pub no-trace : (cs : List Call) → AllOfBytes cs → (c : Call) → OfBytes c → (e : Edit) → deed (after cs .session) c ≡ adds e
+    → tried cs c ≡ withNext (after cs .session) (after cs .session .next + madeOf (e .change))
+no-trace cs b c bc e = trace-free freshRecord (after cs) (invariant freshRecord cs (start freshSession) b fresh-start) c bc e
+
+-- without a log nothing is left behind: every later call comes to the same
+pub no-trace-without-log : (cs : List Call) → AllOfBytes cs → (c : Call) → OfBytes c → (e : Edit) → deed (after cs .session) c ≡ adds e → madeOf (e .change) ≡ 0
+    → tried cs c ≡ after cs .session
+no-trace-without-log cs b c bc e = no-log-no-trace freshRecord (after cs) (invariant freshRecord cs (start freshSession) b fresh-start) c bc e
+
+-- after a log that was taken back, every later reply is as if nobody had tried, but for log ids, as long as ids last (Later.antt)
+pub no-trace-later : (cs : List Call) → AllOfBytes cs → (c : Call) → OfBytes c → (e : Edit) → deed (after cs .session) c ≡ adds e → madeOf (e .change) ≡ 1
+    → (ws : List (Wish (after cs .session .next))) → AsIf (after cs .session .next) (after cs .session) (tried cs c) ws
+no-trace-later cs b c bc e d =
+    let v = invariant freshRecord cs (start freshSession) b fresh-start in
+    later-alike freshRecord (after cs) v c bc e d (fresh-still (after cs .session .next) (omega (arith, next-is freshRecord (after cs) v)))
 
 -- ---- no id twice: the logs ever made, struck out or not, have the ids 1, 2, 3, .. in the order they were made
 

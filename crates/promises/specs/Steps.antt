@@ -117,7 +117,7 @@ module _ (base : Record) (e : Edit) (es : List Edit) (n : ℕ) where
           ok = ok;
           typed = l .put-typed;
           kept = (
-            record { known = suc n; links = l; ok = next-up (replay base es) (suc n) (suc (n + madeOf (e .change))) (g .ok) up small; typed = g .typed },
+            record { known = suc n; made = m; below = omega arith; links = l; ok = next-up (replay base es) (suc n) (suc (n + madeOf (e .change))) (g .ok) up small; typed = g .typed },
             kept-up base (suc n) (suc (n + madeOf (e .change))) es up small (g .kept),
           );
         }

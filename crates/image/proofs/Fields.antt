@@ -5,7 +5,7 @@ use mathlib.Core.List.{List, [], _∷_, _++_, append-assoc, append-nil}
 use native.Mathlib.Nat.{add-assoc, zero-add}
 use native.Mathlib.Omega.{arith}
 use lib.Dec.{lit<}
-use lib.ListN.{length, take, drop, length-append}
+use lib.ListN.{length, take, drop, length-append, drop-of-length-le}
 use lib.Seq.{drop-drop}
 use Rattle.wire.specs.Wire.{sumOf, toBE, pasted}
 use Rattle.wire.specs.Laws.{take-pasted, drop-pasted}
@@ -41,6 +41,21 @@ from-front rs ws e = zero-add (length (joined rs)) ∙ length-joined rs ∙ ap s
 pub length-record : (r : Record) → length (r .throttles .sets) ≡ 160 → length (r .thermal) ≡ 9 → length (joined (recordRows r)) ≡ 230
 unfolding sumOf recordWidths
 length-record r sets thermal = length-joined (recordRows r) ∙ ap sumOf (widths-record r sets thermal)
+
+pub length-session : (r : Record) (k : Worked) (next used : ℕ) (j : List ℕ) → length (joined (recordRows r)) ≡ 230 → length j ≡ 2048
+    → length (imageOf (record { held = r; worked = k; next = next; used = used; journal = j })) ≡ 2287
+unfolding sumOf widthsOf imageOf sessionRows workedRows toBE
+length-session r k next used j h e =
+    let rest = workedRows k next used ++ (j ∷ []) in
+    let m = length-joined rest ∙ ap sumOf (λ i. 2 ∷ 1 ∷ 1 ∷ 1 ∷ 2 ∷ 2 ∷ e i ∷ []) in
+    ap length (joined-append (recordRows r) rest) ∙ length-append (joined (recordRows r)) (joined rest) ∙ ap₂ (λ (a b : ℕ). a + b) h m
+
+-- a buffer that is filled by what is written
+pub filled : (n : ℕ) (bs d x : List ℕ) → length bs ≡ n → x ≡ pasted 0 bs d → length d ≡ n → x ≡ bs
+unfolding pasted
+filled n bs d x h p e =
+    let z : drop (0 + length bs) d ≡ [] = drop-of-length-le d {i = 0 + length bs} (omega arith) in
+    p ∙ rw (z, append-nil)
 
 module _ (d : List ℕ) (long : 2287 ≤ length d) where
   -- rows written after rows: x holds the ones from `at` on, y the others from `m` on too

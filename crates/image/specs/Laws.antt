@@ -9,13 +9,15 @@ use lib.ListN.{length, getD, take, drop, length-drop}
 use lib.Seq.{take-all, length-take-le, drop-cons, getD-take, getD-drop}
 use Rattle.wire.specs.Wire.{sumOf, beNat, toBE}
 use Rattle.wire.specs.Laws.{Bytes, bytes-take, bytes-drop, be-toBE, toBE-be}
+use Rattle.wire.specs.Cases.{else-lt}
 use Rattle.record.specs.Record.{noLog}
 use Rattle.record.specs.declared.Log.{Log}
 use Rattle.record.specs.declared.Record.{Record}
+use Rattle.session.specs.Session.{freshSession}
 use Rattle.session.specs.declared.Session.{Session}
 use Rattle.links.specs.Typed.{TypedSession}
 use Rattle.image.specs.Rows.{joined, widthsOf, rowsFrom, length-joined, rows-joined, joined-rows}
-use Rattle.image.specs.Image.{byte, headRows, throttlesRows, thermalRows, logsRows, mailboxRows, workedRows, recordRows, sessionRows, imageOf, byteAt, partAt, numberAt, capsIn, throttlesIn, receivedIn, logAt, logsIn, deadmanIn, areasIn, recordIn, workedIn, sessionOf}
+use Rattle.image.specs.Image.{byte, headRows, throttlesRows, thermalRows, logsRows, mailboxRows, workedRows, recordRows, sessionRows, imageOf, byteAt, partAt, numberAt, capsIn, throttlesIn, receivedIn, logAt, logsIn, deadmanIn, areasIn, recordIn, workedIn, sessionOf, readFrom}
 
 -- what the types of the fields say of a session; every value has it (`image::typed`)
 pub record Typed (s : Session) : Type 0 where
@@ -188,3 +190,8 @@ module _ (b : List ℕ) (bytes : Bytes b) (long : length b ≡ 2287) where
   pub image-session : imageOf (sessionOf b) ≡ b
   unfolding imageOf recordWidths widths sumOf
   image-session = ap joined rows-session ∙ joined-rows 0 widths b ∙ take-all 2287 b (omega arith)
+
+-- bytes that are an image and nothing else are read as they stand
+pub read-whole : (b : List ℕ) → length b ≡ 2287 → sessionOf b ≡ readFrom b
+unfolding readFrom
+read-whole b long = else-lt freshSession (sessionOf b) {m = length b} {n = 2287} (omega arith) refl

@@ -4,7 +4,7 @@ ghost use Prim.Native.Nat.{_≤_, _+_};
 ghost use lib.ListN.{length};
 ghost use Rattle.wire.specs.Wire.{pasted};
 ghost use Rattle.image.specs.Rows.{joined};
-ghost use Rattle.image.specs.Image.{headRows, throttlesRows, thermalRows, logsRows, mailboxRows, workedRows, recordRows, writtenTo, partAt, capsIn, throttlesIn, receivedIn, logAt, logsIn, deadmanIn, areasIn, recordIn, workedIn, readFrom};
+ghost use Rattle.image.specs.Image.{headRows, throttlesRows, thermalRows, logsRows, mailboxRows, workedRows, recordRows, imageOf, writtenTo, partAt, capsIn, throttlesIn, receivedIn, logAt, logsIn, deadmanIn, areasIn, recordIn, workedIn, readFrom};
 ghost use Rattle.image.specs.Laws.{Typed};
 use record::Area;
 use record::Areas;
@@ -118,9 +118,10 @@ fn put_record(d: &mut [u8], r: Record)
     put_mailbox(d, r.mask, deadman, areas);
 }
 
-// The image at the front of a buffer; one without room is kept.
+// The image at the front of a buffer; one without room is kept, one of an image's length holds nothing else.
 pub fn write(s: Session, d: &mut [u8])
     ensures { λ _. ⌜ now (d .exit) ≡ writtenTo (now (d .entry)) s ⌝ }
+    ensures { λ _. ⌜ (length (now (d .entry)) ≡ 2287 → now (d .exit) ≡ imageOf s) ⌝ }
 {
     if d.len() < 2287 {
         return;

@@ -1,0 +1,180 @@
+//! Counts what a file of lines reaches: answers, statuses, kinds undone, rules broken, complaints.
+
+use crate::journal::Change;
+use crate::occ::command_packet;
+use crate::protocol::{for_each_line, parse, Order, Program};
+use crate::session::Session;
+use std::collections::BTreeMap;
+use std::io::{BufReader, Read};
+
+type Counts = BTreeMap<String, u64>;
+
+fn add(counts: &mut Counts, what: String) {
+    *counts.entry(what).or_default() += 1;
+}
+
+/// The table of counts, one line each, in alphabetical order.
+pub fn count(input: &mut BufReader<impl Read>) -> std::io::Result<String> {
+    let mut counts = Counts::new();
+    let mut program = Program::default();
+    for_each_line(input, |line, _| {
+        count_line(&mut counts, &mut program, line);
+        Ok(())
+    })?;
+    Ok(counts.iter().map(|(what, times)| format!("{times:8} {what}\n")).collect())
+}
+
+/// `line K: TEXT`, the line of input that the N-th line of output answers; empty if there is none.
+pub fn answered(input: &mut BufReader<impl Read>, number: usize) -> std::io::Result<String> {
+    let mut program = Program::default();
+    let (mut line_number, mut written) = (0, 0);
+    let mut found = String::new();
+    for_each_line(input, |line, _| {
+        line_number += 1;
+        let before = written;
+        written += program.answer(line).lines().count();
+        if before < number && number <= written {
+            found = format!("line {line_number}: {}\n", String::from_utf8_lossy(line));
+        }
+        Ok(())
+    })?;
+    Ok(found)
+}
+
+fn count_line(counts: &mut Counts, program: &mut Program, line: &[u8]) {
+    match parse(line) {
+        None => add(counts, "line skipped".to_string()),
+        Some(Err(complaint)) => {
+            let sort = complaint.split(" at column").next().unwrap_or("");
+            add(counts, format!("complaint {sort}"));
+        }
+        Some(Ok(order)) => count_order(counts, program, order),
+    }
+}
+
+fn count_order(counts: &mut Counts, program: &mut Program, order: Order) {
+    let before = program.session.clone();
+    let described = describe(&order, &before);
+    let loaded = matches!(order, Order::Load(_));
+    let named = match &described {
+        Described::Occ(what) | Described::Sbe(what) | Described::Undo(what) => what.clone(),
+        Described::Other => String::new(),
+    };
+    let answer = program.obey(order);
+    let words: Vec<&str> = answer.split_whitespace().collect();
+    let number = words.first().copied().unwrap_or("");
+    match described {
+        Described::Occ(what) => {
+            add(counts, "call occ".to_string());
+            let status = words.get(3).map_or(String::new(), |status| format!(" status {status}"));
+            add(counts, format!("occ {what} answer {number}{status}"));
+        }
+        Described::Sbe(what) => {
+            add(counts, "call sbe".to_string());
+            let status =
+                words.get(1..5).map_or(String::new(), |status| format!(" status {}", status.concat()));
+            let bell =
+                words.last().filter(|_| number == "0").map_or(String::new(), |bell| format!(" bell {bell}"));
+            add(counts, format!("sbe {what} answer {number}{status}"));
+            add(counts, format!("sbe answer {number}{status}{bell}"));
+        }
+        Described::Undo(what) => {
+            add(counts, "call undo".to_string());
+            add(counts, format!("undo {what} answer {number}"));
+        }
+        Described::Other => add(counts, "line not a call".to_string()),
+    }
+    count_room(counts, &before, &program.session, number, &named);
+    if loaded {
+        count_rules(counts, &program.session);
+    }
+}
+
+enum Described {
+    Occ(String),
+    Sbe(String),
+    Undo(String),
+    Other,
+}
+
+fn describe(order: &Order, session: &Session) -> Described {
+    match order {
+        Order::Occ { sender, command } => Described::Occ(occ_sort(*sender, command)),
+        Order::Send { sender, command_type, data } => {
+            Described::Occ(occ_sort(*sender, &command_packet(0, *command_type, data)))
+        }
+        Order::Sbe(request) => Described::Sbe(match request.get(6..8) {
+            Some([class @ (0xD1 | 0xD7), command @ (1 | 3 | 4)]) => {
+                format!("{class:02X} {command:02X}")
+            }
+            Some([class @ 0xD1..=0xD7, _]) => format!("{class:02X} other"),
+            Some(_) => "other class".to_string(),
+            None => "short".to_string(),
+        }),
+        Order::Undo => Described::Undo(undo_sort(session)),
+        _ => Described::Other,
+    }
+}
+
+fn occ_sort(sender: u8, command: &[u8]) -> String {
+    let sender = match sender {
+        0x10 => "HTMGT",
+        0x20 => "BMC",
+        _ => "stranger",
+    };
+    let sort = match command {
+        [_, 0x21, _, _, format @ (0x03 | 0x07 | 0x12 | 0x13), _, _, ..] => {
+            format!("21/{format:02X}")
+        }
+        [_, 0x21, ..] => "21/other".to_string(),
+        [_, kind @ (0x00 | 0x12 | 0x20 | 0x22 | 0x25), ..] => format!("{kind:02X}"),
+        _ => "other".to_string(),
+    };
+    format!("{sort} {sender}")
+}
+
+/// The newest entry's kind, and why it may not be undone.
+fn undo_sort(session: &Session) -> String {
+    if !session.well_formed() {
+        return "of a damaged session".to_string();
+    }
+    let used = session.used_journal().unwrap_or(&[]);
+    let found = crate::journal::entries(used).unwrap_or_default();
+    let Some(newest) = found.last() else {
+        return "of an empty journal".to_string();
+    };
+    let pending = session.record.pending();
+    let why = match Change::read(newest.kind, newest.body) {
+        Some(Change::Clear { .. }) if pending == 4 => " (4 pend)",
+        Some(Change::Clear { place, .. }) if usize::from(place) > pending => " (place too high)",
+        Some(Change::Clear { log, .. }) if u16::from(log.id) >= session.next_id => " (id not below next)",
+        Some(Change::Clear { log, .. }) if session.record.place_of(log.id).is_some() => " (id twice)",
+        Some(Change::Reset { log_made: 1, .. }) if pending == 0 => " (log made, none pends)",
+        Some(Change::Reset { log_made: 1, .. }) => " (log made)",
+        _ => "",
+    };
+    format!("kind {:02X}{why}", newest.kind)
+}
+
+/// Changes that took the last of the room, and refusals for want of one byte.
+fn count_room(counts: &mut Counts, before: &Session, after: &Session, number: &str, what: &str) {
+    if number == "0" && after.used == 2048 && before.used < 2048 {
+        let kind = before.journal.len().checked_sub(before.room()).and_then(|at| after.journal.get(at));
+        add(counts, format!("room used up by kind {:02X}", kind.unwrap_or(&0)));
+    }
+    let one_short = [1, 2, 3, 4, 7, 9, 10, 24, 163].contains(&before.room());
+    if number == "5" && one_short {
+        add(counts, format!("answer 5 with room {}: {what}", before.room()));
+    }
+}
+
+fn count_rules(counts: &mut Counts, session: &Session) {
+    let broken = session.broken_rules();
+    match broken.as_slice() {
+        [] => add(counts, "loaded well formed".to_string()),
+        [only] => add(counts, format!("loaded with only this rule broken: {only}")),
+        several => {
+            several.iter().for_each(|rule| add(counts, format!("loaded with several rules broken: {rule}")))
+        }
+    }
+}

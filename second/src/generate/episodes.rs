@@ -1,0 +1,419 @@
+//! Episodes: what is done to one session, from `fresh` or a `load` on.
+
+use super::commands::About;
+use super::{commands, damage, malformed, requests, scene, Generator};
+use crate::record::*;
+use crate::session::Session;
+use std::io::Write;
+
+/// The lengths of the entries that `change` makes: state, deadman, cores, areas, role, reset, user cap, clear,
+/// caps, thermal, throttles.
+const ENTRY_LENGTHS: [usize; CHANGES] = [2, 10, 5, 25, 3, 3, 3, 4, 8, 11, 164];
+const CHANGES: usize = 11;
+
+impl Generator {
+    /// Each sort of damage and of malformed line once, so that no file lacks any.
+    pub fn tour(&mut self, output: &mut impl Write) -> std::io::Result<()> {
+        for number in 0..malformed::short_count() {
+            self.emit(&malformed::short(number));
+            self.write_to(output)?;
+        }
+        for number in 0..malformed::long_count() {
+            if self.small && malformed::MORE_OF_THE_SAME.contains(&number) {
+                continue;
+            }
+            let line = malformed::long(&mut self.random, number);
+            self.emit(&line);
+            self.write_to(output)?;
+        }
+        let rounds = if self.small { 1 } else { 2 };
+        for number in 0..rounds * damage::count() {
+            self.broken_session(number % damage::count());
+            self.write_to(output)?;
+        }
+        for number in 0..damage::HARD_UNDOS {
+            self.hard_undo(number);
+            self.write_to(output)?;
+        }
+        for number in 0..2 * CHANGES {
+            self.loaded_brim(number / 2, number % 2);
+            self.write_to(output)?;
+        }
+        self.every_fault();
+        for length in [4090, 4091] {
+            self.framed(0x10, 0xEE, &vec![0xFF; length]);
+        }
+        self.long_packets(if self.small { 4 } else { 20 });
+        self.write_to(output)
+    }
+
+    /// Each sort of command with each sort of fault that any command can have.
+    fn every_fault(&mut self) {
+        self.line("fresh", &[]);
+        self.framed(0x10, 0x21, &[FORMAT_ROLE, 1]);
+        for about in commands::ALL {
+            let (kind, data) = commands::right(&mut self.random, &self.program.session, about);
+            for sender in [0x10, 0x11, 0x20] {
+                self.framed(sender, kind, &data);
+            }
+            let shorter = data.split_last().map_or(&[][..], |(_, front)| front);
+            self.framed(0x10, kind, shorter);
+            self.framed(0x10, kind, &[&data[..], &[0]].concat());
+            self.framed(0x10, kind, &[]);
+            let mut packet = crate::occ::command_packet(0xA5, kind, &data);
+            packet[4] ^= 1;
+            self.occ(0x10, &packet);
+            (0..6).for_each(|length| self.occ(0x10, &packet[..length]));
+            self.occ(0x30, &packet[..3]);
+        }
+    }
+
+    pub fn episode(&mut self) {
+        let loads = if self.small { 26 } else { 100 };
+        match self.random.below(loads) {
+            0..=9 => self.bring_up(),
+            10..=13 => self.walk_from_fresh(),
+            14..=17 => self.brim(),
+            18..=21 => self.logs_from_fresh(),
+            22 => self.long_packets(3),
+            23 => (0..10).for_each(|_| self.odd_line()),
+            24 if self.small => self.ids_near_their_end(),
+            25 if self.small => self.scene(),
+            24..=33 => self.ids_near_their_end(),
+            34..=49 => self.scene(),
+            50..=55 => {
+                let (number, short) = (self.random.below(CHANGES), self.random.below(2));
+                self.loaded_brim(number, short);
+            }
+            56..=65 => {
+                let number = self.random.below(damage::HARD_UNDOS + 6);
+                self.hard_undo(number);
+            }
+            66..=80 => {
+                let number = self.random.below(damage::count());
+                self.broken_session(number);
+            }
+            81..=94 => self.changed_bytes(),
+            95 | 96 => self.random_image(),
+            97 | 98 => self.random_journal(),
+            _ => self.bounds(),
+        }
+        if !self.small || self.random.one_in(4) {
+            self.line("image", &[]);
+        }
+    }
+
+    /// One call of any sort, with what makes changes favoured.
+    fn step(&mut self) {
+        match self.random.below(100) {
+            0..=33 => {
+                let about = self.about();
+                self.right(about);
+            }
+            34..=61 => self.nearly_right(),
+            62..=82 => self.sbe(),
+            83..=96 => self.undo(),
+            97 if self.random.one_in(4) => self.long_packet(),
+            97 => self.right(About::Poll),
+            _ => self.odd_line(),
+        }
+        if self.random.one_in(if self.small { 80 } else { 20 }) {
+            self.look();
+        }
+    }
+
+    fn steps(&mut self, least: usize, most: usize) {
+        for _ in 0..self.random.between(least, most) {
+            self.step();
+        }
+    }
+
+    fn undos(&mut self, most: usize) {
+        for _ in 0..self.random.between(1, most) {
+            self.undo();
+        }
+    }
+
+    fn walk_from_fresh(&mut self) {
+        self.line("fresh", &[]);
+        self.steps(20, 120);
+        self.undos(12);
+    }
+
+    /// Role, thresholds, caps and throttles in any order, states in between, then commands near the bounds.
+    fn bring_up(&mut self) {
+        self.line("fresh", &[]);
+        let master = u8::from(self.random.percent(70));
+        let role_first = self.random.percent(80);
+        if role_first {
+            self.framed(0x10, 0x21, &[FORMAT_ROLE, master]);
+        }
+        for number in self.random.distinct(4, 4) {
+            let about = [About::Caps, About::Thermal, About::Throttles, About::State][number];
+            self.right(about);
+            if self.random.one_in(3) {
+                self.step();
+            }
+        }
+        if !role_first {
+            self.framed(0x10, 0x21, &[FORMAT_ROLE, master]);
+        }
+        for state in [OBSERVATION, ACTIVE] {
+            self.right(About::Poll);
+            self.framed(0x10, 0x20, &[0, state, 0]);
+        }
+        self.caps_and_user_caps();
+        self.steps(5, 60);
+        if self.random.one_in(3) {
+            self.undo_to_the_start();
+        }
+    }
+
+    /// Caps move under a user cap; polls show the limit.
+    fn caps_and_user_caps(&mut self) {
+        for _ in 0..self.random.between(1, 6) {
+            match self.random.below(5) {
+                0 => self.right(About::Caps),
+                1 => self.right(About::UserCap),
+                2 => {
+                    let (kind, data) = commands::off(&mut self.random, &self.program.session, About::UserCap);
+                    let sender = commands::sender(&mut self.random, kind);
+                    self.framed(sender, kind, &data);
+                }
+                3 => self.undo(),
+                _ => self.right(About::Poll),
+            }
+        }
+        self.right(About::Poll);
+    }
+
+    fn undo_to_the_start(&mut self) {
+        while self.left > 0 && self.session().used > 0 {
+            let before = self.session().used;
+            self.undo();
+            if self.session().used == before {
+                break; // refused
+            }
+        }
+        self.undos(2);
+    }
+
+    /// The journal filled by real commands until a change just fits, or misses by one byte.
+    fn brim(&mut self) {
+        self.line("fresh", &[]);
+        self.framed(0x10, 0x21, &[FORMAT_ROLE, 1]);
+        self.framed(0x10, 0x25, &[0, 1]);
+        let number = self.random.below(CHANGES);
+        let room = ENTRY_LENGTHS[number] - self.random.below(2);
+        for _ in 0..12 {
+            if self.random.one_in(5) {
+                self.step();
+            }
+            if self.session().room() >= 166 + room {
+                self.right(About::Throttles);
+            }
+        }
+        self.fill_to(room);
+        self.change(number);
+        self.every_change();
+        self.step();
+        if self.random.one_in(2) {
+            self.undo_to_the_start();
+        } else {
+            self.undos(8);
+            self.steps(3, 10);
+        }
+    }
+
+    /// The same from a loaded session whose journal has just that room, on a master in standby with one log.
+    fn loaded_brim(&mut self, number: usize, short: usize) {
+        let room = ENTRY_LENGTHS[number] - short;
+        let session = scene::session_with_room(&mut self.random, room);
+        let mut session = Session { next_id: session.next_id.clamp(2, 255), ..session };
+        let mut logs = [Log::default(); LOG_PLACES];
+        logs[0] = Log { id: 1, reason: 1 };
+        let record = Record { state: STANDBY, role: MASTER, role_received: 1, logs, ..session.record };
+        session.set_record(record);
+        self.load_session(&session);
+        self.change(number);
+        if !self.small {
+            self.every_change();
+        }
+        self.undos(4);
+        self.change(number);
+        self.line("show", &[]);
+    }
+
+    /// Entries of 25, 5, 3 and 2 bytes until the room is that, or as near as they come.
+    fn fill_to(&mut self, room: usize) {
+        for _ in 0..80 {
+            let gap = self.session().room().saturating_sub(room);
+            match gap {
+                0 | 1 => return,
+                2 | 4 => self.framed(0x10, 0x20, &[0, 1, 0]),
+                3 | 5 | 6 => self.framed(0x10, 0x25, &[0, 0]),
+                7..=29 => self.sbe_right(1),
+                _ => self.sbe_right(2),
+            }
+        }
+    }
+
+    fn sbe_right(&mut self, which: usize) {
+        let mut request = vec![0; 32];
+        let head = [[0xD1, 1], [0xD1, 3], [0xD7, 4]][which % 3];
+        request[6..8].copy_from_slice(&head);
+        request[3] = if which == 0 { 1 + self.random.below(2) as u8 } else { 0 };
+        self.line("sbe", &[&request]);
+    }
+
+    /// One change of each kind, in any order, with a log to clear if there can be one.
+    fn every_change(&mut self) {
+        for number in self.random.distinct(CHANGES, CHANGES) {
+            self.change(number);
+            if self.random.one_in(6) {
+                self.undo();
+            }
+        }
+    }
+
+    /// A command that makes the entry whose length stands at that number of ENTRY_LENGTHS.
+    fn change(&mut self, number: usize) {
+        match number {
+            0 => self.framed(0x10, 0x20, &[0, 1, 0]),
+            1 => self.sbe_right(0),
+            2 => self.sbe_right(1),
+            3 => self.sbe_right(2),
+            4 => self.framed(0x10, 0x21, &[FORMAT_ROLE, 1]),
+            5 => self.framed(0x10, 0x25, &[0, 1]),
+            6 => self.framed(0x10, 0x22, &[0, 0]),
+            7 => self.right(About::Clear),
+            8 => self.right(About::Caps),
+            9 => self.right(About::Thermal),
+            _ => self.right(About::Throttles),
+        }
+    }
+
+    /// Resets, clears and undos until four pend and beyond.
+    fn logs_from_fresh(&mut self) {
+        self.line("fresh", &[]);
+        if self.random.one_in(2) {
+            self.framed(0x10, 0x21, &[FORMAT_ROLE, 1]);
+        }
+        self.log_steps(12, 60);
+    }
+
+    fn log_steps(&mut self, least: usize, most: usize) {
+        for _ in 0..self.random.between(least, most) {
+            match self.random.below(12) {
+                0..=3 => self.framed(0x10, 0x25, &[0, 1]),
+                4 => self.framed(0x10, 0x25, &[0, 2]),
+                5 => self.right(About::Reset),
+                6 | 7 => self.right(About::Clear),
+                8 => self.right(About::Poll),
+                9 | 10 => self.undo(),
+                _ => self.step(),
+            }
+        }
+    }
+
+    fn ids_near_their_end(&mut self) {
+        let mut session = scene::session(&mut self.random);
+        session.next_id = self.random.between(250, 256) as u16;
+        let count = self.random.below(5);
+        let mut ids = self.random.distinct(count, usize::from(session.next_id) - 1);
+        ids.sort_unstable();
+        session.record.logs = [Log::default(); LOG_PLACES];
+        for (log, id) in session.record.logs.iter_mut().zip(ids) {
+            *log = Log { id: 1 + id as u8, reason: self.random.pick(&[1, 2]) };
+        }
+        self.load_session(&session);
+        self.log_steps(6, 30);
+        self.undos(6);
+    }
+
+    /// A random well-formed session, then steps, and undos of entries that were never made.
+    fn scene(&mut self) {
+        let session = scene::session(&mut self.random);
+        self.load_session(&session);
+        if self.random.one_in(4) {
+            self.every_change();
+        }
+        self.steps(3, 25);
+        self.undos(25);
+        self.look();
+    }
+
+    fn hard_undo(&mut self, number: usize) {
+        let mut session = scene::session(&mut self.random);
+        damage::hard_undo(&mut self.random, &mut session, number);
+        self.load_session(&session);
+        self.undos(2);
+        self.right(About::Poll);
+        self.steps(0, 4);
+        self.right(About::State);
+        self.undos(4);
+    }
+
+    /// A call of each sort; enough where every answer is 1.
+    fn calls_of_each_sort(&mut self) {
+        self.right(About::Poll);
+        self.undo();
+        self.sbe();
+        if self.session().well_formed() {
+            self.steps(3, 15);
+            self.undos(6);
+        } else if self.random.one_in(2) {
+            self.steps(1, 3);
+        }
+        self.line("show", &[]);
+        self.look();
+    }
+
+    fn broken_session(&mut self, number: usize) {
+        let mut session = scene::session(&mut self.random);
+        damage::break_rule(&mut self.random, &mut session, number);
+        self.load_session(&session);
+        self.calls_of_each_sort();
+    }
+
+    /// Of a session at hand or of a random one.
+    fn changed_bytes(&mut self) {
+        let session = if self.random.one_in(3) {
+            Session::clone(self.session())
+        } else {
+            scene::session(&mut self.random)
+        };
+        let image = damage::change_bytes(&mut self.random, &session);
+        self.load(&image);
+        self.calls_of_each_sort();
+    }
+
+    fn random_image(&mut self) {
+        let image = damage::random_bytes(&mut self.random);
+        self.load(&image);
+        self.calls_of_each_sort();
+    }
+
+    fn random_journal(&mut self) {
+        let mut session = scene::session(&mut self.random);
+        damage::random_journal(&mut self.random, &mut session);
+        self.load_session(&session);
+        self.calls_of_each_sort();
+    }
+
+    fn long_packets(&mut self, count: usize) {
+        for _ in 0..count {
+            self.long_packet();
+        }
+        let mut request = requests::any(&mut self.random);
+        request.extend(self.random.bytes(40));
+        self.line("sbe", &[&request]);
+    }
+
+    fn bounds(&mut self) {
+        let number = self.random.below(malformed::long_count());
+        let line = malformed::long(&mut self.random, number);
+        self.emit(&line);
+        self.step();
+    }
+}

@@ -1,0 +1,179 @@
+//! Random well-formed sessions, also ones no fresh session leads to.
+
+use super::random::Random;
+use crate::journal::Change;
+use crate::record::*;
+use crate::session::Session;
+
+pub fn caps(random: &mut Random) -> Caps {
+    let (one, two) = (random.edge_u16(), random.edge_u16());
+    let two = if random.one_in(8) { one } else { two };
+    Caps { minimum: one.min(two), maximum: one.max(two), oversubscription: random.edge_u16() }
+}
+
+pub fn thermal(random: &mut Random) -> [u8; 9] {
+    let mut bytes = FRESH_THERMAL;
+    for fru in bytes.chunks_exact_mut(3) {
+        if random.percent(70) {
+            let (one, two) = (random.byte(), random.byte());
+            fru.copy_from_slice(&[one.min(two), one.max(two), random.byte()]);
+        }
+    }
+    bytes
+}
+
+pub fn throttles(random: &mut Random) -> Throttles {
+    let presence =
+        if random.one_in(6) { random.pick(&[0, 0xFFFF, 1, 0x8000]) } else { random.u16() & random.u16() };
+    let mut table = Throttles { presence, ..Throttles::default() };
+    for (pair, set) in table.sets.iter_mut().enumerate() {
+        if presence >> pair & 1 == 1 {
+            *set = random.array();
+        }
+    }
+    table
+}
+
+pub fn area(random: &mut Random) -> Area {
+    let size = random.pick(&[0, 128, 4096, 0xFFFF_FF80]);
+    let up_to_the_end = 0u64.wrapping_sub(u64::from(size));
+    let any = (random.u64() & !127).min(up_to_the_end);
+    match size {
+        0 => Area::default(),
+        _ => Area { address: random.pick(&[0, up_to_the_end, any, any]), size },
+    }
+}
+
+fn deadman(random: &mut Random) -> (u8, u64) {
+    let time = random.u64();
+    random.pick(&[(0, 0), (1, 0), (1, time), (1, u64::MAX)])
+}
+
+/// Rising ids below the next id, which is often near its end.
+fn logs(random: &mut Random) -> ([Log; LOG_PLACES], u16) {
+    let count = random.between(0, LOG_PLACES);
+    let next_id = match random.below(4) {
+        0 => random.between(250, 256),
+        1 => count + 1,
+        2 => random.between(count + 1, count + 6),
+        _ => random.between(count + 1, 256),
+    };
+    let mut ids = random.distinct(count, next_id - 1);
+    ids.sort_unstable();
+    let mut logs = [Log::default(); LOG_PLACES];
+    for (log, id) in logs.iter_mut().zip(ids) {
+        *log = Log { id: 1 + id as u8, reason: random.pick(&[1, 2]) };
+    }
+    (logs, next_id as u16)
+}
+
+fn record(random: &mut Random) -> Record {
+    let mut record = Record::fresh();
+    record.state = random.pick(&[STANDBY, STANDBY, OBSERVATION, ACTIVE]);
+    if random.percent(80) {
+        (record.role_received, record.role) = (1, u8::from(random.percent(65)));
+    }
+    if random.percent(60) {
+        (record.caps_received, record.caps) = (1, caps(random));
+    }
+    if random.percent(60) {
+        (record.thermal_received, record.thermal) = (1, thermal(random));
+    }
+    if random.percent(50) {
+        (record.throttles_received, record.throttles) = (1, throttles(random));
+    }
+    let (low, high) = (record.caps.minimum, record.caps.maximum);
+    let any = random.u16();
+    record.user_cap = random.pick(&[0, low, high, low.wrapping_sub(1), high.wrapping_add(1), any]);
+    record.mask = random.pick(&[0, 3, u32::from(any) << 16 | 1, u32::MAX]);
+    (record.running, record.time) = deadman(random);
+    record.ffdc = area(random);
+    record.pass = area(random);
+    record
+}
+
+/// A journal entry of the kind, with values that a well-formed record could hold.
+pub fn change(random: &mut Random, kind: u8) -> Change {
+    let received = u8::from(random.percent(60));
+    let got = received == 1;
+    match kind {
+        0x01 => {
+            let log = Log { id: 1 + random.below(255) as u8, reason: random.pick(&[1, 2]) };
+            Change::Clear { place: random.below(LOG_PLACES) as u8, log }
+        }
+        0x02 => Change::State(random.pick(&[1, 2, 3])),
+        0x03 => Change::Role { received, role: if got { random.pick(&[0, 1]) } else { 0 } },
+        0x04 => Change::Caps { received, caps: if got { caps(random) } else { Caps::default() } },
+        0x05 => Change::UserCap(random.edge_u16()),
+        0x06 => {
+            let thermal = if got { thermal(random) } else { FRESH_THERMAL };
+            Change::Thermal { received, thermal }
+        }
+        0x07 => {
+            let throttles = if got { throttles(random) } else { Throttles::default() };
+            Change::Throttles { received, throttles }
+        }
+        0x08 => Change::Reset { state: random.pick(&[1, 2, 3]), log_made: random.pick(&[0, 1]) },
+        0x09 => Change::Mask(random.u64() as u32),
+        0x0A => {
+            let (running, time) = deadman(random);
+            Change::Deadman { running, time }
+        }
+        _ => Change::Areas { ffdc: area(random), pass: area(random) },
+    }
+}
+
+/// Kinds with the length of their whole entry, longest first.
+const LENGTHS: [(u8, usize); 11] = [
+    (0x07, 164),
+    (0x0B, 25),
+    (0x06, 11),
+    (0x0A, 10),
+    (0x04, 8),
+    (0x09, 5),
+    (0x01, 4),
+    (0x08, 3),
+    (0x05, 3),
+    (0x03, 3),
+    (0x02, 2),
+];
+
+/// Adds entries until exactly `room` bytes are left, if it can be done.
+pub fn fill(random: &mut Random, session: &mut Session, room: usize) {
+    loop {
+        let gap = session.room().saturating_sub(room);
+        // A gap of 1 can't be filled, so none is left.
+        let fitting: Vec<u8> = LENGTHS
+            .iter()
+            .filter(|(_, length)| *length == gap || length + 2 <= gap)
+            .map(|(kind, _)| *kind)
+            .collect();
+        let Some(longest) = fitting.first().copied() else {
+            return;
+        };
+        let kind = if random.percent(40) { longest } else { random.pick(&fitting) };
+        let entry = change(random, kind).entry();
+        session.append(&entry);
+    }
+}
+
+/// A session whose journal is empty, short, full, or has just the room of some kind of entry.
+pub fn session(random: &mut Random) -> Session {
+    let room = match random.below(8) {
+        0 => 2048,
+        1 => random.below(4),
+        2 => random.pick(&[1, 2, 3, 4, 7, 8, 10, 11, 24, 25, 163, 164]),
+        3 => random.below(2046),
+        _ => 2048 - random.between(2, 60),
+    };
+    session_with_room(random, room)
+}
+
+pub fn session_with_room(random: &mut Random, room: usize) -> Session {
+    let mut session = Session::fresh();
+    let (logs, next_id) = logs(random);
+    session.set_record(Record { logs, ..record(random) });
+    session.next_id = next_id;
+    fill(random, &mut session, room);
+    session
+}

@@ -1,0 +1,14 @@
+//! An independent second implementation of the bench stand-in, written from 01-scope.md and READING.md.
+#![forbid(unsafe_code)]
+
+pub mod bytes;
+pub mod coverage;
+pub mod generate;
+pub mod image;
+pub mod journal;
+pub mod occ;
+pub mod protocol;
+pub mod record;
+pub mod sbe;
+pub mod session;
+pub mod show;

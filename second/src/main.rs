@@ -1,0 +1,57 @@
+//! `second`: the line protocol on standard input and output; or the generator; or the coverage count.
+#![forbid(unsafe_code)]
+
+use std::io::{stdin, stdout, BufReader, BufWriter, Write};
+use std::process::ExitCode;
+
+const USAGE: &str = "usage: second
+       second generate COUNT SEED [--small]
+       second coverage < LINES
+       second answered N < LINES";
+
+fn generate(count: &str, seed: &str, small: bool) -> std::io::Result<()> {
+    let (Ok(count), Ok(seed)) = (count.parse(), seed.parse()) else {
+        return Err(std::io::Error::other(USAGE));
+    };
+    let mut output = BufWriter::new(stdout().lock());
+    second::generate::generate(count, seed, small, &mut output)?;
+    output.flush()
+}
+
+/// The line that the N-th line of output answers, by its number.
+fn answered(number: &str) -> std::io::Result<()> {
+    let Ok(number) = number.parse() else {
+        return Err(std::io::Error::other(USAGE));
+    };
+    let text = second::coverage::answered(&mut BufReader::new(stdin().lock()), number)?;
+    stdout().lock().write_all(text.as_bytes())
+}
+
+fn run(arguments: &[&str]) -> std::io::Result<()> {
+    match arguments {
+        [] => second::protocol::serve(stdin().lock(), BufWriter::new(stdout().lock())),
+        ["generate", count, seed] => generate(count, seed, false),
+        ["generate", count, seed, "--small"] => generate(count, seed, true),
+        ["coverage"] => {
+            let text = second::coverage::count(&mut BufReader::new(stdin().lock()))?;
+            stdout().lock().write_all(text.as_bytes())
+        }
+        ["answered", number] => answered(number),
+        _ => Err(std::io::Error::other(USAGE)),
+    }
+}
+
+fn main() -> ExitCode {
+    let arguments: Vec<String> =
+        std::env::args_os().skip(1).map(|argument| argument.to_string_lossy().into_owned()).collect();
+    let arguments: Vec<&str> = arguments.iter().map(String::as_str).collect();
+    match run(&arguments) {
+        Ok(()) => ExitCode::SUCCESS,
+        // A reader that went away isn't a fault of ours.
+        Err(error) if error.kind() == std::io::ErrorKind::BrokenPipe => ExitCode::SUCCESS,
+        Err(error) => {
+            eprintln!("{error}");
+            ExitCode::from(2)
+        }
+    }
+}

@@ -1,0 +1,265 @@
+//! OCC packets: what each command needs, and the reply.
+
+use crate::bytes::Reader;
+use crate::journal::{read_caps, Change};
+use crate::record::*;
+use crate::session::{Accepted, Session};
+
+pub const HTMGT: u8 = 0x10;
+pub const BMC: u8 = 0x20;
+pub const LONGEST_DATA: usize = 4090;
+
+pub const SUCCESS: u8 = 0x00;
+pub const INVALID_COMMAND: u8 = 0x11;
+pub const INVALID_LENGTH: u8 = 0x12;
+pub const INVALID_DATA: u8 = 0x13;
+pub const CHECKSUM_FAILURE: u8 = 0x14;
+pub const INTERNAL_ERROR: u8 = 0x15;
+pub const STATE_PROHIBITS: u8 = 0x16;
+
+pub const POLL: u8 = 0x00;
+pub const CLEAR_LOG: u8 = 0x12;
+pub const SET_STATE: u8 = 0x20;
+pub const CONFIGURATION: u8 = 0x21;
+pub const USER_CAP: u8 = 0x22;
+pub const RESET_PREP: u8 = 0x25;
+pub const VERSION: u8 = 0x10;
+
+/// What a good command does.
+pub enum Effect {
+    Poll,
+    Change(Box<Accepted>),
+}
+
+type Judged = Result<Effect, u8>;
+
+/// The two-byte sum, ignoring overflow.
+pub fn checksum(bytes: &[u8]) -> u16 {
+    bytes.iter().fold(0u16, |sum, byte| sum.wrapping_add(u16::from(*byte)))
+}
+
+/// Type and data of the packet at the front of the command.
+fn read_packet(command: &[u8]) -> Result<(u8, &[u8]), u8> {
+    let [_, command_type, high, low, rest @ ..] = command else {
+        return Err(INVALID_LENGTH);
+    };
+    let length = usize::from(u16::from_be_bytes([*high, *low]));
+    if length > LONGEST_DATA || length + 6 > command.len() {
+        return Err(INVALID_LENGTH);
+    }
+    let (data, after) = rest.split_at_checked(length).ok_or(INVALID_LENGTH)?;
+    let sent = Reader::new(after).u16().ok_or(INVALID_LENGTH)?;
+    let summed = command.get(..length + 4).map(checksum);
+    if summed != Some(sent) {
+        return Err(CHECKSUM_FAILURE);
+    }
+    Ok((*command_type, data))
+}
+
+/// Every status of the table, in its order.
+pub fn judge(session: &Session, sender: u8, command: &[u8]) -> Judged {
+    let (command_type, data) = read_packet(command)?;
+    if sender == BMC && command_type != POLL && command_type != USER_CAP {
+        return Err(INVALID_COMMAND);
+    }
+    match command_type {
+        POLL => poll(data),
+        CLEAR_LOG => clear_log(session, data),
+        SET_STATE => set_state(session, data),
+        CONFIGURATION => configuration(session, data),
+        USER_CAP => user_cap(session, data),
+        RESET_PREP => reset_prep(session, data),
+        _ => Err(INVALID_COMMAND),
+    }
+}
+
+fn change(session: &Session, before: Change, record: Record) -> Judged {
+    Ok(Effect::Change(Box::new(Accepted { before, record, next_id: session.next_id })))
+}
+
+fn need(held: bool, status: u8) -> Result<(), u8> {
+    if held {
+        Ok(())
+    } else {
+        Err(status)
+    }
+}
+
+/// The data if it has exactly the length the type fixes.
+fn exactly<const N: usize>(data: &[u8]) -> Result<[u8; N], u8> {
+    data.try_into().map_err(|_| INVALID_LENGTH)
+}
+
+fn poll(data: &[u8]) -> Judged {
+    let [version] = exactly(data)?;
+    need(version == VERSION, INVALID_DATA)?;
+    Ok(Effect::Poll)
+}
+
+fn clear_log(session: &Session, data: &[u8]) -> Judged {
+    let [id] = exactly(data)?;
+    let mut record = session.record;
+    let place = record.place_of(id).ok_or(INVALID_DATA)?;
+    let log = record.logs[place];
+    record.remove_log(place);
+    change(session, Change::Clear { place: place as u8, log }, record)
+}
+
+fn set_state(session: &Session, data: &[u8]) -> Judged {
+    let [version, state, reserved] = exactly(data)?;
+    need(version == 0 && state_fits(state) && reserved == 0, INVALID_DATA)?;
+    let ready = match state {
+        OBSERVATION => session.worked_out.observation == 1,
+        ACTIVE => session.worked_out.active == 1,
+        _ => true,
+    };
+    need(ready, STATE_PROHIBITS)?;
+    let before = Change::State(session.record.state);
+    change(session, before, Record { state, ..session.record })
+}
+
+fn configuration(session: &Session, data: &[u8]) -> Judged {
+    match *data.first().ok_or(INVALID_LENGTH)? {
+        FORMAT_ROLE => role(session, data),
+        FORMAT_CAPS => caps(session, data),
+        FORMAT_THROTTLES => throttles(session, data),
+        FORMAT_THERMAL => thermal(session, data),
+        _ => Err(INVALID_DATA),
+    }
+}
+
+fn role(session: &Session, data: &[u8]) -> Judged {
+    let [_, role] = exactly(data)?;
+    let now = &session.record;
+    need(role <= MASTER, INVALID_DATA)?;
+    need(now.state == STANDBY, STATE_PROHIBITS)?;
+    let before = Change::Role { received: now.role_received, role: now.role };
+    change(session, before, Record { role, role_received: 1, ..*now })
+}
+
+fn caps(session: &Session, data: &[u8]) -> Judged {
+    let [_, version, values @ ..] = exactly::<8>(data)?;
+    let now = &session.record;
+    let caps = read_caps(&mut Reader::new(&values)).ok_or(INVALID_LENGTH)?;
+    need(version == VERSION && caps.minimum <= caps.maximum, INVALID_DATA)?;
+    need(now.is_master(), STATE_PROHIBITS)?;
+    let before = Change::Caps { received: now.caps_received, caps: now.caps };
+    change(session, before, Record { caps, caps_received: 1, ..*now })
+}
+
+/// The sets of a packet whose third byte is their count: the length first, then version and count.
+fn counted_sets(data: &[u8], set_length: usize) -> Result<&[u8], u8> {
+    let [_, version, count, sets @ ..] = data else {
+        return Err(INVALID_LENGTH);
+    };
+    need(sets.len() == set_length * usize::from(*count), INVALID_LENGTH)?;
+    need(*version == VERSION && *count >= 1, INVALID_DATA)?;
+    Ok(sets)
+}
+
+fn throttles(session: &Session, data: &[u8]) -> Judged {
+    let mut table = Throttles::default();
+    for sent in counted_sets(data, 12)?.chunks_exact(12) {
+        let mut set = Reader::new(sent);
+        let (hub, mba) = set.u8().zip(set.u8()).ok_or(INVALID_LENGTH)?;
+        let values = set.array().ok_or(INVALID_LENGTH)?;
+        need(hub <= 7 && mba <= 1, INVALID_DATA)?;
+        let pair = 2 * hub + mba;
+        need(table.presence >> pair & 1 == 0, INVALID_DATA)?;
+        table.presence |= 1 << pair;
+        table.sets[usize::from(pair)] = values;
+    }
+    let now = &session.record;
+    let before = Change::Throttles { received: now.throttles_received, throttles: now.throttles };
+    change(session, before, Record { throttles: table, throttles_received: 1, ..*now })
+}
+
+fn thermal(session: &Session, data: &[u8]) -> Judged {
+    let mut table = FRESH_THERMAL;
+    let mut seen = [false; 3];
+    for set in counted_sets(data, 4)?.chunks_exact(4) {
+        let fru = usize::from(set[0]);
+        need(seen.get(fru) == Some(&false), INVALID_DATA)?;
+        need(set[1] <= set[2], INVALID_DATA)?;
+        seen[fru] = true;
+        table[3 * fru..3 * fru + 3].copy_from_slice(&set[1..]);
+    }
+    let now = &session.record;
+    let before = Change::Thermal { received: now.thermal_received, thermal: now.thermal };
+    change(session, before, Record { thermal: table, thermal_received: 1, ..*now })
+}
+
+fn user_cap(session: &Session, data: &[u8]) -> Judged {
+    let user_cap = u16::from_be_bytes(exactly(data)?);
+    let now = &session.record;
+    let within = (now.caps.minimum..=now.caps.maximum).contains(&user_cap);
+    need(user_cap == 0 || (now.has_caps() && within), INVALID_DATA)?;
+    need(now.is_master(), STATE_PROHIBITS)?;
+    change(session, Change::UserCap(now.user_cap), Record { user_cap, ..*now })
+}
+
+fn reset_prep(session: &Session, data: &[u8]) -> Judged {
+    let [version, reason] = exactly(data)?;
+    need(version == 0 && reason <= 2, INVALID_DATA)?;
+    let now = &session.record;
+    let mut record = Record { state: STANDBY, ..*now };
+    let mut next_id = session.next_id;
+    let due = reason == 1 || (reason == 2 && now.is_master());
+    if due {
+        let id = u8::try_from(next_id).map_err(|_| INTERNAL_ERROR)?;
+        need(record.insert_log(now.pending(), Log { id, reason }), INTERNAL_ERROR)?;
+        next_id += 1;
+    }
+    let before = Change::Reset { state: now.state, log_made: u8::from(due) };
+    Ok(Effect::Change(Box::new(Accepted { before, record, next_id })))
+}
+
+/// Poll data: 40 bytes, and the CAPS block for a master with caps received.
+pub fn poll_data(session: &Session) -> Vec<u8> {
+    let (record, worked) = (&session.record, &session.worked_out);
+    let master = u8::from(record.is_master());
+    let status = master << 7 | worked.observation << 1 | worked.active;
+    let oldest = record.logs[0].id;
+    let log_length: u16 = if oldest == 0 { 0 } else { 0x0010 };
+    let blocks = u8::from(record.is_master() && record.has_caps());
+
+    let mut data = vec![status, 0, 0x01, worked.wanted, record.state, 0, 0, oldest];
+    data.extend((u32::from(oldest) * 256).to_be_bytes());
+    data.extend(log_length.to_be_bytes());
+    data.extend([0, 0]);
+    data.extend(b"bench\0\0\0\0\0\0\0\0\0\0\0");
+    data.extend(b"SENSOR");
+    data.extend([blocks, 0x01]);
+    if blocks == 1 {
+        data.extend(caps_block(session));
+    }
+    data
+}
+
+/// Header of section 2.1, body of section 7.4.
+fn caps_block(session: &Session) -> Vec<u8> {
+    let caps = &session.record.caps;
+    let mut block = b"CAPS".to_vec();
+    block.extend([0x00, 0x01, 0x0C, 0x01]);
+    let body =
+        [session.worked_out.limit, 0, caps.maximum, caps.maximum, caps.minimum, session.record.user_cap];
+    block.extend(body.iter().flat_map(|value| value.to_be_bytes()));
+    block
+}
+
+pub fn reply_packet(sequence: u8, command_type: u8, status: u8, data: &[u8]) -> Vec<u8> {
+    let mut packet = vec![sequence, command_type, status];
+    packet.extend((data.len() as u16).to_be_bytes());
+    packet.extend(data);
+    packet.extend(checksum(&packet).to_be_bytes());
+    packet
+}
+
+/// A command packet with its length and checksum; the data is at most 65,535 bytes.
+pub fn command_packet(sequence: u8, command_type: u8, data: &[u8]) -> Vec<u8> {
+    let mut packet = vec![sequence, command_type];
+    packet.extend((data.len() as u16).to_be_bytes());
+    packet.extend(data);
+    packet.extend(checksum(&packet).to_be_bytes());
+    packet
+}

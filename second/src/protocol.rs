@@ -1,0 +1,318 @@
+//! The line protocol: lines in, lines out.
+
+use crate::bytes::{hex, hex_spaced};
+use crate::image::{self, IMAGE_LENGTH};
+use crate::occ::command_packet;
+use crate::session::{Session, DONE, OCC_REPLY_LENGTH, SBE_REPLY_LENGTH};
+use crate::show::{journal_listing, show};
+use std::io::{BufRead, BufReader, Read, Write};
+
+pub const LONGEST_LINE: usize = 32768;
+pub const LONGEST_COMMAND: usize = 8192;
+/// A packet adds six bytes to the data.
+pub const LONGEST_SENT: usize = LONGEST_COMMAND - 6;
+
+const HELP: &str = "\
+occ SS BYTES      an OCC command from sender SS (10 HTMGT, 20 BMC)
+sbe BYTES         an SBE mailbox request of 32 bytes
+undo              take the newest change back
+fresh             begin again with a fresh session
+image             the session as 2287 bytes
+load BYTES        go on with the session of such an image
+send SS TT DATA   as occ: a packet of type TT, framed for you
+show              the session for a person
+journal           the journal's entries
+help              these words
+.
+";
+
+/// A line that was understood.
+#[derive(Debug, PartialEq, Eq)]
+pub enum Order {
+    Occ { sender: u8, command: Vec<u8> },
+    Sbe(Vec<u8>),
+    Undo,
+    Fresh,
+    Image,
+    Load(Vec<u8>),
+    Send { sender: u8, command_type: u8, data: Vec<u8> },
+    Show,
+    Journal,
+    Help,
+}
+
+pub type Complaint = String;
+
+fn is_blank(byte: u8) -> bool {
+    byte == b' ' || byte == b'\t'
+}
+
+fn digit(byte: u8) -> Option<u8> {
+    char::from(byte).to_digit(16).map(|value| value as u8)
+}
+
+/// Reads a line from left to right.
+struct Scanner<'a> {
+    line: &'a [u8],
+    at: usize,
+}
+
+impl Scanner<'_> {
+    fn peek(&self) -> Option<u8> {
+        self.line.get(self.at).copied()
+    }
+
+    fn column(&self) -> usize {
+        self.at + 1
+    }
+
+    fn skip_blanks(&mut self) {
+        while self.peek().is_some_and(is_blank) {
+            self.at += 1;
+        }
+    }
+
+    /// All bytes up to the next blank or the line's end.
+    fn word(&mut self) -> &[u8] {
+        let start = self.at;
+        while self.peek().is_some_and(|byte| !is_blank(byte)) {
+            self.at += 1;
+        }
+        self.line.get(start..self.at).unwrap_or(&[])
+    }
+
+    fn digit(&mut self) -> Result<u8, Complaint> {
+        let value = self.peek().and_then(digit);
+        let value = value.ok_or_else(|| format!("? hex digit expected at column {}", self.column()))?;
+        self.at += 1;
+        Ok(value)
+    }
+
+    /// Blanks may stand before a byte, not inside it.
+    fn byte(&mut self) -> Result<u8, Complaint> {
+        self.skip_blanks();
+        Ok(self.digit()? << 4 | self.digit()?)
+    }
+
+    /// All bytes to the line's end; `over` words the complaint about one past the most.
+    fn bytes(&mut self, most: usize, over: fn(usize) -> Complaint) -> Result<Vec<u8>, Complaint> {
+        let mut bytes = Vec::new();
+        loop {
+            self.skip_blanks();
+            if self.peek().is_none() {
+                return Ok(bytes);
+            }
+            if bytes.len() == most {
+                return Err(over(self.column()));
+            }
+            bytes.push(self.byte()?);
+        }
+    }
+
+    fn nothing_more(&mut self, order: Order) -> Result<Order, Complaint> {
+        self.skip_blanks();
+        match self.peek() {
+            None => Ok(order),
+            Some(_) => Err(format!("? nothing more expected at column {}", self.column())),
+        }
+    }
+}
+
+fn command_over(column: usize) -> Complaint {
+    format!("? command over 8192 bytes at column {column}")
+}
+
+fn wrong_image(_column: usize) -> Complaint {
+    "? image must be 2287 bytes".to_string()
+}
+
+/// `None` for a line that is skipped. The line comes without its end.
+pub fn parse(line: &[u8]) -> Option<Result<Order, Complaint>> {
+    if line.len() > LONGEST_LINE {
+        return Some(Err("? line over 32768 bytes at column 32769".to_string()));
+    }
+    let mut scanner = Scanner { line, at: 0 };
+    scanner.skip_blanks();
+    match scanner.peek() {
+        None | Some(b'#') => None,
+        Some(_) => Some(parse_words(&mut scanner)),
+    }
+}
+
+fn parse_words(rest: &mut Scanner) -> Result<Order, Complaint> {
+    let column = rest.column();
+    match rest.word() {
+        b"occ" => {
+            Ok(Order::Occ { sender: rest.byte()?, command: rest.bytes(LONGEST_COMMAND, command_over)? })
+        }
+        b"sbe" => Ok(Order::Sbe(rest.bytes(LONGEST_COMMAND, command_over)?)),
+        b"send" => Ok(Order::Send {
+            sender: rest.byte()?,
+            command_type: rest.byte()?,
+            data: rest.bytes(LONGEST_SENT, command_over)?,
+        }),
+        b"load" => parse_image(rest),
+        b"undo" => rest.nothing_more(Order::Undo),
+        b"fresh" => rest.nothing_more(Order::Fresh),
+        b"image" => rest.nothing_more(Order::Image),
+        b"show" => rest.nothing_more(Order::Show),
+        b"journal" => rest.nothing_more(Order::Journal),
+        b"help" => rest.nothing_more(Order::Help),
+        _ => Err(format!("? unknown word at column {column}")),
+    }
+}
+
+fn parse_image(rest: &mut Scanner) -> Result<Order, Complaint> {
+    let bytes = rest.bytes(IMAGE_LENGTH, wrong_image)?;
+    if bytes.len() == IMAGE_LENGTH {
+        Ok(Order::Load(bytes))
+    } else {
+        Err(wrong_image(rest.column()))
+    }
+}
+
+/// The session and the sequence number of the last `send`.
+pub struct Program {
+    pub session: Session,
+    sequence: u8,
+}
+
+impl Default for Program {
+    fn default() -> Self {
+        Program { session: Session::fresh(), sequence: 0 }
+    }
+}
+
+impl Program {
+    /// What is written for a line, empty for one that is skipped.
+    pub fn answer(&mut self, line: &[u8]) -> String {
+        match parse(line) {
+            None => String::new(),
+            Some(Err(complaint)) => complaint + "\n",
+            Some(Ok(order)) => self.obey(order),
+        }
+    }
+
+    pub fn obey(&mut self, order: Order) -> String {
+        match order {
+            Order::Occ { sender, command } => self.occ(sender, &command),
+            Order::Sbe(request) => self.sbe(&request),
+            Order::Send { sender, command_type, data } => {
+                self.sequence = self.sequence.wrapping_add(1);
+                self.occ(sender, &command_packet(self.sequence, command_type, &data))
+            }
+            Order::Undo => match self.session.undo() {
+                (DONE, kind) => format!("{DONE} {kind:02X}\n"),
+                (answer, _) => format!("{answer}\n"),
+            },
+            Order::Fresh => self.go_on_with(Some(Session::fresh())),
+            Order::Load(bytes) => self.go_on_with(image::read(&bytes)),
+            Order::Image => format!("image {}\n", hex(&image::write(&self.session))),
+            Order::Show => show(&self.session),
+            Order::Journal => journal_listing(&self.session) + ".\n",
+            Order::Help => HELP.to_string(),
+        }
+    }
+
+    fn go_on_with(&mut self, session: Option<Session>) -> String {
+        match session {
+            Some(session) => {
+                self.session = session;
+                "ok\n".to_string()
+            }
+            None => wrong_image(0) + "\n",
+        }
+    }
+
+    fn occ(&mut self, sender: u8, command: &[u8]) -> String {
+        let mut reply = [0; OCC_REPLY_LENGTH];
+        let (answer, length) = self.session.occ(sender, command, &mut reply);
+        match reply.get(..length) {
+            Some(written) if answer == DONE => format!("{answer} {}\n", hex_spaced(written)),
+            _ => format!("{answer}\n"),
+        }
+    }
+
+    fn sbe(&mut self, request: &[u8]) -> String {
+        let mut response = [0; SBE_REPLY_LENGTH];
+        match self.session.sbe(request, &mut response) {
+            (DONE, bell) => format!("{DONE} {} bell {bell:04X}\n", hex_spaced(&response)),
+            (answer, _) => format!("{answer}\n"),
+        }
+    }
+}
+
+/// Takes bytes and hands out lines; of a line that is too long it keeps just enough to tell.
+#[derive(Default)]
+pub struct Lines {
+    kept: Vec<u8>,
+    ended_in_return: bool,
+    length: usize,
+}
+
+impl Lines {
+    /// Adds a part of a line, its line feed not included.
+    fn add(&mut self, part: &[u8]) {
+        let space = (LONGEST_LINE + 1).saturating_sub(self.kept.len());
+        self.kept.extend(part.iter().take(space));
+        self.length += part.len();
+        if let Some(last) = part.last() {
+            self.ended_in_return = *last == b'\r';
+        }
+    }
+
+    /// The line without its end, and ready for the next. One return belongs to the line's end.
+    fn take(&mut self) -> Vec<u8> {
+        let length = self.length - usize::from(self.ended_in_return);
+        let mut line = std::mem::take(&mut self.kept);
+        line.truncate(length);
+        *self = Lines::default();
+        line
+    }
+
+    fn is_empty(&self) -> bool {
+        self.length == 0
+    }
+}
+
+/// Answers every line; writes out what is answered before it waits for more input.
+pub fn serve(input: impl Read, mut output: impl Write) -> std::io::Result<()> {
+    let mut input = BufReader::with_capacity(1 << 16, input);
+    let mut program = Program::default();
+    for_each_line(&mut input, |line, more_waits| {
+        output.write_all(program.answer(line).as_bytes())?;
+        if more_waits {
+            Ok(())
+        } else {
+            output.flush()
+        }
+    })
+}
+
+/// Calls with each line and whether more input is already at hand.
+pub fn for_each_line(
+    input: &mut BufReader<impl Read>,
+    mut each: impl FnMut(&[u8], bool) -> std::io::Result<()>,
+) -> std::io::Result<()> {
+    let mut lines = Lines::default();
+    loop {
+        let held = input.fill_buf()?;
+        if held.is_empty() {
+            break;
+        }
+        let feed = held.iter().position(|byte| *byte == b'\n');
+        lines.add(&held[..feed.unwrap_or(held.len())]);
+        let taken = feed.map_or(held.len(), |at| at + 1);
+        input.consume(taken);
+        if feed.is_some() {
+            // A part of a line at hand may be followed by a wait, so only a whole one counts.
+            let more_waits = input.buffer().contains(&b'\n');
+            each(&lines.take(), more_waits)?;
+        }
+    }
+    if lines.is_empty() {
+        Ok(())
+    } else {
+        each(&lines.take(), false)
+    }
+}

@@ -1,0 +1,138 @@
+-- An image written row after row, from a place on. Assumes nothing.
+use Prim.Native.Nat.{ℕ, _+_, _≤_}
+use mathlib.Core.Path.{_≡_, refl, sym, ap, ap₂, _∙_}
+use mathlib.Core.List.{List, [], _∷_, _++_, append-assoc, append-nil}
+use native.Mathlib.Nat.{add-assoc, zero-add}
+use native.Mathlib.Omega.{arith}
+use lib.Dec.{lit<}
+use lib.ListN.{length, take, drop, length-append, drop-of-length-le}
+use lib.Seq.{drop-drop}
+use Rattle.wire.specs.Wire.{sumOf, toBE, pasted}
+use Rattle.wire.specs.Laws.{take-pasted, drop-pasted}
+use Rattle.record.specs.declared.Caps.{Caps}
+use Rattle.record.specs.declared.Areas.{Areas}
+use Rattle.record.specs.declared.Deadman.{Deadman}
+use Rattle.record.specs.declared.Record.{Record}
+use Rattle.record.specs.declared.Throttles.{Throttles}
+use Rattle.record.specs.declared.Worked.{Worked}
+use Rattle.image.specs.Rows.{joined, widthsOf, length-joined, joined-append}
+use Rattle.image.specs.Laws.{recordWidths, widths-record}
+use Rattle.image.specs.Image.{byte, headRows, throttlesRows, thermalRows, logsRows, mailboxRows, workedRows, recordRows, sessionRows, imageOf}
+
+-- bytes written after those that were written from a place on
+paste-on : (at : ℕ) (xs bs d : List ℕ) → at + length xs ≤ length d → pasted (at + length xs) bs (pasted at xs d) ≡ pasted at (xs ++ bs) d
+unfolding pasted
+paste-on at xs bs d h =
+    ap₂ (λ (a b : List ℕ). a ++ (bs ++ b)) (take-pasted at xs d h) back
+    ∙ append-assoc (take at d) xs (bs ++ drop (at + length (xs ++ bs)) d)
+    ∙ ap (λ (l : List ℕ). take at d ++ l) (sym (append-assoc xs bs (drop (at + length (xs ++ bs)) d)))
+  where
+    back : drop (at + length xs + length bs) (pasted at xs d) ≡ drop (at + length (xs ++ bs)) d
+    back =
+        sym (drop-drop (length bs) (at + length xs) (pasted at xs d))
+        ∙ ap (drop (length bs)) (drop-pasted at xs d h)
+        ∙ drop-drop (length bs) (at + length xs) d
+        ∙ ap (λ (n : ℕ). drop n d) (add-assoc at (length xs) (length bs) ∙ ap (λ (n : ℕ). at + n) (sym (length-append xs bs)))
+
+-- where rows of these widths end
+from-front : (rs : List (List ℕ)) (ws : List ℕ) → widthsOf rs ≡ ws → 0 + length (joined rs) ≡ sumOf ws
+from-front rs ws e = zero-add (length (joined rs)) ∙ length-joined rs ∙ ap sumOf e
+
+pub length-record : (r : Record) → length (r .throttles .sets) ≡ 160 → length (r .thermal) ≡ 9 → length (joined (recordRows r)) ≡ 230
+unfolding sumOf recordWidths
+length-record r sets thermal = length-joined (recordRows r) ∙ ap sumOf (widths-record r sets thermal)
+
+pub length-session : (r : Record) (k : Worked) (next used : ℕ) (j : List ℕ) → length (joined (recordRows r)) ≡ 230 → length j ≡ 2048
+    → length (imageOf (record { held = r; worked = k; next = next; used = used; journal = j })) ≡ 2287
+unfolding sumOf widthsOf imageOf sessionRows workedRows toBE
+length-session r k next used j h e =
+    let rest = workedRows k next used ++ (j ∷ []) in
+    let m = length-joined rest ∙ ap sumOf (λ i. 2 ∷ 1 ∷ 1 ∷ 1 ∷ 2 ∷ 2 ∷ e i ∷ []) in
+    ap length (joined-append (recordRows r) rest) ∙ length-append (joined (recordRows r)) (joined rest) ∙ ap₂ (λ (a b : ℕ). a + b) h m
+
+-- a buffer that is filled by what is written
+pub filled : (n : ℕ) (bs d x : List ℕ) → length bs ≡ n → x ≡ pasted 0 bs d → length d ≡ n → x ≡ bs
+unfolding pasted
+filled n bs d x h p e =
+    let z : drop (0 + length bs) d ≡ [] = drop-of-length-le d {i = 0 + length bs} (omega arith) in
+    p ∙ rw (z, append-nil)
+
+module _ (d : List ℕ) (long : 2287 ≤ length d) where
+  -- rows written after rows: x holds the ones from `at` on, y the others from `m` on too
+  rows-next : (at m : ℕ) (rs ss : List (List ℕ)) (x y : List ℕ) → m ≤ 2287 → at + length (joined rs) ≡ m → x ≡ pasted at (joined rs) d → y ≡ pasted m (joined ss) x
+      → y ≡ pasted at (joined (rs ++ ss)) d
+  rows-next at m rs ss x y h e p q =
+      q ∙ ap₂ (λ (n : ℕ) (l : List ℕ). pasted n (joined ss) l) (sym e) p
+      ∙ paste-on at (joined rs) (joined ss) d (omega arith)
+      ∙ ap (λ (l : List ℕ). pasted at l d) (sym (joined-append rs ss))
+
+  row-next : (at m : ℕ) (rs : List (List ℕ)) (r x y : List ℕ) → m ≤ 2287 → at + length (joined rs) ≡ m → x ≡ pasted at (joined rs) d → y ≡ pasted m r x
+      → y ≡ pasted at (joined (rs ++ (r ∷ []))) d
+  unfolding joined
+  row-next at m rs r x y h e p q = rows-next at m rs (r ∷ []) x y h e p (q ∙ ap (λ (l : List ℕ). pasted m l x) (sym (append-nil r)))
+
+  pub head-put : (state role : ℕ) (caps : Caps) (w x y z : List ℕ) → w ≡ pasted 0 (state ∷ role ∷ []) d → x ≡ pasted 2 (toBE 2 (caps .min)) w
+      → y ≡ pasted 4 (toBE 2 (caps .max)) x → z ≡ pasted 6 (toBE 2 (caps .over)) y → z ≡ pasted 0 (joined (headRows state role caps)) d
+  unfolding joined headRows toBE
+  head-put state role caps w x y z p q r s =
+      let two = row-next 0 2 (byte state ∷ byte role ∷ []) (toBE 2 (caps .min)) w x (lit< tt) refl p q in
+      let three = row-next 0 4 (byte state ∷ byte role ∷ toBE 2 (caps .min) ∷ []) (toBE 2 (caps .max)) x y (lit< tt) refl two r in
+      row-next 0 6 (byte state ∷ byte role ∷ toBE 2 (caps .min) ∷ toBE 2 (caps .max) ∷ []) (toBE 2 (caps .over)) y z (lit< tt) refl three s
+
+  pub throttles-put : (t : Throttles) (x y : List ℕ) → x ≡ pasted 8 (toBE 2 (t .present)) d → y ≡ pasted 10 (t .sets) x → y ≡ pasted 8 (joined (throttlesRows t)) d
+  unfolding joined throttlesRows toBE
+  throttles-put t x y p q = row-next 8 10 (toBE 2 (t .present) ∷ []) (t .sets) x y (lit< tt) refl p q
+
+  pub thermal-put : (user : ℕ) (thermal x y : List ℕ) → x ≡ pasted 170 (toBE 2 user) d → y ≡ pasted 172 thermal x → y ≡ pasted 170 (joined (thermalRows user thermal)) d
+  unfolding joined thermalRows toBE
+  thermal-put user thermal x y p q = row-next 170 172 (toBE 2 user ∷ []) thermal x y (lit< tt) refl p q
+
+  pub mailbox-put : (mask : ℕ) (k : Deadman) (a : Areas) (t u v w x y z : List ℕ) → t ≡ pasted 193 (toBE 4 mask) d → u ≡ pasted 197 (byte (k .running)) t
+      → v ≡ pasted 198 (toBE 8 (k .time)) u → w ≡ pasted 206 (toBE 8 (a .ffdc .address)) v → x ≡ pasted 214 (toBE 4 (a .ffdc .size)) w
+      → y ≡ pasted 218 (toBE 8 (a .pass .address)) x → z ≡ pasted 226 (toBE 4 (a .pass .size)) y → z ≡ pasted 193 (joined (mailboxRows mask k a)) d
+  unfolding joined mailboxRows toBE
+  mailbox-put mask k a t u v w x y z e f g h i j l =
+      let b = toBE 4 mask ∷ [] in
+      let two = row-next 193 197 b (byte (k .running)) t u (lit< tt) refl e f in
+      let three = row-next 193 198 (b ++ (byte (k .running) ∷ [])) (toBE 8 (k .time)) u v (lit< tt) refl two g in
+      let c = b ++ (byte (k .running) ∷ toBE 8 (k .time) ∷ []) in
+      let four = row-next 193 206 c (toBE 8 (a .ffdc .address)) v w (lit< tt) refl three h in
+      let five = row-next 193 214 (c ++ (toBE 8 (a .ffdc .address) ∷ [])) (toBE 4 (a .ffdc .size)) w x (lit< tt) refl four i in
+      let n = c ++ (toBE 8 (a .ffdc .address) ∷ toBE 4 (a .ffdc .size) ∷ []) in
+      let six = row-next 193 218 n (toBE 8 (a .pass .address)) x y (lit< tt) refl five j in
+      row-next 193 226 (n ++ (toBE 8 (a .pass .address) ∷ [])) (toBE 4 (a .pass .size)) y z (lit< tt) refl six l
+
+  pub worked-put : (k : Worked) (next used : ℕ) (w x y z : List ℕ) → w ≡ pasted 230 (toBE 2 (k .limit)) d
+      → x ≡ pasted 232 (k .observation ∷ k .active ∷ k .wanted ∷ []) w → y ≡ pasted 235 (toBE 2 next) x → z ≡ pasted 237 (toBE 2 used) y
+      → z ≡ pasted 230 (joined (workedRows k next used)) d
+  unfolding joined workedRows toBE
+  worked-put k next used w x y z p q r s =
+      let marks = byte (k .observation) ∷ byte (k .active) ∷ byte (k .wanted) ∷ [] in
+      let two = rows-next 230 232 (toBE 2 (k .limit) ∷ []) marks w x (lit< tt) refl p q in
+      let three = row-next 230 235 (toBE 2 (k .limit) ∷ marks) (toBE 2 next) x y (lit< tt) refl two r in
+      row-next 230 237 (toBE 2 (k .limit) ∷ (marks ++ (toBE 2 next ∷ []))) (toBE 2 used) y z (lit< tt) refl three s
+
+  pub record-put : (r : Record) → length (r .throttles .sets) ≡ 160 → length (r .thermal) ≡ 9 → (v w x y z : List ℕ) → v ≡ pasted 0 (joined (headRows (r .state) (r .role) (r .caps))) d → w ≡ pasted 8 (joined (throttlesRows (r .throttles))) v
+      → x ≡ pasted 170 (joined (thermalRows (r .user) (r .thermal))) w → y ≡ pasted 181 (joined (logsRows (r .received) (r .logs))) x
+      → z ≡ pasted 193 (joined (mailboxRows (r .mask) (r .deadman) (r .areas))) y → z ≡ pasted 0 (joined (recordRows r)) d
+  unfolding sumOf widthsOf recordWidths recordRows headRows throttlesRows thermalRows logsRows mailboxRows toBE
+  record-put r sets thermal v w x y z e f g h j =
+      let one = headRows (r .state) (r .role) (r .caps) in
+      let two = one ++ throttlesRows (r .throttles) in
+      let three = two ++ thermalRows (r .user) (r .thermal) in
+      let four = three ++ logsRows (r .received) (r .logs) in
+      let p = rows-next 0 8 one (throttlesRows (r .throttles)) v w (lit< tt) (from-front one (1 ∷ 1 ∷ 2 ∷ 2 ∷ 2 ∷ []) refl) e f in
+      let q = rows-next 0 170 two (thermalRows (r .user) (r .thermal)) w x (lit< tt) (from-front two (1 ∷ 1 ∷ 2 ∷ 2 ∷ 2 ∷ 2 ∷ 160 ∷ []) (λ i. 1 ∷ 1 ∷ 2 ∷ 2 ∷ 2 ∷ 2 ∷ sets i ∷ [])) p g in
+      let k = rows-next 0 181 three (logsRows (r .received) (r .logs)) x y (lit< tt) (from-front three (1 ∷ 1 ∷ 2 ∷ 2 ∷ 2 ∷ 2 ∷ 160 ∷ 2 ∷ 9 ∷ []) (λ i. 1 ∷ 1 ∷ 2 ∷ 2 ∷ 2 ∷ 2 ∷ sets i ∷ 2 ∷ thermal i ∷ [])) q h in
+      rows-next 0 193 four (mailboxRows (r .mask) (r .deadman) (r .areas)) y z (lit< tt) (from-front four (take 21 recordWidths) (ap (take 21) (widths-record r sets thermal))) k j
+
+  pub session-put : (r : Record) (k : Worked) (next used : ℕ) (j x y z : List ℕ) → length (joined (recordRows r)) ≡ 230 → x ≡ pasted 0 (joined (recordRows r)) d
+      → y ≡ pasted 230 (joined (workedRows k next used)) x → z ≡ pasted 239 j y
+      → z ≡ pasted 0 (imageOf (record { held = r; worked = k; next = next; used = used; journal = j })) d
+  unfolding joined imageOf sessionRows workedRows toBE
+  session-put r k next used j x y z h p q t =
+      let one = recordRows r in
+      let two = one ++ workedRows k next used in
+      let long = zero-add (length (joined two)) ∙ ap length (joined-append one (workedRows k next used)) ∙ length-append (joined one) _ ∙ ap (λ (n : ℕ). n + 9) h in
+      let e = rows-next 0 230 one (workedRows k next used) x y (lit< tt) (zero-add (length (joined one)) ∙ h) p q in
+      row-next 0 239 two j y z (lit< tt) long e t ∙ ap (λ (l : List (List ℕ)). pasted 0 (joined l) d) (append-assoc one (workedRows k next used) (j ∷ []))

@@ -1,0 +1,315 @@
+// A session as 2,287 bytes, its image, and back: each field at its offset, numbers big-endian, no padding.
+ghost use mathlib.Core.Path.{_≡_};
+ghost use Prim.Native.Nat.{_≤_, _+_};
+ghost use lib.ListN.{length};
+ghost use Rattle.wire.specs.Wire.{pasted};
+ghost use Rattle.image.specs.Rows.{joined};
+ghost use Rattle.image.specs.Image.{headRows, throttlesRows, thermalRows, logsRows, mailboxRows, workedRows, recordRows, imageOf, writtenTo, partAt, capsIn, throttlesIn, receivedIn, logAt, logsIn, deadmanIn, areasIn, recordIn, workedIn, readFrom};
+ghost use Rattle.image.specs.Laws.{Typed};
+use record::Area;
+use record::Areas;
+use record::Caps;
+use record::Deadman;
+use record::Log;
+use record::Received;
+use record::Record;
+use record::Throttles;
+use record::Worked;
+use session::Session;
+
+// ---- writing, a part at a time; the rest of the buffer is kept
+
+fn put_head(d: &mut [u8], state: u8, role: u8, caps: Caps)
+    requires { ⌜ 2287 ≤ length (now d) ⌝ }
+    ensures { λ _. ⌜ now (d .exit) ≡ pasted 0 (joined (headRows state role caps)) (now (d .entry)) ⌝ }
+{
+    let bytes = [state, role];
+    wire::copy(&mut *d, 0, &bytes);
+    wire::put_be(&mut *d, 2, 2, caps.min as u64);
+    wire::put_be(&mut *d, 4, 2, caps.max as u64);
+    wire::put_be(d, 6, 2, caps.over as u64);
+}
+
+fn put_throttles(d: &mut [u8], throttles: Throttles)
+    requires { ⌜ 2287 ≤ length (now d) ⌝ }
+    ensures { λ _. ⌜ now (d .exit) ≡ pasted 8 (joined (throttlesRows throttles)) (now (d .entry)) ⌝ }
+{
+    let sets = throttles.sets;
+    wire::put_be(&mut *d, 8, 2, throttles.present as u64);
+    wire::copy(d, 10, &sets);
+}
+
+fn put_thermal(d: &mut [u8], user: u16, thermal: [u8; 9])
+    requires { ⌜ 2287 ≤ length (now d) ⌝ }
+    ensures { λ _. ⌜ now (d .exit) ≡ pasted 170 (joined (thermalRows user thermal)) (now (d .entry)) ⌝ }
+{
+    wire::put_be(&mut *d, 170, 2, user as u64);
+    wire::copy(d, 172, &thermal);
+}
+
+fn put_logs(d: &mut [u8], got: Received, logs: [Log; 4])
+    requires { ⌜ 2287 ≤ length (now d) ⌝ }
+    ensures { λ _. ⌜ now (d .exit) ≡ pasted 181 (joined (logsRows got logs)) (now (d .entry)) ⌝ }
+{
+    let a = logs[0];
+    let b = logs[1];
+    let c = logs[2];
+    let e = logs[3];
+    let bytes = [
+        got.role,
+        got.caps,
+        got.throttles,
+        got.thermal,
+        a.id,
+        a.reason,
+        b.id,
+        b.reason,
+        c.id,
+        c.reason,
+        e.id,
+        e.reason,
+    ];
+    wire::copy(d, 181, &bytes);
+}
+
+fn put_mailbox(d: &mut [u8], mask: u32, deadman: Deadman, areas: Areas)
+    requires { ⌜ 2287 ≤ length (now d) ⌝ }
+    ensures { λ _. ⌜ now (d .exit) ≡ pasted 193 (joined (mailboxRows mask deadman areas)) (now (d .entry)) ⌝ }
+{
+    let ffdc = areas.ffdc;
+    let pass = areas.pass;
+    let running = [deadman.running];
+    wire::put_be(&mut *d, 193, 4, mask as u64);
+    wire::copy(&mut *d, 197, &running);
+    wire::put_be(&mut *d, 198, 8, deadman.time);
+    wire::put_be(&mut *d, 206, 8, ffdc.address);
+    wire::put_be(&mut *d, 214, 4, ffdc.size as u64);
+    wire::put_be(&mut *d, 218, 8, pass.address);
+    wire::put_be(d, 226, 4, pass.size as u64);
+}
+
+fn put_worked(d: &mut [u8], worked: Worked, next: u16, used: u16)
+    requires { ⌜ 2287 ≤ length (now d) ⌝ }
+    ensures { λ _. ⌜ now (d .exit) ≡ pasted 230 (joined (workedRows worked next used)) (now (d .entry)) ⌝ }
+{
+    let bytes = [worked.observation, worked.active, worked.wanted];
+    wire::put_be(&mut *d, 230, 2, worked.limit as u64);
+    wire::copy(&mut *d, 232, &bytes);
+    wire::put_be(&mut *d, 235, 2, next as u64);
+    wire::put_be(d, 237, 2, used as u64);
+}
+
+fn put_record(d: &mut [u8], r: Record)
+    requires { ⌜ 2287 ≤ length (now d) ⌝ }
+    ensures { λ _. ⌜ now (d .exit) ≡ pasted 0 (joined (recordRows r)) (now (d .entry)) ⌝ }
+    ensures { λ _. ⌜ length (joined (recordRows r)) ≡ 230 ⌝ }
+{
+    let caps = r.caps;
+    let throttles = r.throttles;
+    let thermal = r.thermal;
+    let received = r.received;
+    let logs = r.logs;
+    let deadman = r.deadman;
+    let areas = r.areas;
+    put_head(&mut *d, r.state, r.role, caps);
+    put_throttles(&mut *d, throttles);
+    put_thermal(&mut *d, r.user, thermal);
+    put_logs(&mut *d, received, logs);
+    put_mailbox(d, r.mask, deadman, areas);
+}
+
+// The image at the front of a buffer; one without room is kept, one of an image's length holds nothing else.
+pub fn write(s: Session, d: &mut [u8])
+    ensures { λ _. ⌜ now (d .exit) ≡ writtenTo (now (d .entry)) s ⌝ }
+    ensures { λ _. ⌜ (length (now (d .entry)) ≡ 2287 → now (d .exit) ≡ imageOf s) ⌝ }
+{
+    if d.len() < 2287 {
+        return;
+    }
+    let held = s.held;
+    let worked = s.worked;
+    let journal = s.journal;
+    put_record(&mut *d, held);
+    put_worked(&mut *d, worked, s.next, s.used);
+    wire::copy(d, 239, &journal);
+}
+
+// ---- reading, a part at a time
+
+fn caps_in(b: &[u8]) -> Caps
+    requires { ⌜ 2287 ≤ length (now b) ⌝ }
+    ensures { λ r. ⌜ r ≡ capsIn (now (b .entry)) ⌝ }
+{
+    let min = wire::be16(b, 2);
+    let max = wire::be16(b, 4);
+    let over = wire::be16(b, 6);
+    Caps {
+        min: min,
+        max: max,
+        over: over,
+    }
+}
+
+fn throttles_in(b: &[u8]) -> Throttles
+    requires { ⌜ 2287 ≤ length (now b) ⌝ }
+    ensures { λ r. ⌜ r ≡ throttlesIn (now (b .entry)) ⌝ }
+{
+    let present = wire::be16(b, 8);
+    let mut sets = [0u8; 160];
+    wire::copy(&mut sets, 0, &b[10..170]);
+    Throttles {
+        present: present,
+        sets: sets,
+    }
+}
+
+fn thermal_in(b: &[u8]) -> [u8; 9]
+    requires { ⌜ 2287 ≤ length (now b) ⌝ }
+    ensures { λ r. ⌜ r ≡ partAt 9 172 (now (b .entry)) ⌝ }
+{
+    let mut thermal = [0u8; 9];
+    wire::copy(&mut thermal, 0, &b[172..181]);
+    thermal
+}
+
+fn received_in(b: &[u8]) -> Received
+    requires { ⌜ 2287 ≤ length (now b) ⌝ }
+    ensures { λ r. ⌜ r ≡ receivedIn (now (b .entry)) ⌝ }
+{
+    Received {
+        role: b[181],
+        caps: b[182],
+        throttles: b[183],
+        thermal: b[184],
+    }
+}
+
+fn log_at(b: &[u8], at: usize) -> Log
+    requires { ⌜ at + 2 ≤ length (now b) ⌝ }
+    ensures { λ r. ⌜ r ≡ logAt at (now (b .entry)) ⌝ }
+{
+    Log {
+        id: b[at],
+        reason: b[at + 1],
+    }
+}
+
+fn logs_in(b: &[u8]) -> [Log; 4]
+    requires { ⌜ 2287 ≤ length (now b) ⌝ }
+    ensures { λ r. ⌜ r ≡ logsIn (now (b .entry)) ⌝ }
+{
+    [
+        log_at(b, 185),
+        log_at(b, 187),
+        log_at(b, 189),
+        log_at(b, 191),
+    ]
+}
+
+fn deadman_in(b: &[u8]) -> Deadman
+    requires { ⌜ 2287 ≤ length (now b) ⌝ }
+    ensures { λ r. ⌜ r ≡ deadmanIn (now (b .entry)) ⌝ }
+{
+    let time = wire::be64(b, 198);
+    Deadman {
+        running: b[197],
+        time: time,
+    }
+}
+
+fn areas_in(b: &[u8]) -> Areas
+    requires { ⌜ 2287 ≤ length (now b) ⌝ }
+    ensures { λ r. ⌜ r ≡ areasIn (now (b .entry)) ⌝ }
+{
+    let ffdc = Area {
+        address: wire::be64(b, 206),
+        size: wire::be32(b, 214),
+    };
+    let pass = Area {
+        address: wire::be64(b, 218),
+        size: wire::be32(b, 226),
+    };
+    Areas {
+        ffdc: ffdc,
+        pass: pass,
+    }
+}
+
+fn record_in(b: &[u8]) -> Record
+    requires { ⌜ 2287 ≤ length (now b) ⌝ }
+    ensures { λ r. ⌜ r ≡ recordIn (now (b .entry)) ⌝ }
+{
+    let caps = caps_in(b);
+    let throttles = throttles_in(b);
+    let user = wire::be16(b, 170);
+    let thermal = thermal_in(b);
+    let received = received_in(b);
+    let logs = logs_in(b);
+    let mask = wire::be32(b, 193);
+    let deadman = deadman_in(b);
+    let areas = areas_in(b);
+    Record {
+        state: b[0],
+        role: b[1],
+        caps: caps,
+        throttles: throttles,
+        user: user,
+        thermal: thermal,
+        received: received,
+        logs: logs,
+        mask: mask,
+        deadman: deadman,
+        areas: areas,
+    }
+}
+
+fn worked_in(b: &[u8]) -> Worked
+    requires { ⌜ 2287 ≤ length (now b) ⌝ }
+    ensures { λ r. ⌜ r ≡ workedIn (now (b .entry)) ⌝ }
+{
+    let limit = wire::be16(b, 230);
+    Worked {
+        limit: limit,
+        observation: b[232],
+        active: b[233],
+        wanted: b[234],
+    }
+}
+
+fn journal_in(b: &[u8]) -> [u8; 2048]
+    requires { ⌜ 2287 ≤ length (now b) ⌝ }
+    ensures { λ r. ⌜ r ≡ partAt 2048 239 (now (b .entry)) ⌝ }
+{
+    let mut journal = [0u8; 2048];
+    wire::copy(&mut journal, 0, &b[239..2287]);
+    journal
+}
+
+// The session of the image at the front of the bytes; too few are none, the fresh session.
+pub fn read(b: &[u8]) -> Session
+    ensures { λ s. ⌜ s ≡ readFrom (now (b .entry)) ⌝ }
+{
+    if b.len() < 2287 {
+        return session::fresh();
+    }
+    let held = record_in(b);
+    let worked = worked_in(b);
+    let next = wire::be16(b, 235);
+    let used = wire::be16(b, 237);
+    let journal = journal_in(b);
+    Session {
+        held: held,
+        worked: worked,
+        next: next,
+        journal: journal,
+        used: used,
+    }
+}
+
+// ---- every session has what the laws ask for
+
+pub fn typed(s: Session)
+    ensures { λ _. ⌜ Typed s ⌝ }
+{
+    links::typed_session(s);
+}

@@ -10,6 +10,9 @@ use text::Taken;
 
 const MOST_LINE: usize = 32768;
 
+// How many bytes an image has.
+const IMAGE: usize = 2287;
+
 // The session that the calls go to, and the sequence of the last packet that `send` made.
 struct Bench {
     session: Session,
@@ -20,6 +23,7 @@ struct Bench {
 enum Plain {
     Undo,
     Fresh,
+    Image,
     Show,
     Journal,
     Help,
@@ -29,6 +33,7 @@ enum Word {
     Occ,
     Sbe,
     Send,
+    Load,
     Plain(Plain),
     Unknown,
 }
@@ -66,6 +71,43 @@ fn complained(out: &mut [u8], fault: Fault) -> bool {
             true
         }
     }
+}
+
+fn wrong_length(out: &mut [u8]) {
+    let end = text::put(out, 0, b"? image must be 2287 bytes");
+    tell(out, end);
+}
+
+// Whether `count` bytes are no image, and then the answer to that.
+fn no_image(out: &mut [u8], count: usize, fault: Fault) -> bool {
+    match fault {
+        Fault::Nothing => {
+            if count == IMAGE {
+                return false;
+            }
+            wrong_length(out);
+            true
+        }
+        Fault::Digit(column) => {
+            no_digit(out, column);
+            true
+        }
+        Fault::Over(_) => {
+            wrong_length(out);
+            true
+        }
+    }
+}
+
+fn tell_ok(out: &mut [u8]) {
+    let end = text::put(out, 0, b"ok");
+    tell(out, end);
+}
+
+fn tell_image(out: &mut [u8], bytes: &[u8]) {
+    let name = text::put(out, 0, b"image ");
+    let end = text::put_hexes(out, name, bytes);
+    tell(out, end);
 }
 
 // An OCC reply has 7 bytes and the data bytes that its length field counts.
@@ -187,9 +229,15 @@ fn undo(s: Session, out: &mut [u8]) -> Session {
 }
 
 fn fresh(out: &mut [u8]) -> Session {
-    let at = text::put(out, 0, b"ok");
-    tell(out, at);
+    tell_ok(out);
     session::fresh()
+}
+
+fn save(s: Session, out: &mut [u8]) -> Session {
+    let mut bytes = [0u8; IMAGE];
+    image::write(s, &mut bytes);
+    tell_image(out, &bytes);
+    s
 }
 
 fn show(s: Session, out: &mut [u8]) -> Session {
@@ -225,6 +273,7 @@ fn obey_plain(s: Session, word: Plain, out: &mut [u8]) -> Session {
     match word {
         Plain::Undo => undo(s, out),
         Plain::Fresh => fresh(out),
+        Plain::Image => save(s, out),
         Plain::Show => show(s, out),
         Plain::Journal => list(s, out),
         Plain::Help => help(s, out),
@@ -323,6 +372,21 @@ fn send_line(b: Bench, line: &[u8], from: usize, out: &mut [u8]) -> Bench
     send(b, &mut packet[..n + 4], out)
 }
 
+fn load_line(b: Bench, line: &[u8], from: usize, out: &mut [u8]) -> Bench {
+    let mut bytes = [0u8; IMAGE];
+    let taken = text::take_bytes(line, from, &mut bytes);
+    let fault = taken.fault;
+    if no_image(out, taken.count, fault) {
+        return b;
+    }
+    tell_ok(out);
+    let s = image::read(&bytes);
+    Bench {
+        session: s,
+        sequence: b.sequence,
+    }
+}
+
 fn plain_line(b: Bench, word: Plain, line: &[u8], from: usize, out: &mut [u8]) -> Bench {
     let place = text::past_blanks(line, from);
     if place < line.len() {
@@ -343,6 +407,9 @@ fn plain_word(word: &[u8]) -> Word {
     }
     if text::same(word, b"fresh") {
         return Word::Plain(Plain::Fresh);
+    }
+    if text::same(word, b"image") {
+        return Word::Plain(Plain::Image);
     }
     if text::same(word, b"show") {
         return Word::Plain(Plain::Show);
@@ -366,6 +433,9 @@ fn word_of(word: &[u8]) -> Word {
     if text::same(word, b"send") {
         return Word::Send;
     }
+    if text::same(word, b"load") {
+        return Word::Load;
+    }
     plain_word(word)
 }
 
@@ -380,6 +450,7 @@ fn obey(b: Bench, line: &[u8], at: usize, out: &mut [u8]) -> Bench
         Word::Occ => occ_line(b, line, end, out),
         Word::Sbe => sbe_line(b, line, end, out),
         Word::Send => send_line(b, line, end, out),
+        Word::Load => load_line(b, line, end, out),
         Word::Plain(word) => plain_line(b, word, line, end, out),
         Word::Unknown => {
             complain(out, b"unknown word", at + 1);

@@ -1,0 +1,225 @@
+// Text of lines: reading words and bytes in hex, and putting text into a lent buffer. Each `put` writes from `at` on and gives the place
+// past it; what doesn't fit is left out whole, so no buffer is too short to lend.
+ghost use Prim.Native.Nat.{_≤_};
+ghost use lib.ListN.{length};
+ghost use Rattle.io.specs.Counts.{Counts};
+
+// ---- reading
+
+// A space or a tab.
+pub fn is_blank(c: u8) -> bool {
+    if c == b' ' {
+        return true;
+    }
+    c == b'\t'
+}
+
+// The first place from `from` on that holds no blank, or the end.
+pub fn past_blanks(s: &[u8], from: usize) -> usize
+    ensures { λ r. ⌜ r ≤ length (now (s .entry)) ⌝ }
+{
+    let mut i = from;
+    while i < s.len() {
+        if !is_blank(s[i]) {
+            return i;
+        }
+        i += 1;
+    }
+    s.len()
+}
+
+// How many bytes stand before the first blank.
+pub fn word_len(s: &[u8]) -> usize
+    ensures { λ r. ⌜ Counts r (now (s .entry)) ⌝ }
+{
+    let mut i = 0;
+    while i < s.len() {
+        if is_blank(s[i]) {
+            return i;
+        }
+        i += 1;
+    }
+    i
+}
+
+// The first place of `c`, or the length.
+pub fn find(s: &[u8], c: u8) -> usize
+    ensures { λ r. ⌜ Counts r (now (s .entry)) ⌝ }
+{
+    let mut i = 0;
+    while i < s.len() {
+        if s[i] == c {
+            return i;
+        }
+        i += 1;
+    }
+    i
+}
+
+// Whether two texts are equal.
+pub fn same(a: &[u8], b: &[u8]) -> bool {
+    if a.len() != b.len() {
+        return false;
+    }
+    let mut i = 0;
+    while i < a.len() {
+        if a[i] != b[i] {
+            return false;
+        }
+        i += 1;
+    }
+    true
+}
+
+// The number that a hex digit of either case stands for, 16 where it is none.
+pub fn digit(c: u8) -> u8
+    ensures { λ r. ⌜ r ≤ 16 ⌝ }
+{
+    if c < b'0' {
+        return 16;
+    }
+    if c <= b'9' {
+        return c - b'0';
+    }
+    if c < b'A' {
+        return 16;
+    }
+    if c <= b'F' {
+        return c - b'A' + 10;
+    }
+    if c < b'a' {
+        return 16;
+    }
+    if c <= b'f' {
+        return c - b'a' + 10;
+    }
+    16
+}
+
+// The digit at a place; there is none past the end.
+fn digit_at(s: &[u8], at: usize) -> u8
+    ensures { λ r. ⌜ r ≤ 16 ⌝ }
+{
+    if at < s.len() {
+        return digit(s[at]);
+    }
+    16
+}
+
+// What is wrong in a run of bytes, with its column.
+pub enum Fault {
+    Nothing,
+    Digit(usize),
+    Over(usize),
+}
+
+// How many bytes were read, and what then was wrong.
+pub struct Taken {
+    pub count: usize,
+    pub fault: Fault,
+}
+
+// Reads bytes of two hex digits each, blanks before, between and after them, from `from` to the end of `s`, into `out`.
+pub fn take_bytes(s: &[u8], from: usize, out: &mut [u8]) -> Taken
+    ensures { λ r. ⌜ Counts (r .count) (now (out .exit)) ⌝ }
+{
+    let mut n = 0;
+    let mut at = from;
+    while at < s.len() {
+        let column = at + 1;
+        if is_blank(s[at]) {
+            at = column;
+            continue;
+        }
+        if out.len() <= n {
+            return Taken {
+                count: n,
+                fault: Fault::Over(column),
+            };
+        }
+        let high = digit(s[at]);
+        if 15 < high {
+            return Taken {
+                count: n,
+                fault: Fault::Digit(column),
+            };
+        }
+        let low = digit_at(s, column);
+        if 15 < low {
+            return Taken {
+                count: n,
+                fault: Fault::Digit(column + 1),
+            };
+        }
+        out[n] = high * 16 + low;
+        n += 1;
+        at = column + 1;
+    }
+    Taken {
+        count: n,
+        fault: Fault::Nothing,
+    }
+}
+
+// ---- writing
+
+pub fn put(out: &mut [u8], at: usize, s: &[u8]) -> usize
+    ensures { λ r. ⌜ Counts r (now (out .exit)) ⌝ }
+{
+    if out.len() < at {
+        return out.len();
+    }
+    if out.len() - at < s.len() {
+        return at;
+    }
+    wire::copy(out, at, s);
+    at + s.len()
+}
+
+// The capital digit for a number below 16.
+fn glyph(d: u8) -> u8 {
+    match d {
+        0..=9 => b'0' + d,
+        10..=15 => b'A' + (d - 10),
+        _ => b'?',
+    }
+}
+
+// A byte's two digits.
+pub fn put_hex(out: &mut [u8], at: usize, b: u8) -> usize
+    ensures { λ r. ⌜ Counts r (now (out .exit)) ⌝ }
+{
+    let digits = [glyph(b / 16), glyph(b % 16)];
+    put(out, at, &digits)
+}
+
+// Bytes in hex with nothing between.
+pub fn put_hexes(out: &mut [u8], at: usize, s: &[u8]) -> usize {
+    let mut end = at;
+    let mut i = 0;
+    while i < s.len() {
+        end = put_hex(out, end, s[i]);
+        i += 1;
+    }
+    end
+}
+
+// Bytes in hex, each after a blank.
+pub fn put_bytes(out: &mut [u8], at: usize, s: &[u8]) -> usize {
+    let mut end = at;
+    let mut i = 0;
+    while i < s.len() {
+        let mid = put(out, end, b" ");
+        end = put_hex(out, mid, s[i]);
+        i += 1;
+    }
+    end
+}
+
+pub fn put_decimal(out: &mut [u8], at: usize, n: u64) -> usize
+    ensures { λ r. ⌜ Counts r (now (out .exit)) ⌝ }
+{
+    let mut digits = [0u8; 20];
+    let k = io::decimal(n, &mut digits);
+    put(out, at, &digits[..k])
+}

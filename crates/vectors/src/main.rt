@@ -33,19 +33,11 @@ fn print(s: &[u8]) {
     io::write_all(STDOUT_FILENO, s);
 }
 
-// The digit for a number below 16.
-fn glyph(d: u8) -> u8 {
-    match d {
-        0..=9 => b'0' + d,
-        10..=15 => b'A' + (d - 10),
-        _ => b'?',
-    }
-}
-
 // The byte's two digits, capitals.
 fn print_byte(b: u8) {
-    let text = [glyph(b / 16), glyph(b % 16)];
-    print(&text);
+    let mut digits = [0u8; 2];
+    text::put_hex(&mut digits, 0, b);
+    print(&digits);
 }
 
 // Each byte after a blank.
@@ -100,47 +92,6 @@ fn print_bell(answer: u8, bell: u16) {
 
 // ---- reading
 
-// Whether two texts are equal.
-fn same(a: &[u8], b: &[u8]) -> bool {
-    if a.len() != b.len() {
-        return false;
-    }
-    let mut i = 0;
-    while i < a.len() {
-        if a[i] != b[i] {
-            return false;
-        }
-        i += 1;
-    }
-    true
-}
-
-// The first place of `c`, or the length.
-fn find(s: &[u8], c: u8) -> usize
-    ensures { λ r. ⌜ Counts r (now (s .entry)) ⌝ }
-{
-    let mut i = 0;
-    while i < s.len() {
-        if s[i] == c {
-            return i;
-        }
-        i += 1;
-    }
-    i
-}
-
-// The number that a digit stands for, 16 where it is none.
-fn digit(c: u8) -> u8
-    ensures { λ r. ⌜ r ≤ 16 ⌝ }
-{
-    match c {
-        b'0'..=b'9' => c - b'0',
-        b'A'..=b'F' => c - b'A' + 10,
-        b'a'..=b'f' => c - b'a' + 10,
-        _ => 16,
-    }
-}
-
 // The decimal number that `s` spells, 4,096 where it is none or is more.
 fn decimal(s: &[u8]) -> usize
     ensures { λ r. ⌜ r ≤ 4096 ⌝ }
@@ -151,7 +102,7 @@ fn decimal(s: &[u8]) -> usize
     let mut n: usize = 0;
     let mut i = 0;
     while i < s.len() {
-        let d = digit(s[i]);
+        let d = text::digit(s[i]);
         if 9 < d {
             return 4096;
         }
@@ -184,15 +135,15 @@ fn spells_byte(blank: u8, high: u8, low: u8) -> bool {
     if blank != b' ' {
         return false;
     }
-    if 15 < digit(high) {
+    if 15 < text::digit(high) {
         return false;
     }
-    digit(low) < 16
+    text::digit(low) < 16
 }
 
 // The byte of two digits.
 fn byte_of(high: u8, low: u8) -> u8 {
-    digit(high) % 16 * 16 + digit(low) % 16
+    text::digit(high) % 16 * 16 + text::digit(low) % 16
 }
 
 // Puts the bytes that `s` spells at the start of `out`.
@@ -208,25 +159,25 @@ fn read_bytes(s: &[u8], out: &mut [u8])
 
 // The order that a line's first word gives.
 fn order_of(word: &[u8]) -> Order {
-    if same(word, b"fresh") {
+    if text::same(word, b"fresh") {
         return Order::Fresh;
     }
-    if same(word, b"undo") {
+    if text::same(word, b"undo") {
         return Order::Undo;
     }
-    if same(word, b"occ") {
+    if text::same(word, b"occ") {
         return Order::Whole(Call::Occ);
     }
-    if same(word, b"sbe") {
+    if text::same(word, b"sbe") {
         return Order::Whole(Call::Sbe);
     }
-    if same(word, b"short") {
+    if text::same(word, b"short") {
         return Order::Short(Call::Occ);
     }
-    if same(word, b"shortsbe") {
+    if text::same(word, b"shortsbe") {
         return Order::Short(Call::Sbe);
     }
-    if same(word, b"long") {
+    if text::same(word, b"long") {
         return Order::Long;
     }
     Order::Unknown
@@ -320,7 +271,7 @@ fn short(s: Session, call: Call, rest: &[u8]) -> Session
         return unknown(s);
     }
     let text = &rest[1..];
-    let n = find(text, b' ');
+    let n = text::find(text, b' ');
     let room = decimal(&text[..n]);
     if 4095 < room {
         return unknown(s);
@@ -407,7 +358,7 @@ fn answer(s: Session, line: &[u8]) -> Session {
         print(b"\n");
         return s;
     }
-    let n = find(line, b' ');
+    let n = text::find(line, b' ');
     obey(s, order_of(&line[..n]), &line[n..])
 }
 
@@ -419,7 +370,7 @@ fn serve(input: &[u8])
     let mut at = 0;
     while at < input.len() {
         let left = &input[at..];
-        let n = find(left, b'\n');
+        let n = text::find(left, b'\n');
         let next = answer(s, &left[..n]);
         s = next;
         at += n + 1;

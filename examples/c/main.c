@@ -1,0 +1,72 @@
+/* A master OCC brought up, capped, and one change taken back. */
+#include <stdio.h>
+
+#include "bjargolsk.h"
+
+static uint8_t session[BJARGOLSK_SESSION];
+static uint8_t reply[BJARGOLSK_OCC_REPLY];
+
+static void show(size_t length)
+{
+    for (size_t i = 0; i < length; i++)
+        printf(" %02X", reply[i]);
+    printf("\n");
+}
+
+/* A packet is sequence, type, two bytes of data length, data, and the two-byte sum of all that. */
+static void occ(const char *name, uint8_t sender, uint8_t type, const uint8_t *data, uint8_t length)
+{
+    static uint8_t sequence = 0;
+    uint8_t packet[64] = {++sequence, type, 0, length};
+    unsigned sum = 0;
+    for (size_t i = 0; i < length; i++)
+        packet[4 + i] = data[i];
+    for (size_t i = 0; i < 4u + length; i++)
+        sum += packet[i];
+    packet[4 + length] = (uint8_t)(sum >> 8);
+    packet[5 + length] = (uint8_t)sum;
+    uint32_t result = bjargolsk_occ(session, sizeof session, sender, packet, 6u + length, reply, sizeof reply);
+    printf("%s: answer %u", name, (unsigned)BJARGOLSK_ANSWER(result));
+    show(BJARGOLSK_ANSWER(result) == 0 ? 7u + reply[3] * 256u + reply[4] : 0);
+}
+
+static void sbe(const char *name, const uint8_t *request, size_t length)
+{
+    uint32_t result = bjargolsk_sbe(session, sizeof session, request, length, reply, sizeof reply);
+    printf("%s: answer %u bell %04X", name, (unsigned)BJARGOLSK_ANSWER(result), (unsigned)BJARGOLSK_HIGH(result));
+    show(BJARGOLSK_ANSWER(result) == 0 ? BJARGOLSK_SBE_REPLY : 0);
+}
+
+static void undo(void)
+{
+    uint32_t result = bjargolsk_undo(session, sizeof session);
+    printf("undo: answer %u kind %02X\n", (unsigned)BJARGOLSK_ANSWER(result), (unsigned)BJARGOLSK_HIGH(result));
+}
+
+int main(void)
+{
+    static const uint8_t poll[] = {0x10};
+    static const uint8_t master[] = {0x03, 0x01};
+    static const uint8_t thermal[] = {0x13, 0x10, 1, 0, 80, 90, 10};
+    static const uint8_t caps[] = {0x07, 0x10, 0x01, 0xF4, 0x05, 0xDC, 0x07, 0xD0};
+    static const uint8_t throttles[] = {0x12, 0x10, 1, 0, 0, 0, 1, 0, 2, 0, 3, 0, 4, 0, 5};
+    static const uint8_t active[] = {0, 3, 0};
+    static const uint8_t user[] = {0x03, 0xE8};
+    static const uint8_t deadman[32] = {0, 0, 0x01, 0x01, 0, 7, 0xD1, 0x01, 0, 0, 0, 0, 0, 0, 0x03, 0xE8};
+
+    printf("fresh: answer %u\n", (unsigned)bjargolsk_fresh(session, sizeof session));
+    occ("poll", BJARGOLSK_HTMGT, 0x00, poll, sizeof poll);
+    occ("role", BJARGOLSK_HTMGT, 0x21, master, sizeof master);
+    occ("thermal", BJARGOLSK_HTMGT, 0x21, thermal, sizeof thermal);
+    occ("caps", BJARGOLSK_HTMGT, 0x21, caps, sizeof caps);
+    occ("throttles", BJARGOLSK_HTMGT, 0x21, throttles, sizeof throttles);
+    occ("state", BJARGOLSK_HTMGT, 0x20, active, sizeof active);
+    occ("user cap", BJARGOLSK_BMC, 0x22, user, sizeof user);
+    occ("poll", BJARGOLSK_BMC, 0x00, poll, sizeof poll);
+    undo();
+    occ("poll", BJARGOLSK_BMC, 0x00, poll, sizeof poll);
+    sbe("deadman", deadman, sizeof deadman);
+    undo();
+    occ("stranger", 0x30, 0x00, poll, sizeof poll);
+    return 0;
+}

@@ -1,0 +1,76 @@
+"""A master OCC brought up, capped, and one change taken back.
+
+usage: python3 main.py LIBRARY, the shared object that is made from the archive
+"""
+import ctypes
+import sys
+
+HTMGT, BMC = 0x10, 0x20
+
+
+def load(path):
+    """The functions of include/bjargolsk.h, with the types that it gives them."""
+    lib = ctypes.CDLL(path)
+    buffer = [ctypes.c_char_p, ctypes.c_size_t]
+    lib.bjargolsk_fresh.argtypes = buffer
+    lib.bjargolsk_occ.argtypes = buffer + [ctypes.c_uint8] + buffer + buffer
+    lib.bjargolsk_sbe.argtypes = buffer + buffer + buffer
+    lib.bjargolsk_undo.argtypes = buffer
+    for name in ("fresh", "occ", "sbe", "undo"):
+        getattr(lib, "bjargolsk_" + name).restype = ctypes.c_uint32
+    return lib
+
+
+class Bench:
+    """A session's image, and the buffer for replies."""
+
+    def __init__(self, lib):
+        self.lib = lib
+        self.session = ctypes.create_string_buffer(2287)
+        self.reply = ctypes.create_string_buffer(4096)
+        self.sequence = 0
+        print("fresh: answer %d" % lib.bjargolsk_fresh(self.session, 2287))
+
+    def shown(self, answer, length):
+        return "".join(" %02X" % b for b in self.reply.raw[:length]) if answer == 0 else ""
+
+    def occ(self, name, sender, kind, data):
+        """A packet is sequence, type, two bytes of data length, data, and the two-byte sum of all that."""
+        self.sequence += 1
+        packet = bytes([self.sequence, kind]) + len(data).to_bytes(2, "big") + bytes(data)
+        packet += (sum(packet) % 65536).to_bytes(2, "big")
+        result = self.lib.bjargolsk_occ(self.session, 2287, sender, packet, len(packet), self.reply, 4096)
+        answer = result & 0xFFFF
+        length = 7 + int.from_bytes(self.reply.raw[3:5], "big")
+        print("%s: answer %d%s" % (name, answer, self.shown(answer, length)))
+
+    def sbe(self, name, request):
+        result = self.lib.bjargolsk_sbe(self.session, 2287, request, len(request), self.reply, 4096)
+        answer = result & 0xFFFF
+        print("%s: answer %d bell %04X%s" % (name, answer, result >> 16, self.shown(answer, 32)))
+
+    def undo(self):
+        result = self.lib.bjargolsk_undo(self.session, 2287)
+        print("undo: answer %d kind %02X" % (result & 0xFFFF, result >> 16))
+
+
+def main():
+    if len(sys.argv) != 2:
+        sys.exit(__doc__)
+    bench = Bench(load(sys.argv[1]))
+    bench.occ("poll", HTMGT, 0x00, [0x10])
+    bench.occ("role", HTMGT, 0x21, [0x03, 0x01])
+    bench.occ("thermal", HTMGT, 0x21, [0x13, 0x10, 1, 0, 80, 90, 10])
+    bench.occ("caps", HTMGT, 0x21, [0x07, 0x10, 0x01, 0xF4, 0x05, 0xDC, 0x07, 0xD0])
+    bench.occ("throttles", HTMGT, 0x21, [0x12, 0x10, 1, 0, 0, 0, 1, 0, 2, 0, 3, 0, 4, 0, 5])
+    bench.occ("state", HTMGT, 0x20, [0, 3, 0])
+    bench.occ("user cap", BMC, 0x22, [0x03, 0xE8])
+    bench.occ("poll", BMC, 0x00, [0x10])
+    bench.undo()
+    bench.occ("poll", BMC, 0x00, [0x10])
+    bench.sbe("deadman", bytes([0, 0, 0x01, 0x01, 0, 7, 0xD1, 0x01, 0, 0, 0, 0, 0, 0, 0x03, 0xE8]) + bytes(16))
+    bench.undo()
+    bench.occ("stranger", 0x30, 0x00, [0x10])
+
+
+main()

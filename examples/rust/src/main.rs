@@ -1,0 +1,140 @@
+//! A master OCC brought up, capped, and one change taken back.
+
+/// The functions of include/bjargolsk.h.
+mod ffi {
+    extern "C" {
+        pub fn bjargolsk_fresh(session: *mut u8, session_length: usize) -> u32;
+        pub fn bjargolsk_occ(
+            session: *mut u8,
+            session_length: usize,
+            sender: u8,
+            command: *const u8,
+            command_length: usize,
+            reply: *mut u8,
+            reply_length: usize,
+        ) -> u32;
+        pub fn bjargolsk_sbe(
+            session: *mut u8,
+            session_length: usize,
+            request: *const u8,
+            request_length: usize,
+            reply: *mut u8,
+            reply_length: usize,
+        ) -> u32;
+        pub fn bjargolsk_undo(session: *mut u8, session_length: usize) -> u32;
+    }
+}
+
+const HTMGT: u8 = 0x10;
+const BMC: u8 = 0x20;
+
+/// A session's image, and the buffer for replies.
+struct Bench {
+    session: [u8; 2287],
+    reply: [u8; 4096],
+    sequence: u8,
+}
+
+// SAFETY of the calls below: each buffer is borrowed whole, by its pointer and its own length, and no two are the same.
+impl Bench {
+    fn fresh() -> Self {
+        let mut bench = Bench {
+            session: [0; 2287],
+            reply: [0; 4096],
+            sequence: 0,
+        };
+        let result =
+            unsafe { ffi::bjargolsk_fresh(bench.session.as_mut_ptr(), bench.session.len()) };
+        println!("fresh: answer {result}");
+        bench
+    }
+
+    fn shown(&self, answer: u32, length: usize) -> String {
+        let length = if answer == 0 { length } else { 0 };
+        self.reply[..length]
+            .iter()
+            .map(|b| format!(" {b:02X}"))
+            .collect()
+    }
+
+    /// A packet is sequence, type, two bytes of data length, data, and the two-byte sum of all that.
+    fn occ(&mut self, name: &str, sender: u8, kind: u8, data: &[u8]) {
+        self.sequence += 1;
+        let mut packet = vec![self.sequence, kind];
+        packet.extend_from_slice(&(data.len() as u16).to_be_bytes());
+        packet.extend_from_slice(data);
+        let sum = packet
+            .iter()
+            .fold(0u16, |sum, &b| sum.wrapping_add(b.into()));
+        packet.extend_from_slice(&sum.to_be_bytes());
+        let result = unsafe {
+            ffi::bjargolsk_occ(
+                self.session.as_mut_ptr(),
+                self.session.len(),
+                sender,
+                packet.as_ptr(),
+                packet.len(),
+                self.reply.as_mut_ptr(),
+                self.reply.len(),
+            )
+        };
+        let answer = result & 0xFFFF;
+        let length = 7 + usize::from(u16::from_be_bytes([self.reply[3], self.reply[4]]));
+        println!("{name}: answer {answer}{}", self.shown(answer, length));
+    }
+
+    fn sbe(&mut self, name: &str, request: &[u8]) {
+        let result = unsafe {
+            ffi::bjargolsk_sbe(
+                self.session.as_mut_ptr(),
+                self.session.len(),
+                request.as_ptr(),
+                request.len(),
+                self.reply.as_mut_ptr(),
+                self.reply.len(),
+            )
+        };
+        let (answer, bell) = (result & 0xFFFF, result >> 16);
+        println!(
+            "{name}: answer {answer} bell {bell:04X}{}",
+            self.shown(answer, 32)
+        );
+    }
+
+    fn undo(&mut self) {
+        let result = unsafe { ffi::bjargolsk_undo(self.session.as_mut_ptr(), self.session.len()) };
+        println!("undo: answer {} kind {:02X}", result & 0xFFFF, result >> 16);
+    }
+}
+
+fn main() {
+    let mut deadman = [0u8; 32];
+    deadman[..16].copy_from_slice(&[
+        0, 0, 0x01, 0x01, 0, 7, 0xD1, 0x01, 0, 0, 0, 0, 0, 0, 0x03, 0xE8,
+    ]);
+
+    let mut bench = Bench::fresh();
+    bench.occ("poll", HTMGT, 0x00, &[0x10]);
+    bench.occ("role", HTMGT, 0x21, &[0x03, 0x01]);
+    bench.occ("thermal", HTMGT, 0x21, &[0x13, 0x10, 1, 0, 80, 90, 10]);
+    bench.occ(
+        "caps",
+        HTMGT,
+        0x21,
+        &[0x07, 0x10, 0x01, 0xF4, 0x05, 0xDC, 0x07, 0xD0],
+    );
+    bench.occ(
+        "throttles",
+        HTMGT,
+        0x21,
+        &[0x12, 0x10, 1, 0, 0, 0, 1, 0, 2, 0, 3, 0, 4, 0, 5],
+    );
+    bench.occ("state", HTMGT, 0x20, &[0, 3, 0]);
+    bench.occ("user cap", BMC, 0x22, &[0x03, 0xE8]);
+    bench.occ("poll", BMC, 0x00, &[0x10]);
+    bench.undo();
+    bench.occ("poll", BMC, 0x00, &[0x10]);
+    bench.sbe("deadman", &deadman);
+    bench.undo();
+    bench.occ("stranger", 0x30, 0x00, &[0x10]);
+}

@@ -1,0 +1,61 @@
+/* Bjargolsk for C, and for whatever calls C: a proved stand-in for the on-chip controller (OCC) and the self-boot engine (SBE).
+ *
+ * A session is lent as its image of BJARGOLSK_SESSION bytes (docs/IMAGE.md), which a call updates in place. Nothing is allocated and
+ * nothing is kept between calls: a copy of the bytes is a copy of the session, and threads may call at once on different sessions.
+ *
+ * A buffer is a pointer and its length in bytes. The pointer is never NULL, and the buffers of one call don't overlap: the proofs take both
+ * for granted.
+ *
+ * A result has the answer in its low 16 bits:
+ *   0  done; an OCC or SBE reply is written, good or error
+ *   1  the session isn't BJARGOLSK_SESSION bytes long, or isn't well formed
+ *   2  the OCC sender is neither BJARGOLSK_HTMGT nor BJARGOLSK_BMC
+ *   3  the reply buffer is too short: under BJARGOLSK_OCC_REPLY or BJARGOLSK_SBE_REPLY bytes
+ *   4  the command is too short: under 4 bytes for the OCC, under 32 for the SBE
+ *   5  the journal has no room for the change
+ *   6  nothing to undo
+ *   7  undo would give an ill-formed record
+ * After any answer but 0 the session and the reply buffer hold the bytes that they held before.
+ */
+#ifndef BJARGOLSK_H
+#define BJARGOLSK_H
+
+#include <stddef.h>
+#include <stdint.h>
+
+#ifdef __cplusplus
+extern "C" {
+#endif
+
+enum {
+    BJARGOLSK_SESSION = 2287,
+    BJARGOLSK_OCC_REPLY = 4096,
+    BJARGOLSK_SBE_REPLY = 32,
+    BJARGOLSK_HTMGT = 0x10,
+    BJARGOLSK_BMC = 0x20
+};
+
+#define BJARGOLSK_ANSWER(result) ((result) & 0xFFFFu)
+#define BJARGOLSK_HIGH(result) ((result) >> 16)
+
+/* Makes the session the fresh one. Answers 0 and 1; the bytes need not be a session before. */
+uint32_t bjargolsk_fresh(uint8_t *session, size_t session_length);
+
+/* Answers an OCC command packet from a sender. A reply has 7 bytes and its data: sequence, type, status, two bytes of data length, data,
+ * two bytes of checksum; the reply buffer past it is kept. Answers 0 to 5; the high 16 bits are 0. */
+uint32_t bjargolsk_occ(uint8_t *session, size_t session_length, uint8_t sender, const uint8_t *command, size_t command_length,
+                       uint8_t *reply, size_t reply_length);
+
+/* Answers an SBE mailbox request of 32 bytes by a response of 32; the reply buffer past it is kept. Answers 0, 1 and 3 to 5; the high 16
+ * bits are the doorbell: 0x8000 response, 0x4000 acknowledge. */
+uint32_t bjargolsk_sbe(uint8_t *session, size_t session_length, const uint8_t *request, size_t request_length, uint8_t *reply,
+                       size_t reply_length);
+
+/* Takes the newest change back. Answers 0, 1, 6 and 7; the high 16 bits are the kind of the entry that was taken back, 0 if none was. */
+uint32_t bjargolsk_undo(uint8_t *session, size_t session_length);
+
+#ifdef __cplusplus
+}
+#endif
+
+#endif

@@ -2,7 +2,7 @@
 ghost use mathlib.Core.Path.{_≡_};
 ghost use Rattle.change.specs.Logs.{pendingOf, firstWith, findOf, removeAt, insertAt, pendsAt};
 ghost use Rattle.change.specs.With.{withState, withRole, withCaps, withThrottles, withUser, withThermal, withLogs, withMask, withDeadman, withAreas};
-ghost use Rattle.change.specs.Change.{accepted, refused, clearOf, unclearOf, resetOf, unresetOf, putOf, lastOf, madeBy, madeAgain, backOf, kindOf, tablesFor, inverseOf};
+ghost use Rattle.change.specs.Change.{accepted, refused, clearOf, unclearOf, resetOf, unresetOf, putOf, lastOf, madeBy, madeAgain, backOf, kindOf, noTables, tablesFor, inverseOf};
 use record::Areas;
 use record::Caps;
 use record::Deadman;
@@ -401,32 +401,41 @@ fn back(r: Record, change: Change) -> Change
     }
 }
 
+// The tables of a change that has none.
+pub fn no_tables() -> Tables
+    ensures { λ x. ⌜ x ≡ noTables ⌝ }
+{
+    Tables {
+        thermal: [0; 9],
+        throttles: Throttles {
+            present: 0,
+            sets: [0; 160],
+        },
+    }
+}
+
 // The tables beside a change of a kind: those it has are the record's, the others zero.
 fn tables_for(kind: u8, r: Record) -> Tables
     ensures { λ x. ⌜ x ≡ tablesFor kind r ⌝ }
 {
+    let none = no_tables();
     let thermal = r.thermal;
     let throttles = r.throttles;
-    let none = Throttles {
-        present: 0,
-        sets: [0; 160],
-    };
+    let no_thermal = none.thermal;
+    let no_throttles = none.throttles;
     if kind == 0x06 {
         return Tables {
             thermal: thermal,
-            throttles: none,
+            throttles: no_throttles,
         };
     }
     if kind == 0x07 {
         return Tables {
-            thermal: [0; 9],
+            thermal: no_thermal,
             throttles: throttles,
         };
     }
-    Tables {
-        thermal: [0; 9],
-        throttles: none,
-    }
+    none
 }
 
 // What was before: the change that takes `e` back, once it is put into `r`.

@@ -250,42 +250,33 @@ fn tables_in(kind: u8, b: &[u8]) -> Tables
     requires { ⌜ bodyLen kind ≤ length (now b) ⌝ }
     ensures { λ r. ⌜ r ≡ tablesIn kind (now (b .entry)) ⌝ }
 {
-    let none = Throttles {
-        present: 0,
-        sets: [0; 160],
-    };
+    let none = change::no_tables();
+    let no_thermal = none.thermal;
+    let no_throttles = none.throttles;
     if kind == 0x06 {
         let thermal = thermal_in(b);
         return Tables {
             thermal: thermal,
-            throttles: none,
+            throttles: no_throttles,
         };
     }
     if kind == 0x07 {
         let throttles = throttles_in(b);
         return Tables {
-            thermal: [0; 9],
+            thermal: no_thermal,
             throttles: throttles,
         };
     }
-    Tables {
-        thermal: [0; 9],
-        throttles: none,
-    }
+    none
 }
 
 fn bad() -> Got
     ensures { λ r. ⌜ r ≡ badGot ⌝ }
 {
+    let none = change::no_tables();
     Got {
         found: Found::Bad,
-        tables: Tables {
-            thermal: [0; 9],
-            throttles: Throttles {
-                present: 0,
-                sets: [0; 160],
-            },
-        },
+        tables: none,
     }
 }
 

@@ -235,15 +235,10 @@ fn reset_prep(role: u8, logs: [Log; 4], next: u16, d: &[u8]) -> Verdict
 pub fn plain(verdict: Verdict) -> Judged
     ensures { λ x. ⌜ x ≡ plainly verdict ⌝ }
 {
+    let none = change::no_tables();
     Judged {
         verdict: verdict,
-        tables: Tables {
-            thermal: [0; 9],
-            throttles: Throttles {
-                present: 0,
-                sets: [0; 160],
-            },
-        },
+        tables: none,
     }
 }
 

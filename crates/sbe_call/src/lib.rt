@@ -2,11 +2,8 @@
 ghost use mathlib.Core.Path.{_≡_};
 ghost use Prim.Native.Nat.{_≤_};
 ghost use lib.ListN.{length};
-ghost use Rattle.change.specs.Change.{noTables};
 ghost use Rattle.sbe_call.specs.Sbe.{rung, refusalOf, toldOf, sbeCall};
 use change::Edit;
-use change::Tables;
-use record::Throttles;
 use sbe::Verdict;
 use session::Session;
 
@@ -54,19 +51,6 @@ fn tell(verdict: Verdict, request: &[u8], reply: &mut [u8])
     }
 }
 
-// The tables of a change that has none.
-fn no_tables() -> Tables
-    ensures { λ x. ⌜ x ≡ noTables ⌝ }
-{
-    Tables {
-        thermal: [0; 9],
-        throttles: Throttles {
-            present: 0,
-            sets: [0; 160],
-        },
-    }
-}
-
 // The session stands in this function and in those it hands it to, and no deeper: each frame that isn't inlined copies it.
 pub fn sbe(s: Session, request: &[u8], reply: &mut [u8]) -> Rung
     ensures { λ x. ⌜ x ≡ sbeCall s (now (request .entry)) (now (reply .entry)) .outcome ⌝ }
@@ -83,7 +67,7 @@ pub fn sbe(s: Session, request: &[u8], reply: &mut [u8]) -> Rung
         tell(verdict, request, reply);
         return ring(0, bell, s);
     };
-    let tables = no_tables();
+    let tables = change::no_tables();
     let carried = session::carry(
         s,
         Edit {

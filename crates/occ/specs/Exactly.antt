@@ -8,7 +8,7 @@ use mathlib.Core.Logic.{_↔_, _⊎_}
 use native.Mathlib.Nat.{not-suc-le-zero, le-of-suc-le-suc}
 use native.Mathlib.Omega.{arith}
 use borrow.Author.Tests.{eqb-true, eqb-false}
-use lib.Dec.{ltb, eqb, lit<}
+use lib.Dec.{eqb, lit<}
 use lib.ListN.{length, getD, take, drop}
 use Rattle.wire.specs.Wire.{beNat}
 use Rattle.record.specs.Record.{noLog}
@@ -24,7 +24,7 @@ use Rattle.occ.specs.declared.Verdict.{Verdict}
 use Rattle.occ.specs.declared.Verdict.the-variants.{Refuse, Poll, Make}
 use Rattle.occ.specs.declared.Judged.{Judged}
 use Rattle.occ.specs.Commands.{pollVerdict, clearAt, clearVerdict, stateFits, notReady, stateVerdict, roleVerdict, capsFor, sentCaps, capsVerdict, userAllowed, userFor, userVerdict, logDue, resetFor, resetVerdict}
-use Rattle.occ.specs.Judge.{plainly, setsJudged, throttlesFor, throttlesJudged, frusJudged, thermalFor, thermalJudged, formatJudged, configureJudged, openTo, typeJudged, judgeOf}
+use Rattle.occ.specs.Judge.{plainly, countStatus, setsStatus, setsJudged, throttlesFor, throttlesJudged, frusJudged, thermalFor, thermalJudged, formatJudged, configureJudged, openTo, typeJudged, judgeOf}
 use Rattle.occ.specs.Chains.{_and_, holds, eq-holds, le-holds, eq-passes, lt-passes, le-passes, zero-passes, not-passes, unless, unless-last, if-needed, or-else, Ends, ends-unless, ends-if-needed, ends-when, ends-last, if-is, if-is-last, last-case, or-case}
 use Rattle.occ.specs.SetsExactly.{SetsOk, FrusOk, sets-exactly, frus-exactly}
 
@@ -266,31 +266,34 @@ reset-prep-exactly role logs next d =
 
 -- ---- the formats with tables beside the change
 
--- the tests that both begin with
-abbrev pub setsTested : ℕ → List ℕ → Judged → Judged
-setsTested width d j =
-    cond (ltb (length d) 3) (plainly (Refuse 0x12))
-    (cond (not (eqb (length d - 3) (getD d 2 0 * width))) (plainly (Refuse 0x12))
-    (cond (not (eqb (getD d 1 0) 0x10)) (plainly (Refuse 0x13))
-    (cond (eqb (getD d 2 0) 0) (plainly (Refuse 0x13)) j)))
-
 -- three bytes and then k more
 counted : (l k : ℕ) → ((3 ≤ l) and (l - 3 ≡ k)) ↔ (l ≡ 3 + k)
 counted l k = (λ h. omega arith, λ h. (omega arith, omega arith))
 
--- two conditions that are one
-merged : {X A B C D : Type 0} → (A and B) ↔ D → X ↔ (A and B and C) → X ↔ (D and C)
-merged e h = (λ x. let p = h .0 x in (e .0 (p .0, p .1 .0), p .1 .1), λ p. let q = e .1 (p .0) in h .1 (q .0, (q .1, p .1)))
+abbrev good : ℕ → Bool
+good status = eqb status 0
 
-sets-format-exactly : (width : ℕ) (d : List ℕ) (j : Judged) {rule : Type 0}
-    → (accepted j ≡ true) ↔ rule → (accepted (setsTested width d j) ≡ true) ↔ SetsFormatOk width d rule
+-- the tests that both begin with
+pub sets-status-exactly : (width : ℕ) (d : List ℕ) → (good (setsStatus width d) ≡ true) ↔ ((3 ≤ length d) and (length d - 3 ≡ getD d 2 0 * width) and (getD d 1 0 ≡ 0x10) and (1 ≤ getD d 2 0))
+unfolding setsStatus countStatus
+sets-status-exactly width d =
+    unless good refl (lt-passes _ _)
+    (unless good refl (not-passes (eq-holds _ _))
+    (unless good refl (not-passes (eq-holds _ _))
+    (unless-last good refl (zero-passes _) refl)))
+
+-- the first two are one, and the rule comes after them
+counted-first : {X A B C D E R : Type 0} → (A and B) ↔ E → X ↔ ((A and B and C and D) and R) → X ↔ (E and C and D and R)
+counted-first e h = (
+  λ x. let p = h .0 x in (e .0 (p .0 .0, p .0 .1 .0), (p .0 .1 .1 .0, (p .0 .1 .1 .1, p .1))),
+  λ p. let q = e .1 (p .0) in h .1 ((q .0, (q .1, (p .1 .0, p .1 .1 .0))), p .1 .1 .1),
+)
+
+sets-format-exactly : (width : ℕ) (d : List ℕ) (j : Judged) {rule : Type 0} → (accepted j ≡ true) ↔ rule
+    → (accepted (cond (not (good (setsStatus width d))) (plainly (Refuse (setsStatus width d))) j) ≡ true) ↔ SetsFormatOk width d rule
 unfolding SetsFormatOk
 sets-format-exactly width d j p =
-    merged (counted (length d) (getD d 2 0 * width))
-    (unless accepted (plain-refuses 0x12) (lt-passes _ _)
-    (unless accepted (plain-refuses 0x12) (not-passes (eq-holds _ _))
-    (unless accepted (plain-refuses 0x13) (not-passes (eq-holds _ _))
-    (unless accepted (plain-refuses 0x13) (zero-passes _) p))))
+    counted-first (counted (length d) (getD d 2 0 * width)) (unless accepted (plain-refuses (setsStatus width d)) (not-passes (sets-status-exactly width d)) p)
 
 -- the sets were read without fault
 read-exactly : {ok : Bool} (j : Judged) {rule : Type 0} → (ok ≡ true) ↔ rule

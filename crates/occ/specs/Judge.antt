@@ -21,37 +21,41 @@ use Rattle.sets.specs.Sets.{emptySets, setsOf, emptyFrus, frusOf}
 unfoldable pub plainly : Verdict → Judged
 plainly v = record { verdict = v; tables = noTables }
 
--- "0x21, 0x12, L 3+12n: version 0x10, n at least 1"
+-- "L 3+12n" and "L 3+4n: version 0x10, n at least 1": what both formats with sets begin with, n sets of a width
+unfoldable pub countStatus : ℕ → ℕ → List ℕ → ℕ
+countStatus width n d =
+    cond (not (eqb (length d - 3) (n * width))) 0x12
+    (cond (not (eqb (getD d 1 0) 0x10)) 0x13
+    (cond (eqb n 0) 0x13 0x00))
+
+unfoldable pub setsStatus : ℕ → List ℕ → ℕ
+setsStatus width d = cond (ltb (length d) 3) 0x12 (countStatus width (getD d 2 0) d)
+
+-- "0x21, 0x12": the sets replace the whole table
 unfoldable pub setsJudged : Sets → Judged
 setsJudged t =
     cond (not (t .ok)) (plainly (Refuse 0x13))
     (record { verdict = Make (SetThrottles 1); tables = record { thermal = replicate 9 0; throttles = t .table } })
 
 unfoldable pub throttlesFor : ℕ → List ℕ → Judged
-throttlesFor n d =
-    cond (not (eqb (length d - 3) (n * 12))) (plainly (Refuse 0x12))
-    (cond (not (eqb (getD d 1 0) 0x10)) (plainly (Refuse 0x13))
-    (cond (eqb n 0) (plainly (Refuse 0x13))
-    (setsJudged (setsOf n emptySets (drop 3 d)))))
+throttlesFor status d =
+    cond (not (eqb status 0)) (plainly (Refuse status)) (setsJudged (setsOf (getD d 2 0) emptySets (drop 3 d)))
 
 unfoldable pub throttlesJudged : List ℕ → Judged
-throttlesJudged d = cond (ltb (length d) 3) (plainly (Refuse 0x12)) (throttlesFor (getD d 2 0) d)
+throttlesJudged d = throttlesFor (setsStatus 12 d) d
 
--- "0x21, 0x13, L 3+4n: version 0x10, n at least 1"
+-- "0x21, 0x13": FRU types not sent become 0xFF, 0xFF, 0xFF
 unfoldable pub frusJudged : Frus → Judged
 frusJudged t =
     cond (not (t .ok)) (plainly (Refuse 0x13))
     (record { verdict = Make (SetThermal 1); tables = record { thermal = t .bytes; throttles = noThrottles } })
 
 unfoldable pub thermalFor : ℕ → List ℕ → Judged
-thermalFor n d =
-    cond (not (eqb (length d - 3) (n * 4))) (plainly (Refuse 0x12))
-    (cond (not (eqb (getD d 1 0) 0x10)) (plainly (Refuse 0x13))
-    (cond (eqb n 0) (plainly (Refuse 0x13))
-    (frusJudged (frusOf n emptyFrus (drop 3 d)))))
+thermalFor status d =
+    cond (not (eqb status 0)) (plainly (Refuse status)) (frusJudged (frusOf (getD d 2 0) emptyFrus (drop 3 d)))
 
 unfoldable pub thermalJudged : List ℕ → Judged
-thermalJudged d = cond (ltb (length d) 3) (plainly (Refuse 0x12)) (thermalFor (getD d 2 0) d)
+thermalJudged d = thermalFor (setsStatus 4 d) d
 
 -- "An unknown format answers 0x13 before its length is judged; with L = 0 it is 0x12"
 unfoldable pub formatJudged : ℕ → ℕ → ℕ → List ℕ → Judged

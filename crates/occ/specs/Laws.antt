@@ -1,12 +1,12 @@
 -- Laws of judged commands that other crates build on: what is known of a change that a command makes. Assumes nothing.
-use Prim.Native.Nat.{ℕ, _-_, _*_, _<_, _≤_}
+use Prim.Native.Nat.{ℕ, _<_, _≤_}
 use mathlib.Core.Bool.{Bool, true, cond, not}
 use mathlib.Core.Path.{_≡_, refl, sym, subst, _∙_}
 use mathlib.Core.List.{List}
 use mathlib.Core.Logic.{_⊎_, inl, inr, ⊎-elim}
 use native.Mathlib.Omega.{arith}
 use borrow.Author.Tests.{not-false, le-leb}
-use lib.Dec.{ltb, eqb}
+use lib.Dec.{eqb}
 use lib.ListN.{length, getD, drop, replicate}
 use Rattle.wire.specs.Cases.{else-eq, cond-elim, cond-cases}
 use Rattle.record.specs.Record.{noLog, noThrottles}
@@ -28,9 +28,9 @@ use Rattle.occ.specs.declared.Verdict.{Verdict}
 use Rattle.occ.specs.declared.Verdict.the-variants.{Refuse, Poll, Make}
 use Rattle.occ.specs.declared.Judged.{Judged}
 use Rattle.occ.specs.Commands.{pollVerdict, clearVerdict, stateVerdict, roleVerdict, capsVerdict, userVerdict, logDue, resetVerdict}
-use Rattle.occ.specs.Judge.{plainly, setsJudged, throttlesFor, throttlesJudged, frusJudged, thermalFor, thermalJudged, formatJudged, configureJudged, openTo, typeJudged, judgeOf}
+use Rattle.occ.specs.Judge.{plainly, setsStatus, setsJudged, throttlesFor, throttlesJudged, frusJudged, thermalFor, thermalJudged, formatJudged, configureJudged, openTo, typeJudged, judgeOf}
 use Rattle.occ.specs.Chains.{_and_, holds, eq-holds, le-holds, eq-passes, lt-passes, not-passes, unless, or-else, Ends}
-use Rattle.occ.specs.Exactly.{Pends, ClearLogOk, SetStateOk, RoleFormatOk, CapsFormatOk, ResetPrepOk, accepts, setsTested, resetMade, found-there, found-exactly, poll-exactly, clear-log-exactly, set-state-exactly, role-format-exactly, caps-format-exactly, user-cap-exactly, log-due-exactly, reset-prep-exactly}
+use Rattle.occ.specs.Exactly.{Pends, ClearLogOk, SetStateOk, RoleFormatOk, CapsFormatOk, ResetPrepOk, accepts, resetMade, found-there, found-exactly, poll-exactly, clear-log-exactly, set-state-exactly, role-format-exactly, caps-format-exactly, user-cap-exactly, log-due-exactly, reset-prep-exactly}
 
 -- ---- what is known of a change that is made
 
@@ -196,20 +196,17 @@ module _ (r : Record) (next : ℕ) (s : Sound r next) (four : length (r .logs) �
   unfolding Rightly Makes Right Known changeOk thermalOk flagOk
   set-thermal t h = (h, tt)
 
-  sets-right : (width : ℕ) (d : List ℕ) (ok : Bool) (j : Judged) → Rightly j → Rightly (setsTested width d (cond (not ok) (plainly (Refuse 0x13)) j))
-  sets-right width d ok j h =
-      cond-elim Rightly (ltb (length d) 3) (refused-right 0x12)
-      (cond-elim Rightly (not (eqb (length d - 3) (getD d 2 0 * width))) (refused-right 0x12)
-      (cond-elim Rightly (not (eqb (getD d 1 0) 0x10)) (refused-right 0x13)
-      (cond-elim Rightly (eqb (getD d 2 0) 0) (refused-right 0x13) (cond-elim Rightly (not ok) (refused-right 0x13) h))))
+  sets-right : (status : ℕ) (ok : Bool) (j : Judged) → Rightly j
+      → Rightly (cond (not (eqb status 0)) (plainly (Refuse status)) (cond (not ok) (plainly (Refuse 0x13)) j))
+  sets-right status ok j h = cond-elim Rightly (not (eqb status 0)) (refused-right status) (cond-elim Rightly (not ok) (refused-right 0x13) h)
 
   throttles-right : (d : List ℕ) → Rightly (throttlesJudged d)
   unfolding throttlesJudged throttlesFor setsJudged
-  throttles-right d = sets-right 12 d (setsOf (getD d 2 0) emptySets (drop 3 d) .ok) _ (set-throttles _ (sets-formed (getD d 2 0) (drop 3 d) .absent))
+  throttles-right d = sets-right (setsStatus 12 d) (setsOf (getD d 2 0) emptySets (drop 3 d) .ok) _ (set-throttles _ (sets-formed (getD d 2 0) (drop 3 d) .absent))
 
   thermal-right : (d : List ℕ) → Rightly (thermalJudged d)
   unfolding thermalJudged thermalFor frusJudged
-  thermal-right d = sets-right 4 d (frusOf (getD d 2 0) emptyFrus (drop 3 d) .ok) _ (set-thermal _ (frus-formed (getD d 2 0) (drop 3 d) .0))
+  thermal-right d = sets-right (setsStatus 4 d) (frusOf (getD d 2 0) emptyFrus (drop 3 d) .ok) _ (set-thermal _ (frus-formed (getD d 2 0) (drop 3 d) .0))
 
   configure-right : (state role : ℕ) (d : List ℕ) → Rightly (configureJudged state role d)
   unfolding configureJudged formatJudged

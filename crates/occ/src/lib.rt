@@ -1,7 +1,8 @@
 // Each OCC command judged against record, worked-out values and next id. Nothing here changes a record.
 ghost use mathlib.Core.Path.{_≡_};
+ghost use Prim.Native.Nat.{_≤_};
 ghost use Rattle.occ.specs.Commands.{pollVerdict, clearVerdict, stateFits, notReady, stateVerdict, roleVerdict, capsFor, capsVerdict, userAllowed, userFor, userVerdict, logDue, resetFor, resetVerdict};
-ghost use Rattle.occ.specs.Judge.{plainly, throttlesJudged, thermalJudged, configureJudged, openTo, judgeOf};
+ghost use Rattle.occ.specs.Judge.{plainly, setsStatus, throttlesJudged, thermalJudged, configureJudged, openTo, judgeOf};
 use change::Change;
 use change::Tables;
 use record::Caps;
@@ -242,22 +243,35 @@ pub fn plain(verdict: Verdict) -> Judged
     }
 }
 
+// What both formats with sets begin with: the status of `n` sets of a width, 0 where nothing is wrong.
+fn sets_status(d: &[u8], width: usize) -> u8
+    requires { ⌜ width ≤ 12 ⌝ }
+    ensures { λ x. ⌜ x ≡ setsStatus width (now (d .entry)) ⌝ }
+{
+    if d.len() < 3 {
+        return 0x12;
+    }
+    let n = d[2] as usize;
+    if d.len() - 3 != n * width {
+        return 0x12;
+    }
+    if d[1] != 0x10 {
+        return 0x13;
+    }
+    if n == 0 {
+        return 0x13;
+    }
+    0x00
+}
+
 fn throttles_format(d: &[u8]) -> Judged
     ensures { λ x. ⌜ x ≡ throttlesJudged (now (d .entry)) ⌝ }
 {
-    if d.len() < 3 {
-        return plain(Verdict::Refuse(0x12));
+    let status = sets_status(d, 12);
+    if status != 0 {
+        return plain(Verdict::Refuse(status));
     }
     let n = d[2] as usize;
-    if d.len() - 3 != n * 12 {
-        return plain(Verdict::Refuse(0x12));
-    }
-    if d[1] != 0x10 {
-        return plain(Verdict::Refuse(0x13));
-    }
-    if n == 0 {
-        return plain(Verdict::Refuse(0x13));
-    }
     let read = sets::read_sets(&d[3..], n);
     let table = read.table;
     if !read.ok {
@@ -275,19 +289,11 @@ fn throttles_format(d: &[u8]) -> Judged
 fn thermal_format(d: &[u8]) -> Judged
     ensures { λ x. ⌜ x ≡ thermalJudged (now (d .entry)) ⌝ }
 {
-    if d.len() < 3 {
-        return plain(Verdict::Refuse(0x12));
+    let status = sets_status(d, 4);
+    if status != 0 {
+        return plain(Verdict::Refuse(status));
     }
     let n = d[2] as usize;
-    if d.len() - 3 != n * 4 {
-        return plain(Verdict::Refuse(0x12));
-    }
-    if d[1] != 0x10 {
-        return plain(Verdict::Refuse(0x13));
-    }
-    if n == 0 {
-        return plain(Verdict::Refuse(0x13));
-    }
     let read = sets::read_frus(&d[3..], n);
     let bytes = read.bytes;
     if !read.ok {

@@ -1,5 +1,5 @@
 -- A change that a command of bytes makes is one that links can undo: its values pass, its numbers are of their widths. Assumes nothing.
-use Prim.Native.Nat.{ℕ, _+_, _-_, _*_, _≤_}
+use Prim.Native.Nat.{ℕ, _+_, _≤_}
 use mathlib.Core.Bool.{Bool, true, false, cond, not, false≢true}
 use mathlib.Core.Logic.{_⊎_, inl, inr, ⊎-elim}
 use mathlib.Core.Path.{_≡_, refl, sym, subst}
@@ -28,7 +28,7 @@ use Rattle.journal.specs.Laws.{CapsFit, Writable}
 use Rattle.sets.specs.Sets.{emptySets, setsOf, emptyFrus, frusOf}
 use Rattle.sets.specs.Laws.{sets-formed, frus-formed}
 use Rattle.occ.specs.Commands.{pollVerdict, clearAt, clearVerdict, stateFits, notReady, stateVerdict, roleVerdict, capsFor, sentCaps, capsVerdict, userAllowed, userFor, userVerdict, logDue, resetFor, resetVerdict}
-use Rattle.occ.specs.Judge.{plainly, setsJudged, throttlesFor, throttlesJudged, frusJudged, thermalFor, thermalJudged, formatJudged, configureJudged, openTo, typeJudged, judgeOf}
+use Rattle.occ.specs.Judge.{plainly, setsStatus, setsJudged, throttlesFor, throttlesJudged, frusJudged, thermalFor, thermalJudged, formatJudged, configureJudged, openTo, typeJudged, judgeOf}
 use Rattle.occ.specs.Laws.{Drawn, made-ok, clear-pends, reset-drawn}
 use Rattle.occ.specs.declared.Verdict.{Verdict}
 use Rattle.occ.specs.declared.Verdict.the-variants.{Refuse, Poll, Make}
@@ -146,31 +146,23 @@ module _ (d : List ℕ) (bytes : Bytes d) where
   unfolding Shaped
   made-shape t ch h = make t ch h
 
-  -- n sets of a width, each of which may be refused
-  sets-shape : (width : ℕ) (ok : Bool) (j : Judged) → Shaped j
-      → Shaped (cond (ltb (length d) 3) (plainly (Refuse 0x12))
-      (cond (not (eqb (length d - 3) (getD d 2 0 * width))) (plainly (Refuse 0x12))
-      (cond (not (eqb (getD d 1 0) 0x10)) (plainly (Refuse 0x13))
-      (cond (eqb (getD d 2 0) 0) (plainly (Refuse 0x13))
-      (cond (not ok) (plainly (Refuse 0x13)) j)))))
-  sets-shape width ok j h =
-      cond-elim Shaped (ltb (length d) 3) (refuse-shape 0x12)
-      (cond-elim Shaped (not (eqb (length d - 3) (getD d 2 0 * width))) (refuse-shape 0x12)
-      (cond-elim Shaped (not (eqb (getD d 1 0) 0x10)) (refuse-shape 0x13)
-      (cond-elim Shaped (eqb (getD d 2 0) 0) (refuse-shape 0x13) (cond-elim Shaped (not ok) (refuse-shape 0x13) h))))
+  -- sets that are refused by their count, or by one of them
+  sets-shape : (status : ℕ) (ok : Bool) (j : Judged) → Shaped j
+      → Shaped (cond (not (eqb status 0)) (plainly (Refuse status)) (cond (not ok) (plainly (Refuse 0x13)) j))
+  sets-shape status ok j h = cond-elim Shaped (not (eqb status 0)) (refuse-shape status) (cond-elim Shaped (not ok) (refuse-shape 0x13) h)
 
   throttles-shape : Shaped (throttlesJudged d)
   unfolding throttlesJudged throttlesFor setsJudged
   throttles-shape =
       let t = setsOf (getD d 2 0) emptySets (drop 3 d) in
       let f = sets-formed (getD d 2 0) (drop 3 d) in
-      sets-shape 12 (t .ok) _ (made-shape (record { thermal = replicate 9 0; throttles = t .table }) (SetThrottles 1) (omega (arith, f .small), f .long, refl))
+      sets-shape (setsStatus 12 d) (t .ok) _ (made-shape (record { thermal = replicate 9 0; throttles = t .table }) (SetThrottles 1) (omega (arith, f .small), f .long, refl))
 
   thermal-shape : Shaped (thermalJudged d)
   unfolding thermalJudged thermalFor frusJudged
   thermal-shape =
       let t = frusOf (getD d 2 0) emptyFrus (drop 3 d) in
-      sets-shape 4 (t .ok) _ (made-shape (record { thermal = t .bytes; throttles = noThrottles }) (SetThermal 1) (frus-formed (getD d 2 0) (drop 3 d) .1, refl))
+      sets-shape (setsStatus 4 d) (t .ok) _ (made-shape (record { thermal = t .bytes; throttles = noThrottles }) (SetThermal 1) (frus-formed (getD d 2 0) (drop 3 d) .1, refl))
 
   configure-shape : (state role : ℕ) → Shaped (configureJudged state role d)
   unfolding configureJudged formatJudged

@@ -1,5 +1,5 @@
 -- A command judged in both worlds: the same verdict but for ids, or the ids ended in the second. Assumes nothing.
-use Prim.Native.Nat.{ℕ, suc, _-_, _*_, _≤_, _<_}
+use Prim.Native.Nat.{ℕ, suc, _≤_, _<_}
 use mathlib.Core.Bool.{Bool, true, false, cond, not}
 use mathlib.Core.Logic.{_⊎_, inl, inr}
 use mathlib.Core.Path.{_≡_, refl, sym, ap, ap₂, subst, _∙_}
@@ -22,7 +22,7 @@ use Rattle.sets.specs.Sets.{emptySets, setsOf, emptyFrus, frusOf}
 use Rattle.sets.specs.declared.Sets.{Sets}
 use Rattle.sets.specs.declared.Frus.{Frus}
 use Rattle.occ.specs.Commands.{pollVerdict, clearAt, clearVerdict, stateFits, notReady, stateVerdict, roleVerdict, capsFor, sentCaps, capsVerdict, userAllowed, userFor, userVerdict, logDue, resetFor, resetVerdict}
-use Rattle.occ.specs.Judge.{plainly, setsJudged, throttlesFor, throttlesJudged, frusJudged, thermalFor, thermalJudged, formatJudged, configureJudged, openTo, typeJudged, judgeOf}
+use Rattle.occ.specs.Judge.{plainly, setsStatus, setsJudged, throttlesFor, throttlesJudged, frusJudged, thermalFor, thermalJudged, formatJudged, configureJudged, openTo, typeJudged, judgeOf}
 use Rattle.occ.specs.declared.Verdict.{Verdict}
 use Rattle.occ.specs.declared.Verdict.the-variants.{Refuse, Poll, Make}
 use Rattle.occ.specs.declared.Judged.{Judged}
@@ -108,17 +108,8 @@ module _ (k : ℕ) (low : 1 ≤ k) where
   refused-fixed : (status : ℕ) → FixedJudged (plainly (Refuse status))
   refused-fixed status = plain-fixed (Refuse status) (refusal status)
 
-  -- n sets of a width
-  sets-fixed : (width : ℕ) (d : List ℕ) (j : Judged) → FixedJudged j
-      → FixedJudged (cond (ltb (length d) 3) (plainly (Refuse 0x12))
-      (cond (not (eqb (length d - 3) (getD d 2 0 * width))) (plainly (Refuse 0x12))
-      (cond (not (eqb (getD d 1 0) 0x10)) (plainly (Refuse 0x13))
-      (cond (eqb (getD d 2 0) 0) (plainly (Refuse 0x13)) j))))
-  sets-fixed width d j h =
-      cond-elim FixedJudged (ltb (length d) 3) (refused-fixed 0x12)
-      (cond-elim FixedJudged (not (eqb (length d - 3) (getD d 2 0 * width))) (refused-fixed 0x12)
-      (cond-elim FixedJudged (not (eqb (getD d 1 0) 0x10)) (refused-fixed 0x13)
-      (cond-elim FixedJudged (eqb (getD d 2 0) 0) (refused-fixed 0x13) h)))
+  sets-fixed : (status : ℕ) (j : Judged) → FixedJudged j → FixedJudged (cond (not (eqb status 0)) (plainly (Refuse status)) j)
+  sets-fixed status j h = cond-elim FixedJudged (not (eqb status 0)) (refused-fixed status) h
 
   pairs-fixed : (t : Sets) → FixedJudged (setsJudged t)
   unfolding setsJudged shiftedJudged shiftedVerdict shiftedChange
@@ -130,11 +121,11 @@ module _ (k : ℕ) (low : 1 ≤ k) where
 
   throttles-fixed : (d : List ℕ) → FixedJudged (throttlesJudged d)
   unfolding throttlesJudged throttlesFor
-  throttles-fixed d = sets-fixed 12 d _ (pairs-fixed (setsOf (getD d 2 0) emptySets (drop 3 d)))
+  throttles-fixed d = sets-fixed (setsStatus 12 d) _ (pairs-fixed (setsOf (getD d 2 0) emptySets (drop 3 d)))
 
   thermal-fixed : (d : List ℕ) → FixedJudged (thermalJudged d)
   unfolding thermalJudged thermalFor
-  thermal-fixed d = sets-fixed 4 d _ (frus-fixed (frusOf (getD d 2 0) emptyFrus (drop 3 d)))
+  thermal-fixed d = sets-fixed (setsStatus 4 d) _ (frus-fixed (frusOf (getD d 2 0) emptyFrus (drop 3 d)))
 
   configure-fixed : (state role : ℕ) (d : List ℕ) → FixedJudged (configureJudged state role d)
   unfolding configureJudged formatJudged

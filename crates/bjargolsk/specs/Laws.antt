@@ -2,28 +2,21 @@
 -- last one returned. Assumes nothing.
 use Prim.Native.Nat.{ℕ, _*_, _+_, _%_}
 use mathlib.Core.Bool.{not}
-use mathlib.Core.Path.{_≡_, refl, sym, ap, _∙_}
-use native.Mathlib.Omega.{arith}
+use mathlib.Core.Path.{_≡_, refl, ap, _∙_}
 use mathlib.Core.List.{List}
 use borrow.Author.Tests.{eqb-true, not-false}
 use lib.Arith.{digits-mod}
 use lib.Dec.{lit<, eqb}
 use lib.ListN.{length}
-use Rattle.wire.specs.Cases.{cond-cases, else-ne}
+use Rattle.wire.specs.Cases.{cond-cases}
 use Rattle.wire.specs.Laws.{Bytes}
-use Rattle.record.specs.Record.{freshRecord, limitOf, workedOf}
-use Rattle.session.specs.Session.{freshSession}
 use Rattle.session.specs.declared.Session.{Session}
-use Rattle.links.specs.Typed.{typed-fresh}
 use Rattle.image.specs.Image.{imageOf, sessionOf}
-use Rattle.image.specs.Laws.{Typed, session-image, image-session}
-use Rattle.occ_call.specs.Occ.{occCall}
+use Rattle.image.specs.Laws.{image-session}
 use Rattle.occ_call.specs.Came as occ
-use Rattle.sbe_call.specs.Sbe.{sbeCall}
 use Rattle.sbe_call.specs.Came as sbe
-use Rattle.undo_call.specs.Undo.{undoCall}
 use Rattle.undo_call.specs.Came as undo
-use Rattle.bjargolsk.specs.Calls.{packed, answerIn, Left, Replied, freshOn, undone, undoOn, occAnswered, occOn, sbeAnswered, sbeOn}
+use Rattle.bjargolsk.specs.Calls.{packed, answerIn, Left, Replied, undone, undoOn, occAnswered, occOn, sbeAnswered, sbeOn}
 
 -- a call that answered 0 has answer 0 in its result
 answered-zero : (n high : ℕ) → n ≡ 0 → answerIn (packed n high) ≡ 0
@@ -61,28 +54,3 @@ module _ (b : List ℕ) (bytes : Bytes b) where
       (λ e h.
       let k = undo.refusal-keeps (sessionOf b) _ (undo.came (sessionOf b)) (λ z. h (answered-zero _ _ z)) in
       same-image _ (eqb-true (length b) 2287 (not-false _ e)) (k .0))
-
--- ---- one call after the other; `Typed` says what the types of a session's fields say, and `image::typed` proves it of every value
-
-typed-start : Typed freshSession
-unfolding freshSession workedOf limitOf freshRecord
-typed-start = record { session = record { held = typed-fresh; journal = refl; next = omega arith; used = omega arith }; limit = omega arith }
-
-module _ (b : List ℕ) (long : length b ≡ 2287) where
-  pub fresh-next : sessionOf (freshOn b .image) ≡ freshSession
-  unfolding freshOn
-  fresh-next = sym (ap (λ (q : Left). sessionOf (q .image)) (else-ne _ _ long refl)) ∙ session-image freshSession typed-start
-
-  pub occ-next : (sender : ℕ) (c d : List ℕ) → Typed (occCall (sessionOf b) sender c d .outcome .session)
-      → sessionOf (occOn b sender c d .image) ≡ occCall (sessionOf b) sender c d .outcome .session
-  unfolding occOn occAnswered
-  occ-next sender c d t = sym (ap (λ (q : Replied). sessionOf (q .image)) (else-ne _ _ long refl)) ∙ session-image _ t
-
-  pub sbe-next : (r d : List ℕ) → Typed (sbeCall (sessionOf b) r d .outcome .session)
-      → sessionOf (sbeOn b r d .image) ≡ sbeCall (sessionOf b) r d .outcome .session
-  unfolding sbeOn sbeAnswered
-  sbe-next r d t = sym (ap (λ (q : Replied). sessionOf (q .image)) (else-ne _ _ long refl)) ∙ session-image _ t
-
-  pub undo-next : Typed (undoCall (sessionOf b) .session) → sessionOf (undoOn b .image) ≡ undoCall (sessionOf b) .session
-  unfolding undoOn undone
-  undo-next t = sym (ap (λ (q : Left). sessionOf (q .image)) (else-ne _ _ long refl)) ∙ session-image _ t

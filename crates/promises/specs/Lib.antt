@@ -8,6 +8,7 @@ pub mod Asked
 pub mod Ids
 pub mod Demand3
 pub mod NoTrace
+pub mod Lent
 pub mod Shifted
 pub mod Later
 pub mod Judgements

@@ -3,7 +3,7 @@
 use Prim.Native.Nat.{ℕ, _+_}
 use mathlib.Core.Bool.{true}
 use mathlib.Core.Logic.{_↔_, _⊎_}
-use mathlib.Core.Path.{_≡_, sym, _∙_}
+use mathlib.Core.Path.{_≡_, sym, ap, _∙_}
 use mathlib.Core.List.{List, []}
 use native.Mathlib.Omega.{arith}
 use lib.ListN.{length, getD}
@@ -35,6 +35,9 @@ use Rattle.links.specs.Typed.{TypedSession}
 use Rattle.promises.specs.WellFormed.{occ-formed, sbe-formed, undo-formed}
 use Rattle.promises.specs.Later.{Wish, AsIf}
 use Rattle.promises.specs.NoTrace.{withNext, trace-free, no-log-no-trace, later-alike}
+use Rattle.image.specs.Image.{imageOf}
+use Rattle.bjargolsk.specs.Calls.{freshOn}
+use Rattle.promises.specs.Lent.{lent, carriedOver, lentRun, fresh-image, lent-run, lent-next}
 use Rattle.promises.specs.Examples.{All, holds, table, examples}
 
 -- ---- demand 1: a refusal changes nothing, for every session, right or damaged
@@ -126,6 +129,16 @@ no-trace-later cs b c bc e d =
 
 pub no-id-twice : (cs : List Call) → AllOfBytes cs → idsMade (run (start freshSession) cs .marks) ≡ countdown (logsMade (run (start freshSession) cs .marks))
 no-id-twice cs b = ids-in-order freshRecord cs (start freshSession) b fresh-start
+
+-- ---- the same for C: an image made fresh, and any calls on it; it stays the image of the session, and each call's result and reply are the session's
+
+pub same-on-images : (b : List ℕ) → length b ≡ 2287 → (cs : List Call) → AllOfBytes cs
+    → (lentRun (freshOn b .image) cs ≡ imageOf (after cs .session)) × ((c : Call) → lent (imageOf (after cs .session)) c ≡ carriedOver c (said (after cs .session) c))
+unfolding start
+same-on-images b long cs bs = (
+  ap (λ (i : List ℕ). lentRun i cs) (fresh-image b long) ∙ lent-run freshRecord cs (start freshSession) bs fresh-start,
+  lent-next freshRecord (after cs) (invariant freshRecord cs (start freshSession) bs fresh-start),
+)
 
 -- ---- the ten worked examples of document 01, at the bytes
 

@@ -8,138 +8,13 @@ use orders::Call;
 use orders::Order;
 use orders::View;
 use orders::Word;
-use orders::Wrong;
 use session::Session;
 
-// ---- answers
-
-// Every answer is written at once.
-fn tell(out: &mut [u8], at: usize) {
-    let end = text::put(out, at, b"\n");
-    io::write_all(STDOUT_FILENO, &out[..end]);
-}
-
-fn complain(out: &mut [u8], what: &[u8], column: usize) {
-    let mark = text::put(out, 0, b"? ");
-    let words = text::put(out, mark, what);
-    let place = text::put(out, words, b" at column ");
-    let end = text::put_decimal(out, place, column as u64);
-    tell(out, end);
-}
-
-fn tell_text(out: &mut [u8], s: &[u8]) {
-    let end = text::put(out, 0, s);
-    tell(out, end);
-}
-
-fn tell_wrong(out: &mut [u8], what: Wrong, column: usize) {
-    match what {
-        Wrong::Long => complain(out, b"line over 32768 bytes", column),
-        Wrong::Word => complain(out, b"unknown word", column),
-        Wrong::More => complain(out, b"nothing more expected", column),
-        Wrong::Digit => complain(out, b"hex digit expected", column),
-        Wrong::Over => complain(out, b"command over 8192 bytes", column),
-        Wrong::Image => tell_text(out, b"? image must be 2287 bytes"),
-    }
-}
-
-// An OCC reply has 7 bytes and the data bytes that its length field counts.
-fn reply_len(reply: &[u8]) -> usize
-    ensures { λ r. ⌜ Counts r (now (reply .entry)) ⌝ }
+// The first `n` bytes are written at once.
+fn tell(out: &[u8], n: usize)
+    requires { ⌜ Counts n (now out) ⌝ }
 {
-    if reply.len() < 5 {
-        return 0;
-    }
-    let n = 7 + wire::be16(reply, 3) as usize;
-    if reply.len() < n {
-        return 0;
-    }
-    n
-}
-
-// The session answer, and after 0 the reply.
-fn tell_reply(out: &mut [u8], answer: u8, reply: &[u8]) {
-    let at = text::put_decimal(out, 0, answer as u64);
-    if answer != 0 {
-        tell(out, at);
-        return;
-    }
-    let n = reply_len(reply);
-    let end = text::put_bytes(out, at, &reply[..n]);
-    tell(out, end);
-}
-
-// The session answer, and after 0 the response and the doorbell's four digits.
-fn tell_rung(out: &mut [u8], answer: u8, response: &[u8], bell: u16) {
-    let at = text::put_decimal(out, 0, answer as u64);
-    if answer != 0 {
-        tell(out, at);
-        return;
-    }
-    let bytes = text::put_bytes(out, at, response);
-    let name = text::put(out, bytes, b" bell ");
-    let mut digits = [0u8; 2];
-    wire::put_be(&mut digits, 0, 2, bell as u64);
-    let end = text::put_hexes(out, name, &digits);
-    tell(out, end);
-}
-
-// The session answer, and after 0 the kind.
-fn tell_undone(out: &mut [u8], answer: u8, kind: u8) {
-    let at = text::put_decimal(out, 0, answer as u64);
-    if answer != 0 {
-        tell(out, at);
-        return;
-    }
-    let blank = text::put(out, at, b" ");
-    let end = text::put_hex(out, blank, kind);
-    tell(out, end);
-}
-
-fn tell_image(out: &mut [u8], bytes: &[u8]) {
-    let name = text::put(out, 0, b"image ");
-    let end = text::put_hexes(out, name, bytes);
-    tell(out, end);
-}
-
-// The words for calls and for the session as bytes.
-fn put_calls(out: &mut [u8]) -> usize {
-    let a = text::put(
-        out,
-        0,
-        b"occ SS BYTES      an OCC command from sender SS (10 HTMGT, 20 BMC)\n",
-    );
-    let b = text::put(
-        out,
-        a,
-        b"sbe BYTES         an SBE mailbox request of 32 bytes\n",
-    );
-    let c = text::put(out, b, b"undo              take the newest change back\n");
-    let d = text::put(
-        out,
-        c,
-        b"fresh             begin again with a fresh session\n",
-    );
-    let e = text::put(out, d, b"image             the session as 2287 bytes\n");
-    text::put(
-        out,
-        e,
-        b"load BYTES        go on with the session of such an image\n",
-    )
-}
-
-fn tell_help(out: &mut [u8]) {
-    let calls = put_calls(out);
-    let a = text::put(
-        out,
-        calls,
-        b"send SS TT DATA   as occ: a packet of type TT, framed for you\n",
-    );
-    let b = text::put(out, a, b"show              the session for a person\n");
-    let c = text::put(out, b, b"journal           the journal's entries\n");
-    let d = text::put(out, c, b"help              these words\n");
-    let end = text::put(out, d, b".");
-    tell(out, end);
+    io::write_all(STDOUT_FILENO, &out[..n]);
 }
 
 // ---- calls
@@ -148,7 +23,8 @@ fn occ(s: Session, sender: u8, command: &[u8], out: &mut [u8]) -> Session {
     let mut reply = io::buffer();
     let done = occ_call::occ(s, sender, command, &mut reply);
     let after = done.session;
-    tell_reply(out, done.answer, &reply);
+    let n = answers::reply(out, done.answer, &reply);
+    tell(out, n);
     after
 }
 
@@ -177,25 +53,32 @@ fn sbe(s: Session, request: &[u8], out: &mut [u8]) -> Session {
     let mut response = [0u8; 32];
     let done = sbe_call::sbe(s, request, &mut response);
     let after = done.session;
-    tell_rung(out, done.answer, &response, done.bell);
+    let n = answers::rung(out, done.answer, &response, done.bell);
+    tell(out, n);
     after
 }
 
 fn undo(s: Session, out: &mut [u8]) -> Session {
     let done = undo_call::undo(s);
     let after = done.session;
-    tell_undone(out, done.answer, done.kind);
+    let n = answers::undone(out, done.answer, done.kind);
+    tell(out, n);
     after
 }
 
-fn fresh(out: &mut [u8]) -> Session {
-    tell_text(out, b"ok");
-    session::fresh()
+fn tell_ok(out: &mut [u8]) {
+    let n = answers::line(out, b"ok");
+    tell(out, n);
 }
 
 fn load(sent: &[u8], out: &mut [u8]) -> Session {
-    tell_text(out, b"ok");
+    tell_ok(out);
     image::read(sent)
+}
+
+fn fresh(out: &mut [u8]) -> Session {
+    tell_ok(out);
+    session::fresh()
 }
 
 // `sent` holds the bytes as `orders` puts them.
@@ -221,42 +104,38 @@ fn carry_out(
 
 // ---- views
 
-fn save(s: Session, out: &mut [u8]) {
+fn put_image(s: Session, out: &mut [u8]) -> usize
+    ensures { λ r. ⌜ Counts r (now (out .exit)) ⌝ }
+{
     let mut bytes = [0u8; orders::IMAGE];
     image::write(s, &mut bytes);
-    tell_image(out, &bytes);
+    answers::image(out, &bytes)
 }
 
-fn list(j: &[u8], used: usize, out: &mut [u8]) -> usize {
-    if j.len() < used {
-        return text::put(out, 0, b"too long\n");
-    }
-    listing::list(&j[..used], out)
-}
-
-fn tell_journal(j: &[u8], used: usize, out: &mut [u8]) {
-    let lines = list(j, used, out);
-    let end = text::put(out, lines, b".");
-    tell(out, end);
-}
-
-fn show(s: Session, out: &mut [u8]) {
+fn put_show(s: Session, out: &mut [u8]) -> usize
+    ensures { λ r. ⌜ Counts r (now (out .exit)) ⌝ }
+{
     let held = s.held;
     let worked = s.worked;
     let j = s.journal;
-    let end = show::put_session(out, held, worked, s.next, &j, s.used as usize);
-    io::write_all(STDOUT_FILENO, &out[..end]);
+    show::put_session(out, held, worked, s.next, &j, s.used as usize)
 }
 
-fn look(s: Session, view: View, out: &mut [u8]) {
+fn put_journal(s: Session, out: &mut [u8]) -> usize
+    ensures { λ r. ⌜ Counts r (now (out .exit)) ⌝ }
+{
+    let j = s.journal;
+    answers::journal(out, &j, s.used as usize)
+}
+
+fn look(s: Session, view: View, out: &mut [u8]) -> usize
+    ensures { λ r. ⌜ Counts r (now (out .exit)) ⌝ }
+{
     match view {
-        View::Image => save(s, out),
-        View::Show => show(s, out),
-        View::Journal => {
-            let j = s.journal;
-            tell_journal(&j, s.used as usize, out)
-        }
-        View::Help => tell_help(out),
+        View::Image => put_image(s, out),
+        View::Show => put_show(s, out),
+        View::Journal => put_journal(s, out),
+        View::Help => answers::help(out),
     }
 }
 
@@ -269,11 +148,13 @@ fn obey(s: Session, order: Order, sequence: u8, sent: &mut [u8], out: &mut [u8])
     match word {
         Word::Call(call) => carry_out(s, call, order.count, sequence, sent, out),
         Word::View(view) => {
-            look(s, view, out);
+            let n = look(s, view, out);
+            tell(out, n);
             s
         }
         Word::Wrong(what) => {
-            tell_wrong(out, what, order.column);
+            let n = answers::complaint(out, what, order.column);
+            tell(out, n);
             s
         }
         Word::Nothing => s,

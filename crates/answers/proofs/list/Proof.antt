@@ -1,10 +1,10 @@
--- `standin::list` meets its contract: the used part is no longer than the journal. Assumes nothing.
+-- `answers::list` meets its contract: the used part is no longer than the journal. Assumes nothing.
 use lib.Seq.{length-take-le}
 use mathlib.Core.Path.{sym}
 use native.Mathlib.Omega.{arith}
 use borrow.Author.Needs.{needs}
-use Rattle.standin.proofs.list.Statement.{statement}
-use Rattle.standin.proofs.list.Tie as tie
+use Rattle.answers.proofs.list.Statement.{statement}
+use Rattle.answers.proofs.list.Tie as tie
 
 slice-aggregate-put : tie.Need-slice-aggregate-put
 slice-aggregate-put c = search needs

@@ -1,13 +1,17 @@
 // Text of lines: reading words and bytes in hex, and putting text into a lent buffer. Each `put` writes from `at` on and gives the place
 // past it; what doesn't fit is left out whole, so no buffer is too short to lend.
+ghost use mathlib.Core.Path.{_≡_};
 ghost use Prim.Native.Nat.{_≤_};
 ghost use lib.ListN.{length};
 ghost use Rattle.io.specs.Counts.{Counts};
+ghost use Rattle.text.specs.Text.{blank, inWord, other, leading, pastBlanks, digitOf, digitAt, run, Takes};
 
 // ---- reading
 
 // A space or a tab.
-pub fn is_blank(c: u8) -> bool {
+pub fn is_blank(c: u8) -> bool
+    ensures { λ r. ⌜ r ≡ blank c ⌝ }
+{
     if c == b' ' {
         return true;
     }
@@ -16,8 +20,12 @@ pub fn is_blank(c: u8) -> bool {
 
 // The first place from `from` on that holds no blank, or the end.
 pub fn past_blanks(s: &[u8], from: usize) -> usize
+    ensures { λ r. ⌜ r ≡ pastBlanks (now (s .entry)) from ⌝ }
     ensures { λ r. ⌜ r ≤ length (now (s .entry)) ⌝ }
 {
+    if s.len() < from {
+        return s.len();
+    }
     let mut i = from;
     while i < s.len() {
         if !is_blank(s[i]) {
@@ -25,11 +33,12 @@ pub fn past_blanks(s: &[u8], from: usize) -> usize
         }
         i += 1;
     }
-    s.len()
+    i
 }
 
 // How many bytes stand before the first blank.
 pub fn word_len(s: &[u8]) -> usize
+    ensures { λ r. ⌜ r ≡ leading inWord (now (s .entry)) ⌝ }
     ensures { λ r. ⌜ Counts r (now (s .entry)) ⌝ }
 {
     let mut i = 0;
@@ -44,6 +53,7 @@ pub fn word_len(s: &[u8]) -> usize
 
 // The first place of `c`, or the length.
 pub fn find(s: &[u8], c: u8) -> usize
+    ensures { λ r. ⌜ r ≡ leading (other c) (now (s .entry)) ⌝ }
     ensures { λ r. ⌜ Counts r (now (s .entry)) ⌝ }
 {
     let mut i = 0;
@@ -73,6 +83,7 @@ pub fn same(a: &[u8], b: &[u8]) -> bool {
 
 // The number that a hex digit of either case stands for, 16 where it is none.
 pub fn digit(c: u8) -> u8
+    ensures { λ r. ⌜ r ≡ digitOf c ⌝ }
     ensures { λ r. ⌜ r ≤ 16 ⌝ }
 {
     if c < b'0' {
@@ -98,6 +109,7 @@ pub fn digit(c: u8) -> u8
 
 // The digit at a place; there is none past the end.
 fn digit_at(s: &[u8], at: usize) -> u8
+    ensures { λ r. ⌜ r ≡ digitAt (now (s .entry)) at ⌝ }
     ensures { λ r. ⌜ r ≤ 16 ⌝ }
 {
     if at < s.len() {
@@ -121,6 +133,7 @@ pub struct Taken {
 
 // Reads bytes of two hex digits each, blanks before, between and after them, from `from` to the end of `s`, into `out`.
 pub fn take_bytes(s: &[u8], from: usize, out: &mut [u8]) -> Taken
+    ensures { λ r. ⌜ Takes (run (now (s .entry)) from (length (now (out .entry)))) (now (out .entry)) (now (out .exit)) (r .count) (r .fault) ⌝ }
     ensures { λ r. ⌜ Counts (r .count) (now (out .exit)) ⌝ }
 {
     let mut n = 0;

@@ -1,6 +1,5 @@
 -- `standin::gather` meets its contract: what is copied fits behind what is held. Assumes nothing.
 use lib.ListN.{length-take}
--- `standin::gather` meets its contract: what is copied fits behind what is held. Assumes nothing.
 use lib.Seq.{length-take-le}
 use mathlib.Core.Path.{sym}
 use native.Mathlib.Omega.{arith}

@@ -6,10 +6,10 @@ use Rattle.standin.proofs.serve.Statement.{statement}
 use Rattle.standin.proofs.serve.Tie as tie
 
 abbrev Inv-loop : tie.InvT-loop
-Inv-loop piece₀ line₀ out₀ bench₀ held₀ left₀ piece line out bench held left = (length piece ≡ length piece₀) × (length line ≡ length line₀) × (length out ≡ length out₀)
+Inv-loop piece₀ line₀ sent₀ out₀ bench₀ held₀ left₀ piece line sent out bench held left = (length piece ≡ length piece₀) × (length line ≡ length line₀) × (length sent ≡ length sent₀) × (length out ≡ length out₀)
 
 abbrev μ-loop : tie.MeasureT-loop
-μ-loop piece₀ line₀ out₀ bench₀ held₀ left₀ piece line out bench held left = left
+μ-loop piece₀ line₀ sent₀ out₀ bench₀ held₀ left₀ piece line sent out bench held left = left
 
 fresh-requires : tie.Need-fresh-requires Inv-loop μ-loop
 fresh-requires c κs = search needs
@@ -38,6 +38,9 @@ same-length-2 c = search needs
 same-length-3 : tie.Need-same-length-3 Inv-loop μ-loop
 same-length-3 c = search needs
 
+same-length-4 : tie.Need-same-length-4 Inv-loop μ-loop
+same-length-4 c = search needs
+
 returns : tie.Need-returns Inv-loop μ-loop
 returns c = search needs
 
@@ -56,14 +59,17 @@ loop-less c = search needs
 loop-again : tie.Need-loop-again Inv-loop μ-loop
 loop-again c = search needs
 
-same-length-4 : tie.Need-same-length-4 Inv-loop μ-loop
-same-length-4 c = search needs
-
 same-length-5 : tie.Need-same-length-5 Inv-loop μ-loop
 same-length-5 c = search needs
 
 same-length-6 : tie.Need-same-length-6 Inv-loop μ-loop
 same-length-6 c = search needs
+
+same-length-7 : tie.Need-same-length-7 Inv-loop μ-loop
+same-length-7 c = search needs
+
+same-length-8 : tie.Need-same-length-8 Inv-loop μ-loop
+same-length-8 c = search needs
 
 returns-2 : tie.Need-returns-2 Inv-loop μ-loop
 returns-2 c = search needs
@@ -83,13 +89,15 @@ serve-spec =
     same-length
     same-length-2
     same-length-3
+    same-length-4
     returns
     slice-reshare-prefix-serve-piece
     slice-aggregate-serve-piece
     serve-piece-requires
     loop-less
     loop-again
-    same-length-4
     same-length-5
     same-length-6
+    same-length-7
+    same-length-8
     returns-2)

@@ -1,5 +1,6 @@
 -- `standin::serve_piece` meets its contract: the lengths are kept; each turn goes past one line end at least. Assumes nothing.
 use mathlib.Core.Path.{_≡_}
+use native.Mathlib.Omega.{arith}
 use borrow.Author.Needs.{needs}
 use lib.ListN.{length}
 use Prim.Native.Nat.{_-_}
@@ -7,10 +8,10 @@ use Rattle.standin.proofs.serve_piece.Statement.{statement}
 use Rattle.standin.proofs.serve_piece.Tie as tie
 
 abbrev Inv-loop : tie.InvT-loop
-Inv-loop before piece line₀ out₀ bench₀ held₀ at₀ line out bench held at = (length line ≡ length line₀) × (length out ≡ length out₀)
+Inv-loop before piece line₀ sent₀ out₀ bench₀ held₀ at₀ line sent out bench held at = (length line ≡ length line₀) × (length sent ≡ length sent₀) × (length out ≡ length out₀)
 
 abbrev μ-loop : tie.MeasureT-loop
-μ-loop before piece line₀ out₀ bench₀ held₀ at₀ line out bench held at = length piece - at
+μ-loop before piece line₀ sent₀ out₀ bench₀ held₀ at₀ line sent out bench held at = length piece - at
 
 loop-holds : tie.Need-loop-holds Inv-loop μ-loop
 loop-holds c = search needs
@@ -39,6 +40,9 @@ same-length c = search needs
 same-length-2 : tie.Need-same-length-2 Inv-loop μ-loop
 same-length-2 c = search needs
 
+same-length-3 : tie.Need-same-length-3 Inv-loop μ-loop
+same-length-3 c = search needs
+
 returns : tie.Need-returns Inv-loop μ-loop
 returns c = search needs
 
@@ -61,13 +65,17 @@ loop-less : tie.Need-loop-less Inv-loop μ-loop
 loop-less c = search needs
 
 loop-again : tie.Need-loop-again Inv-loop μ-loop
-loop-again c = search needs
-
-same-length-3 : tie.Need-same-length-3 Inv-loop μ-loop
-same-length-3 c = search needs
+loop-again c = let l = c .before .before .before .before .before .before .before .before .before .before .before .before .before .before .before .before .before .loop in
+    (omega (arith, l .inv .0), omega (arith, l .inv .1), omega (arith, l .inv .2))
 
 same-length-4 : tie.Need-same-length-4 Inv-loop μ-loop
 same-length-4 c = search needs
+
+same-length-5 : tie.Need-same-length-5 Inv-loop μ-loop
+same-length-5 c = search needs
+
+same-length-6 : tie.Need-same-length-6 Inv-loop μ-loop
+same-length-6 c = search needs
 
 returns-2 : tie.Need-returns-2 Inv-loop μ-loop
 returns-2 c = search needs
@@ -87,6 +95,7 @@ serve-piece-spec =
     gather-requires
     same-length
     same-length-2
+    same-length-3
     returns
     add-at
     add-at-2
@@ -95,6 +104,7 @@ serve-piece-spec =
     answer-requires
     loop-less
     loop-again
-    same-length-3
     same-length-4
+    same-length-5
+    same-length-6
     returns-2)

@@ -1,27 +1,33 @@
--- `text::find` meets its contract: the place is never past the end; what is left falls. Assumes nothing.
+-- `text::find` meets its contract: what stands before the place and what is counted from it on are the whole. Assumes nothing.
+use borrow.Author.Tests.{eq-eqb, ne-eqb}
+use Rattle.text.specs.Text.{other, leading}
+use Rattle.text.proofs.Turns.{leading-more, leading-stop, leading-end}
+use Prim.Native.Nat.{_≤_, _+_, _-_}
+use lib.ListN.{length, drop}
+use native.Mathlib.Nat.{zero-add}
+use mathlib.Core.Bool.{not}
+use mathlib.Core.Path.{_≡_, sym, ap, _∙_}
 use lib.Seq.{length-take-le}
-use mathlib.Core.Path.{sym}
 use native.Mathlib.Omega.{arith}
 use borrow.Author.Needs.{needs}
-use lib.ListN.{length}
-use Prim.Native.Nat.{_≤_, _-_}
 use Rattle.text.proofs.find.Statement.{statement}
 use Rattle.text.proofs.find.Tie as tie
 
 abbrev Inv-loop : tie.InvT-loop
-Inv-loop s c i₀ i = i ≤ length s
+Inv-loop s c i₀ i = (i ≤ length s) × (i + leading (other c) (drop i s) ≡ leading (other c) s)
 
 abbrev μ-loop : tie.MeasureT-loop
 μ-loop s c i₀ i = length s - i
 
 loop-holds : tie.Need-loop-holds Inv-loop μ-loop
-loop-holds c = search needs
+loop-holds c = (search needs, zero-add _)
 
 shared-slice-read-if1 : tie.Need-shared-slice-read-if1 Inv-loop μ-loop
 shared-slice-read-if1 c = search needs
 
 returns : tie.Need-returns Inv-loop μ-loop
-returns c = (omega arith, sym (length-take-le _ _ (omega arith)))
+unfolding other
+returns c = (leading-stop (other _) _ (c .before .before .before .loop .i) (c .before .before .loop-test .taken) (ap not (eq-eqb _ _ (c .if1 .taken))) ∙ c .before .before .before .loop .inv .1, (omega arith, sym (length-take-le _ _ (omega arith))))
 
 add-i : tie.Need-add-i Inv-loop μ-loop
 add-i c = search needs
@@ -30,10 +36,11 @@ loop-less : tie.Need-loop-less Inv-loop μ-loop
 loop-less c = search needs
 
 loop-again : tie.Need-loop-again Inv-loop μ-loop
-loop-again c = search needs
+unfolding other
+loop-again c = (search needs, leading-more (other _) _ (c .before .before .before .loop .i) (c .before .before .loop-test .taken) (ap not (ne-eqb _ _ (c .if1 .left))) ∙ c .before .before .before .loop .inv .1)
 
 returns-2 : tie.Need-returns-2 Inv-loop μ-loop
-returns-2 c = (omega arith, sym (length-take-le _ _ (omega arith)))
+returns-2 c = (leading-end (other _) _ (c .before .loop .i) (c .loop-test .left) ∙ c .before .loop .inv .1, (omega arith, sym (length-take-le _ _ (omega arith))))
 
 pub find-spec : {M : Type 1} → statement M
 find-spec =

@@ -1,21 +1,23 @@
--- `text::take_bytes` meets its contract: the count is at most the length of the buffer; each turn goes past two digits. Assumes nothing.
+-- `text::take_bytes` meets its contract: what is left to read, read now, gives the end. Assumes nothing.
+use Rattle.text.specs.Text.{run}
+use Rattle.text.proofs.Turns.{Left, left-all, left-end, left-blank, left-over, left-no-high, left-no-low, left-byte}
+use Prim.Native.Nat.{_≤_, _-_}
+use lib.ListN.{length}
+use mathlib.Core.Path.{_≡_, refl, sym, _∙_}
 use lib.Seq.{length-take-le}
-use mathlib.Core.Path.{_≡_, sym}
 use native.Mathlib.Omega.{arith}
 use borrow.Author.Needs.{needs}
-use lib.ListN.{length}
-use Prim.Native.Nat.{_≤_, _-_}
 use Rattle.text.proofs.take_bytes.Statement.{statement}
 use Rattle.text.proofs.take_bytes.Tie as tie
 
 abbrev Inv-loop : tie.InvT-loop
-Inv-loop s from out₀ n₀ at₀ out n at = (n ≤ length out₀) × (length out ≡ length out₀)
+Inv-loop s from out₀ n₀ at₀ out n at = (n ≤ length out₀) × (length out ≡ length out₀) × Left s at (length out₀) n out (run s from (length out₀)) out₀
 
 abbrev μ-loop : tie.MeasureT-loop
 μ-loop s from out₀ n₀ at₀ out n at = length s - at
 
 loop-holds : tie.Need-loop-holds Inv-loop μ-loop
-loop-holds c = search needs
+loop-holds c = (search needs, refl, left-all _ _ _)
 
 add-column : tie.Need-add-column Inv-loop μ-loop
 add-column c = search needs
@@ -30,13 +32,13 @@ loop-less : tie.Need-loop-less Inv-loop μ-loop
 loop-less c = search needs
 
 loop-again : tie.Need-loop-again Inv-loop μ-loop
-loop-again c = search needs
+loop-again c = (search needs, search needs, left-blank (c .before .before .before .before .loop .inv .2) (c .before .before .before .loop-test .taken) (sym (c .before .is-blank .ensures) ∙ c .if1 .taken))
 
 same-length : tie.Need-same-length Inv-loop μ-loop
 same-length c = search needs
 
 returns : tie.Need-returns Inv-loop μ-loop
-returns c = (omega arith, sym (length-take-le _ _ (omega arith)))
+returns c = (left-over (c .before .before .before .before .before .loop .inv .2) (c .before .before .before .before .loop-test .taken) (sym (c .before .before .is-blank .ensures) ∙ c .before .if1 .left) (omega arith), (omega arith, sym (length-take-le _ _ (omega arith))))
 
 shared-slice-read-digit : tie.Need-shared-slice-read-digit Inv-loop μ-loop
 shared-slice-read-digit c = search needs
@@ -48,7 +50,7 @@ same-length-2 : tie.Need-same-length-2 Inv-loop μ-loop
 same-length-2 c = search needs
 
 returns-2 : tie.Need-returns-2 Inv-loop μ-loop
-returns-2 c = (omega arith, sym (length-take-le _ _ (omega arith)))
+returns-2 c = (left-no-high (c .before .before .before .before .before .before .before .before .loop .inv .2) (c .before .before .before .before .before .before .before .loop-test .taken) (sym (c .before .before .before .before .before .is-blank .ensures) ∙ c .before .before .before .before .if1 .left) (omega arith) (c .before .digit .ensures .0) (c .if3 .taken), (omega arith, sym (length-take-le _ _ (omega arith))))
 
 digit-at-requires : tie.Need-digit-at-requires Inv-loop μ-loop
 digit-at-requires c κs = search needs
@@ -60,7 +62,7 @@ same-length-3 : tie.Need-same-length-3 Inv-loop μ-loop
 same-length-3 c = search needs
 
 returns-3 : tie.Need-returns-3 Inv-loop μ-loop
-returns-3 c = (omega arith, sym (length-take-le _ _ (omega arith)))
+returns-3 c = (left-no-low (c .before .before .before .before .before .before .before .before .before .before .loop .inv .2) (c .before .before .before .before .before .before .before .before .before .loop-test .taken) (sym (c .before .before .before .before .before .before .before .is-blank .ensures) ∙ c .before .before .before .before .before .before .if1 .left) (omega arith) (c .before .before .before .digit .ensures .0) (c .before .digit-at .ensures .0) (c .before .before .if3 .left) (c .if4 .taken), (omega arith, sym (length-take-le _ _ (omega arith))))
 
 mul-out : tie.Need-mul-out Inv-loop μ-loop
 mul-out c = search needs
@@ -81,13 +83,13 @@ loop-less-2 : tie.Need-loop-less-2 Inv-loop μ-loop
 loop-less-2 c = search needs
 
 loop-again-2 : tie.Need-loop-again-2 Inv-loop μ-loop
-loop-again-2 c = search needs
+loop-again-2 c = (search needs, search needs, left-byte (c .before .before .before .before .before .before .before .before .before .before .loop .inv .2) (c .before .before .before .before .before .before .before .before .before .loop-test .taken) (sym (c .before .before .before .before .before .before .before .is-blank .ensures) ∙ c .before .before .before .before .before .before .if1 .left) (omega arith) (c .before .before .before .digit .ensures .0) (c .before .digit-at .ensures .0) (c .before .before .if3 .left) (c .if4 .left) (omega arith))
 
 same-length-4 : tie.Need-same-length-4 Inv-loop μ-loop
 same-length-4 c = search needs
 
 returns-4 : tie.Need-returns-4 Inv-loop μ-loop
-returns-4 c = (omega arith, sym (length-take-le _ _ (omega arith)))
+returns-4 c = (left-end (c .before .loop .inv .2) (c .loop-test .left), (omega arith, sym (length-take-le _ _ (omega arith))))
 
 pub take-bytes-spec : {M : Type 1} → statement M
 take-bytes-spec =

@@ -1,10 +1,10 @@
--- `standin::list_used` meets its contract: the used part is no longer than the journal. Assumes nothing.
+-- `answers::list` meets its contract: the used part is no longer than the journal. Assumes nothing.
 use lib.Seq.{length-take-le}
 use mathlib.Core.Path.{sym}
 use native.Mathlib.Omega.{arith}
 use borrow.Author.Needs.{needs}
-use Rattle.standin.proofs.list_used.Statement.{statement}
-use Rattle.standin.proofs.list_used.Tie as tie
+use Rattle.answers.proofs.list.Statement.{statement}
+use Rattle.answers.proofs.list.Tie as tie
 
 slice-aggregate-put : tie.Need-slice-aggregate-put
 slice-aggregate-put c = search needs
@@ -30,8 +30,8 @@ same-length-2 c = search needs
 returns-2 : tie.Need-returns-2
 returns-2 c = search needs
 
-pub list-used-spec : {M : Type 1} → statement M
-list-used-spec =
+pub list-spec : {M : Type 1} → statement M
+list-spec =
     tie.close
     (tie.spec
     slice-aggregate-put

@@ -1,10 +1,10 @@
--- `standin::reply_len` meets its contract: the length is counted only if the reply has it. Assumes nothing.
+-- `answers::reply_len` meets its contract: the length is counted only if the reply has it. Assumes nothing.
 use lib.Seq.{length-take-le}
 use mathlib.Core.Path.{sym}
 use native.Mathlib.Omega.{arith}
 use borrow.Author.Needs.{needs}
-use Rattle.standin.proofs.reply_len.Statement.{statement}
-use Rattle.standin.proofs.reply_len.Tie as tie
+use Rattle.answers.proofs.reply_len.Statement.{statement}
+use Rattle.answers.proofs.reply_len.Tie as tie
 
 returns : tie.Need-returns
 returns c = search needs

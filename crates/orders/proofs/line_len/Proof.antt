@@ -1,10 +1,10 @@
--- `standin::line_len` meets its contract: one byte less, or all. Assumes nothing.
+-- `orders::line_len` meets its contract: one byte less, or all. Assumes nothing.
 use lib.Seq.{length-take-le}
 use mathlib.Core.Path.{sym}
 use native.Mathlib.Omega.{arith}
 use borrow.Author.Needs.{needs}
-use Rattle.standin.proofs.line_len.Statement.{statement}
-use Rattle.standin.proofs.line_len.Tie as tie
+use Rattle.orders.proofs.line_len.Statement.{statement}
+use Rattle.orders.proofs.line_len.Tie as tie
 
 returns : tie.Need-returns
 returns c = search needs

@@ -1,0 +1,165 @@
+// The text of each answer, put at the front of a lent buffer with its line feed; its length is given back. Nothing is written here.
+ghost use Rattle.io.specs.Counts.{Counts};
+use orders::Wrong;
+
+fn put_end(out: &mut [u8], at: usize) -> usize
+    ensures { λ r. ⌜ Counts r (now (out .exit)) ⌝ }
+{
+    text::put(out, at, b"\n")
+}
+
+pub fn line(out: &mut [u8], s: &[u8]) -> usize
+    ensures { λ r. ⌜ Counts r (now (out .exit)) ⌝ }
+{
+    let end = text::put(out, 0, s);
+    put_end(out, end)
+}
+
+// ---- what is wrong in a line
+
+fn at_column(out: &mut [u8], what: &[u8], column: usize) -> usize
+    ensures { λ r. ⌜ Counts r (now (out .exit)) ⌝ }
+{
+    let mark = text::put(out, 0, b"? ");
+    let words = text::put(out, mark, what);
+    let place = text::put(out, words, b" at column ");
+    let end = text::put_decimal(out, place, column as u64);
+    put_end(out, end)
+}
+
+pub fn complaint(out: &mut [u8], what: Wrong, column: usize) -> usize
+    ensures { λ r. ⌜ Counts r (now (out .exit)) ⌝ }
+{
+    match what {
+        Wrong::Long => at_column(out, b"line over 32768 bytes", column),
+        Wrong::Word => at_column(out, b"unknown word", column),
+        Wrong::More => at_column(out, b"nothing more expected", column),
+        Wrong::Digit => at_column(out, b"hex digit expected", column),
+        Wrong::Over => at_column(out, b"command over 8192 bytes", column),
+        Wrong::Image => line(out, b"? image must be 2287 bytes"),
+    }
+}
+
+// ---- calls
+
+// An OCC reply has 7 bytes and the data bytes that its length field counts.
+fn reply_len(reply: &[u8]) -> usize
+    ensures { λ r. ⌜ Counts r (now (reply .entry)) ⌝ }
+{
+    if reply.len() < 5 {
+        return 0;
+    }
+    let n = 7 + wire::be16(reply, 3) as usize;
+    if reply.len() < n {
+        return 0;
+    }
+    n
+}
+
+// The session answer, and after 0 the reply.
+pub fn reply(out: &mut [u8], answer: u8, bytes: &[u8]) -> usize
+    ensures { λ r. ⌜ Counts r (now (out .exit)) ⌝ }
+{
+    let at = text::put_decimal(out, 0, answer as u64);
+    if answer != 0 {
+        return put_end(out, at);
+    }
+    let n = reply_len(bytes);
+    let end = text::put_bytes(out, at, &bytes[..n]);
+    put_end(out, end)
+}
+
+// The session answer, and after 0 the response and the doorbell's four digits.
+pub fn rung(out: &mut [u8], answer: u8, response: &[u8], bell: u16) -> usize
+    ensures { λ r. ⌜ Counts r (now (out .exit)) ⌝ }
+{
+    let at = text::put_decimal(out, 0, answer as u64);
+    if answer != 0 {
+        return put_end(out, at);
+    }
+    let bytes = text::put_bytes(out, at, response);
+    let name = text::put(out, bytes, b" bell ");
+    let mut digits = [0u8; 2];
+    wire::put_be(&mut digits, 0, 2, bell as u64);
+    let end = text::put_hexes(out, name, &digits);
+    put_end(out, end)
+}
+
+// The session answer, and after 0 the kind.
+pub fn undone(out: &mut [u8], answer: u8, kind: u8) -> usize
+    ensures { λ r. ⌜ Counts r (now (out .exit)) ⌝ }
+{
+    let at = text::put_decimal(out, 0, answer as u64);
+    if answer != 0 {
+        return put_end(out, at);
+    }
+    let blank = text::put(out, at, b" ");
+    let end = text::put_hex(out, blank, kind);
+    put_end(out, end)
+}
+
+// ---- views
+
+pub fn image(out: &mut [u8], bytes: &[u8]) -> usize
+    ensures { λ r. ⌜ Counts r (now (out .exit)) ⌝ }
+{
+    let name = text::put(out, 0, b"image ");
+    let end = text::put_hexes(out, name, bytes);
+    put_end(out, end)
+}
+
+fn list(out: &mut [u8], j: &[u8], used: usize) -> usize {
+    if j.len() < used {
+        return text::put(out, 0, b"too long\n");
+    }
+    listing::list(&j[..used], out)
+}
+
+// The listing of the journal's first `used` bytes, and the line that ends it.
+pub fn journal(out: &mut [u8], j: &[u8], used: usize) -> usize
+    ensures { λ r. ⌜ Counts r (now (out .exit)) ⌝ }
+{
+    let end = list(out, j, used);
+    text::put(out, end, b".\n")
+}
+
+// The words for calls and for the session as bytes.
+fn put_calls(out: &mut [u8]) -> usize {
+    let a = text::put(
+        out,
+        0,
+        b"occ SS BYTES      an OCC command from sender SS (10 HTMGT, 20 BMC)\n",
+    );
+    let b = text::put(
+        out,
+        a,
+        b"sbe BYTES         an SBE mailbox request of 32 bytes\n",
+    );
+    let c = text::put(out, b, b"undo              take the newest change back\n");
+    let d = text::put(
+        out,
+        c,
+        b"fresh             begin again with a fresh session\n",
+    );
+    let e = text::put(out, d, b"image             the session as 2287 bytes\n");
+    text::put(
+        out,
+        e,
+        b"load BYTES        go on with the session of such an image\n",
+    )
+}
+
+pub fn help(out: &mut [u8]) -> usize
+    ensures { λ r. ⌜ Counts r (now (out .exit)) ⌝ }
+{
+    let calls = put_calls(out);
+    let a = text::put(
+        out,
+        calls,
+        b"send SS TT DATA   as occ: a packet of type TT, framed for you\n",
+    );
+    let b = text::put(out, a, b"show              the session for a person\n");
+    let c = text::put(out, b, b"journal           the journal's entries\n");
+    let d = text::put(out, c, b"help              these words\n");
+    text::put(out, d, b".\n")
+}

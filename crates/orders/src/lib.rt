@@ -1,0 +1,292 @@
+// A line read as an order: what its word asks for, and the bytes after it, which go into a lent buffer. Nothing is carried out here.
+ghost use mathlib.Core.Path.{_≡_};
+ghost use Prim.Native.Nat.{_≤_, _-_};
+ghost use lib.ListN.{length};
+ghost use Rattle.io.specs.Counts.{Counts};
+use text::Fault;
+use text::Taken;
+
+pub const MOST_LINE: usize = 32768;
+
+// How many bytes an image has.
+pub const IMAGE: usize = 2287;
+
+// A buffer with room for the longest command, as it is read and as it is framed.
+pub const ROOM: usize = 8198;
+
+// What comes to a session.
+pub enum Call {
+    Occ,
+    Sbe,
+    Send,
+    Load,
+    Undo,
+    Fresh,
+}
+
+// What only looks.
+pub enum View {
+    Image,
+    Show,
+    Journal,
+    Help,
+}
+
+// What a line can have wrong.
+pub enum Wrong {
+    Long,
+    Word,
+    More,
+    Digit,
+    Over,
+    Image,
+}
+
+pub enum Word {
+    Call(Call),
+    View(View),
+    Wrong(Wrong),
+    Nothing,
+}
+
+// `count` bytes follow those that are due; `column` is where the line is wrong.
+pub struct Order {
+    pub word: Word,
+    pub count: usize,
+    pub column: usize,
+}
+
+fn plain(word: Word) -> Order
+    ensures { λ r. ⌜ r .count ≡ 0 ⌝ }
+{
+    Order {
+        word: word,
+        count: 0,
+        column: 0,
+    }
+}
+
+fn wrong_at(what: Wrong, column: usize) -> Order
+    ensures { λ r. ⌜ r .count ≡ 0 ⌝ }
+{
+    Order {
+        word: Word::Wrong(what),
+        count: 0,
+        column: column,
+    }
+}
+
+// ---- words
+
+fn view_of(word: &[u8]) -> Word {
+    if text::same(word, b"image") {
+        return Word::View(View::Image);
+    }
+    if text::same(word, b"show") {
+        return Word::View(View::Show);
+    }
+    if text::same(word, b"journal") {
+        return Word::View(View::Journal);
+    }
+    if text::same(word, b"help") {
+        return Word::View(View::Help);
+    }
+    Word::Wrong(Wrong::Word)
+}
+
+fn word_of(word: &[u8]) -> Word {
+    if text::same(word, b"occ") {
+        return Word::Call(Call::Occ);
+    }
+    if text::same(word, b"sbe") {
+        return Word::Call(Call::Sbe);
+    }
+    if text::same(word, b"send") {
+        return Word::Call(Call::Send);
+    }
+    if text::same(word, b"load") {
+        return Word::Call(Call::Load);
+    }
+    if text::same(word, b"undo") {
+        return Word::Call(Call::Undo);
+    }
+    if text::same(word, b"fresh") {
+        return Word::Call(Call::Fresh);
+    }
+    view_of(word)
+}
+
+// ---- what follows a word
+
+// Nothing may.
+fn alone(word: Word, line: &[u8], from: usize) -> Order
+    ensures { λ r. ⌜ r .count ≡ 0 ⌝ }
+{
+    let place = text::past_blanks(line, from);
+    if place < line.len() {
+        return wrong_at(Wrong::More, place + 1);
+    }
+    plain(word)
+}
+
+// Bytes, of which the first `due` must be there; `end` is the column past the line.
+fn with_bytes(call: Call, taken: Taken, due: usize, end: usize) -> Order
+    ensures { λ r. ⌜ r .count ≤ taken .count - due ⌝ }
+{
+    let n = taken.count;
+    let fault = taken.fault;
+    match fault {
+        Fault::Digit(column) => wrong_at(Wrong::Digit, column),
+        Fault::Over(column) => wrong_at(Wrong::Over, column),
+        Fault::Nothing => {
+            if n < due {
+                return wrong_at(Wrong::Digit, end);
+            }
+            Order {
+                word: Word::Call(call),
+                count: n - due,
+                column: 0,
+            }
+        }
+    }
+}
+
+// The bytes of an image, not one more or less.
+fn with_image(taken: Taken) -> Order
+    ensures { λ r. ⌜ r .count ≡ 0 ⌝ }
+{
+    let n = taken.count;
+    let fault = taken.fault;
+    match fault {
+        Fault::Digit(column) => wrong_at(Wrong::Digit, column),
+        Fault::Over(_) => wrong_at(Wrong::Image, 0),
+        Fault::Nothing => {
+            if n != IMAGE {
+                return wrong_at(Wrong::Image, 0);
+            }
+            plain(Word::Call(Call::Load))
+        }
+    }
+}
+
+// At most `room` bytes, put from `at` on.
+fn take(line: &[u8], from: usize, sent: &mut [u8], at: usize, room: usize) -> Taken
+    requires { ⌜ (at ≤ 2) × (room ≤ 8193) × (8198 ≤ length (now sent)) ⌝ }
+    ensures { λ r. ⌜ r .count ≤ room ⌝ }
+{
+    let end = at + room;
+    text::take_bytes(line, from, &mut sent[at..end])
+}
+
+// The sender stands at 0, the command from 1 on.
+fn occ(line: &[u8], from: usize, sent: &mut [u8]) -> Order
+    requires { ⌜ (length (now line) ≤ 32768) × (8198 ≤ length (now sent)) ⌝ }
+    ensures { λ r. ⌜ r .count ≤ 8192 ⌝ }
+{
+    let taken = take(line, from, sent, 0, 8193);
+    with_bytes(Call::Occ, taken, 1, line.len() + 1)
+}
+
+fn sbe(line: &[u8], from: usize, sent: &mut [u8]) -> Order
+    requires { ⌜ (length (now line) ≤ 32768) × (8198 ≤ length (now sent)) ⌝ }
+    ensures { λ r. ⌜ r .count ≤ 8192 ⌝ }
+{
+    let taken = take(line, from, sent, 0, 8192);
+    with_bytes(Call::Sbe, taken, 0, line.len() + 1)
+}
+
+// The sender stands at 2, the type at 3, and the data from 4 on, where they stand in a packet.
+fn send(line: &[u8], from: usize, sent: &mut [u8]) -> Order
+    requires { ⌜ (length (now line) ≤ 32768) × (8198 ≤ length (now sent)) ⌝ }
+    ensures { λ r. ⌜ r .count ≤ 8192 ⌝ }
+{
+    let taken = take(line, from, sent, 2, 8188);
+    with_bytes(Call::Send, taken, 2, line.len() + 1)
+}
+
+fn load(line: &[u8], from: usize, sent: &mut [u8]) -> Order
+    requires { ⌜ 8198 ≤ length (now sent) ⌝ }
+    ensures { λ r. ⌜ r .count ≡ 0 ⌝ }
+{
+    with_image(take(line, from, sent, 0, IMAGE))
+}
+
+fn read_call(call: Call, line: &[u8], from: usize, sent: &mut [u8]) -> Order
+    requires { ⌜ (length (now line) ≤ 32768) × (8198 ≤ length (now sent)) ⌝ }
+    ensures { λ r. ⌜ r .count ≤ 8192 ⌝ }
+{
+    match call {
+        Call::Occ => occ(line, from, sent),
+        Call::Sbe => sbe(line, from, sent),
+        Call::Send => send(line, from, sent),
+        Call::Load => load(line, from, sent),
+        Call::Undo => alone(Word::Call(Call::Undo), line, from),
+        Call::Fresh => alone(Word::Call(Call::Fresh), line, from),
+    }
+}
+
+// ---- lines
+
+// The line's word stands from `at` on.
+fn read_word(line: &[u8], at: usize, sent: &mut [u8]) -> Order
+    requires { ⌜ (at ≤ length (now line)) × (length (now line) ≤ 32768) × (8198 ≤ length (now sent)) ⌝ }
+    ensures { λ r. ⌜ r .count ≤ 8192 ⌝ }
+{
+    let rest = &line[at..];
+    let n = text::word_len(rest);
+    let end = at + n;
+    let word = word_of(&rest[..n]);
+    match word {
+        Word::Call(call) => read_call(call, line, end, sent),
+        Word::View(view) => alone(Word::View(view), line, end),
+        Word::Wrong(what) => wrong_at(what, at + 1),
+        Word::Nothing => plain(Word::Nothing),
+    }
+}
+
+// Whether nothing stands from `at` on, or a remark.
+fn is_remark(line: &[u8], at: usize) -> bool {
+    if line.len() <= at {
+        return true;
+    }
+    line[at] == b'#'
+}
+
+fn read_line(line: &[u8], sent: &mut [u8]) -> Order
+    requires { ⌜ 8198 ≤ length (now sent) ⌝ }
+    ensures { λ r. ⌜ r .count ≤ 8192 ⌝ }
+{
+    if MOST_LINE < line.len() {
+        return wrong_at(Wrong::Long, MOST_LINE + 1);
+    }
+    let at = text::past_blanks(line, 0);
+    if is_remark(line, at) {
+        return plain(Word::Nothing);
+    }
+    read_word(line, at, sent)
+}
+
+// The length without one carriage return at the very end.
+fn line_len(s: &[u8]) -> usize
+    ensures { λ r. ⌜ Counts r (now (s .entry)) ⌝ }
+{
+    if s.len() == 0 {
+        return 0;
+    }
+    let last = s.len() - 1;
+    if s[last] == b'\r' {
+        return last;
+    }
+    s.len()
+}
+
+// The order of a line without its line feed. A buffer that is too short for the longest command takes no order.
+pub fn read(s: &[u8], sent: &mut [u8]) -> Order
+    ensures { λ r. ⌜ r .count ≤ 8192 ⌝ }
+{
+    if sent.len() < ROOM {
+        return plain(Word::Nothing);
+    }
+    let n = line_len(s);
+    read_line(&s[..n], sent)
+}

@@ -1,0 +1,86 @@
+-- docs/PROTOCOL.md, "Lines" and "Bytes": blanks, words, and bytes in hex. Text is a list of ASCII numbers.
+use Prim.Native.Nat.{ℕ, suc, _+_, _-_, _*_}
+use mathlib.Core.Bool.{Bool, true, false, cond, not}
+use mathlib.Core.Path.{_≡_}
+use mathlib.Core.List.{List, [], _∷_}
+use lib.Dec.{eqb, ltb, leb}
+use lib.ListN.{length, drop, getD}
+use Rattle.wire.specs.Wire.{pasted}
+use Rattle.text.specs.declared.Fault.{Fault}
+use Rattle.text.specs.declared.Fault.the-variants.{Nothing, Digit, Over}
+
+-- ---- words
+
+-- "a blank is a space or a tab"
+unfoldable pub blank : ℕ → Bool
+blank c = cond (eqb c 32) true (eqb c 9)
+
+unfoldable pub inWord : ℕ → Bool
+inWord c = not (blank c)
+
+unfoldable pub other : ℕ → ℕ → Bool
+other c x = not (eqb x c)
+
+-- how many stand before the first that isn't such
+unfoldable pub leading : (ℕ → Bool) → List ℕ → ℕ
+leading p [] = 0
+leading p (x ∷ xs) = cond (p x) (suc (leading p xs)) 0
+
+-- the first place from `from` on that holds no blank, or the end
+unfoldable pub pastBlanks : List ℕ → ℕ → ℕ
+pastBlanks s from = cond (ltb (length s) from) (length s) (from + leading blank (drop from s))
+
+-- ---- bytes
+
+-- the number of a hex digit "in either case"; 16 for what is none
+unfoldable pub digitOf : ℕ → ℕ
+digitOf c =
+    cond (ltb c 48) 16
+    (cond (leb c 57) (c - 48)
+    (cond (ltb c 65) 16
+    (cond (leb c 70) (c - 65 + 10)
+    (cond (ltb c 97) 16
+    (cond (leb c 102) (c - 97 + 10) 16)))))
+
+-- there is none past the end
+unfoldable pub digitAt : List ℕ → ℕ → ℕ
+digitAt s at = cond (ltb at (length s)) (digitOf (getD s at 0)) 16
+
+-- the bytes read, and what then was wrong
+pub record Run : Type 0 where
+  pub bytes : List ℕ
+  pub fault : Fault
+
+abbrev pub stopped : Fault → Run
+stopped f = record { bytes = []; fault = f }
+
+abbrev pub onto : ℕ → Run → Run
+onto b q = record { bytes = b ∷ q .bytes; fault = q .fault }
+
+-- which digit of a byte is due; the low one after the high one's number
+pub data Due : Type 0 where
+  high : Due
+  low : ℕ → Due
+
+-- "They are read from left to right and the first thing that is wrong is answered": `room` bytes more are taken
+unfoldable pub readFrom : Due → ℕ → ℕ → List ℕ → Run
+readFrom high room column [] = stopped Nothing
+readFrom (low h) room column [] = stopped (Digit column)
+readFrom high room column (x ∷ xs) =
+    cond (blank x) (readFrom high room (suc column) xs)
+    (cond (leb room 0) (stopped (Over column))
+    (cond (ltb 15 (digitOf x)) (stopped (Digit column))
+    (readFrom (low (digitOf x)) room (suc column) xs)))
+readFrom (low h) room column (x ∷ xs) =
+    cond (ltb 15 (digitOf x)) (stopped (Digit column))
+    (onto (h * 16 + digitOf x) (readFrom high (room - 1) (suc column) xs))
+
+-- what a line holds from `from` on, for a buffer of `room` bytes
+abbrev pub run : List ℕ → ℕ → ℕ → Run
+run s from room = readFrom high room (from + 1) (drop from s)
+
+-- the bytes stand at the front of a buffer, n of them, and the rest is kept
+pub record Takes (q : Run) (d d′ : List ℕ) (n : ℕ) (f : Fault) : Type 0 where
+  pub stands : d′ ≡ pasted 0 (q .bytes) d
+  pub count : n ≡ length (q .bytes)
+  pub wrong : f ≡ q .fault

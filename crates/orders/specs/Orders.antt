@@ -5,6 +5,7 @@ use mathlib.Core.Path.{_≡_}
 use mathlib.Core.List.{List, [], _∷_}
 use lib.Dec.{eqb, ltb, leb}
 use lib.ListN.{length, take, drop, getD}
+use Rattle.wire.specs.Wire.{pasted}
 use Rattle.text.specs.declared.Fault.{Fault}
 use Rattle.text.specs.declared.Fault.the-variants.{Nothing, Digit, Over}
 use Rattle.text.specs.Text.{inWord, leading, pastBlanks, sameText, Run, run}
@@ -70,55 +71,64 @@ pub record ReadsAs (q : Run) (n : ℕ) (f : Fault) : Type 0 where
   pub count : n ≡ length (q .bytes)
   pub wrong : f ≡ q .fault
 
+-- an order, and the buffer with the bytes that it took
+pub record Got : Type 0 where
+  pub order : Order
+  pub sent : List ℕ
+
+abbrev pub got : Order → List ℕ → Got
+got o d = record { order = o; sent = d }
+
 abbrev pub bytesOf : Call → ℕ → Run → List ℕ → Order
 bytesOf call due q line = bytesBy (q .fault) call (length (q .bytes)) due (length line + 1)
 
--- "the most is 8,192 bytes for `occ` (SS not counted) and `sbe`, 8,186 bytes of DATA for `send`"
-unfoldable pub occOf : List ℕ → ℕ → Order
-occOf line from = bytesOf Occ 1 (run line from 8193) line
+-- "the most is 8,192 bytes for `occ` (SS not counted) and `sbe`, 8,186 bytes of DATA for `send`"; the data stand where they do in a packet
+unfoldable pub occOf : List ℕ → ℕ → List ℕ → Got
+occOf line from d = got (bytesOf Occ 1 (run line from 8193) line) (pasted 0 ((run line from 8193) .bytes) d)
 
-unfoldable pub sbeOf : List ℕ → ℕ → Order
-sbeOf line from = bytesOf Sbe 0 (run line from 8192) line
+unfoldable pub sbeOf : List ℕ → ℕ → List ℕ → Got
+sbeOf line from d = got (bytesOf Sbe 0 (run line from 8192) line) (pasted 0 ((run line from 8192) .bytes) d)
 
-unfoldable pub sendOf : List ℕ → ℕ → Order
-sendOf line from = bytesOf Send 2 (run line from 8188) line
+unfoldable pub sendOf : List ℕ → ℕ → List ℕ → Got
+sendOf line from d = got (bytesOf Send 2 (run line from 8188) line) (pasted 2 ((run line from 8188) .bytes) d)
 
-unfoldable pub loadOf : List ℕ → ℕ → Order
-loadOf line from = imageBy ((run line from 2287) .fault) (length ((run line from 2287) .bytes))
+unfoldable pub loadOf : List ℕ → ℕ → List ℕ → Got
+loadOf line from d =
+    got (imageBy ((run line from 2287) .fault) (length ((run line from 2287) .bytes))) (pasted 0 ((run line from 2287) .bytes) d)
 
-unfoldable pub callOf : Call → List ℕ → ℕ → Order
-callOf Occ line from = occOf line from
-callOf Sbe line from = sbeOf line from
-callOf Send line from = sendOf line from
-callOf Load line from = loadOf line from
-callOf Undo line from = aloneOf (Make Undo) line from
-callOf Fresh line from = aloneOf (Make Fresh) line from
+unfoldable pub callOf : Call → List ℕ → ℕ → List ℕ → Got
+callOf Occ line from d = occOf line from d
+callOf Sbe line from d = sbeOf line from d
+callOf Send line from d = sendOf line from d
+callOf Load line from d = loadOf line from d
+callOf Undo line from d = got (aloneOf (Make Undo) line from) d
+callOf Fresh line from d = got (aloneOf (Make Fresh) line from) d
 
 -- ---- lines
 
 -- the word stands at `at`, and what follows it from `end` on
-unfoldable pub orderBy : Word → List ℕ → ℕ → ℕ → Order
-orderBy (Make call) line at end = callOf call line end
-orderBy (Look view) line at end = aloneOf (Look view) line end
-orderBy (Fail what) line at end = wrongAt what (at + 1)
-orderBy Skip line at end = plainly Skip
+unfoldable pub orderBy : Word → List ℕ → ℕ → ℕ → List ℕ → Got
+orderBy (Make call) line at end d = callOf call line end d
+orderBy (Look view) line at end d = got (aloneOf (Look view) line end) d
+orderBy (Fail what) line at end d = got (wrongAt what (at + 1)) d
+orderBy Skip line at end d = got (plainly Skip) d
 
 -- "all bytes up to the next blank or the line's end"
 abbrev pub wordLength : List ℕ → ℕ → ℕ
 wordLength line at = leading inWord (drop at line)
 
-unfoldable pub orderAt : List ℕ → ℕ → Order
-orderAt line at = orderBy (wordOf (take (wordLength line at) (drop at line))) line at (at + wordLength line at)
+unfoldable pub orderAt : List ℕ → ℕ → List ℕ → Got
+orderAt line at d = orderBy (wordOf (take (wordLength line at) (drop at line))) line at (at + wordLength line at) d
 
 -- "a line of blanks only, or whose first byte that isn't blank is `#`"
 unfoldable pub remark : List ℕ → ℕ → Bool
 remark line at = cond (leb (length line) at) true (eqb (getD line at 0) 35)
 
-abbrev pub orderFrom : List ℕ → ℕ → Order
-orderFrom line at = cond (remark line at) (plainly Skip) (orderAt line at)
+abbrev pub orderFrom : List ℕ → List ℕ → ℕ → Got
+orderFrom line d at = cond (remark line at) (got (plainly Skip) d) (orderAt line at d)
 
-unfoldable pub orderOf : List ℕ → Order
-orderOf line = cond (ltb 32768 (length line)) (wrongAt LongLine 32769) (orderFrom line (pastBlanks line 0))
+unfoldable pub orderOf : List ℕ → List ℕ → Got
+orderOf line d = cond (ltb 32768 (length line)) (got (wrongAt LongLine 32769) d) (orderFrom line d (pastBlanks line 0))
 
 -- "one CR at the very end of a line belongs to the line end"
 unfoldable pub lineLength : List ℕ → ℕ

@@ -1,6 +1,6 @@
 -- `orders::occ` meets its contract: what was read is judged as the definition judges it. Assumes nothing.
-use Rattle.orders.specs.Orders.{occOf}
 use Rattle.orders.proofs.Reading.{bytes-as}
+use Rattle.orders.specs.Orders.{occOf}
 use borrow.Author.Needs.{needs}
 use Rattle.orders.proofs.occ.Statement.{statement}
 use Rattle.orders.proofs.occ.Tie as tie
@@ -19,7 +19,7 @@ same-length c = search needs
 
 returns : tie.Need-returns
 unfolding occOf
-returns c = (bytes-as _ _ _ (c .before .before .before .take .ensures .0) (c .with-bytes .ensures .0), search needs)
+returns c = (bytes-as (c .before .before .before .take .ensures .0) (c .before .before .before .take .ensures .1 .0) _ _ _ (c .with-bytes .ensures .0), search needs)
 
 pub occ-spec : {M : Type 1} → statement M
 occ-spec =

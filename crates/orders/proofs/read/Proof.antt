@@ -24,7 +24,7 @@ same-length : tie.Need-same-length
 same-length c = search needs
 
 returns-2 : tie.Need-returns-2
-returns-2 c = ((λ h. line-as _ (c .before .before .before .before .before .line-len .ensures .0) (c .before .before .read-line .ensures .0)), search needs)
+returns-2 c = ((λ h. line-as _ _ (c .before .before .before .before .before .line-len .ensures .0) (c .before .before .read-line .ensures .0)), search needs)
 
 pub read-spec : {M : Type 1} → statement M
 read-spec =

@@ -1,6 +1,6 @@
 -- `orders::read_call` meets its contract: each call is a case of the definition. Assumes nothing.
+use Rattle.orders.proofs.Reading.{call-as, kept}
 use Rattle.orders.specs.Orders.{callOf}
-use Rattle.orders.proofs.Reading.{call-as}
 use borrow.Author.Needs.{needs}
 use Rattle.orders.proofs.read_call.Statement.{statement}
 use Rattle.orders.proofs.read_call.Tie as tie
@@ -46,36 +46,36 @@ same-length c = search needs
 
 returns : tie.Need-returns
 unfolding callOf
-returns c = (call-as _ _ (c .before .before .before .before .enum-told .given .1) (c .before .before .occ .ensures .0), search needs)
+returns c = (call-as _ _ _ (c .before .before .before .before .enum-told .given .1) (c .before .before .occ .ensures .0), search needs)
 
 same-length-2 : tie.Need-same-length-2
 same-length-2 c = search needs
 
 returns-2 : tie.Need-returns-2
 unfolding callOf
-returns-2 c = (call-as _ _ (c .before .before .before .before .enum-told2 .given .1) (c .before .before .sbe .ensures .0), search needs)
+returns-2 c = (call-as _ _ _ (c .before .before .before .before .enum-told2 .given .1) (c .before .before .sbe .ensures .0), search needs)
 
 same-length-3 : tie.Need-same-length-3
 same-length-3 c = search needs
 
 returns-3 : tie.Need-returns-3
 unfolding callOf
-returns-3 c = (call-as _ _ (c .before .before .before .before .enum-told3 .given .1) (c .before .before .send .ensures .0), search needs)
+returns-3 c = (call-as _ _ _ (c .before .before .before .before .enum-told3 .given .1) (c .before .before .send .ensures .0), search needs)
 
 same-length-4 : tie.Need-same-length-4
 same-length-4 c = search needs
 
 returns-4 : tie.Need-returns-4
 unfolding callOf
-returns-4 c = (call-as _ _ (c .before .before .before .before .enum-told4 .given .1) (c .before .before .load .ensures .0), search needs)
+returns-4 c = (call-as _ _ _ (c .before .before .before .before .enum-told4 .given .1) (c .before .before .load .ensures .0), search needs)
 
 returns-5 : tie.Need-returns-5
 unfolding callOf
-returns-5 c = (call-as _ _ (c .before .enum-told5 .given .1) (c .alone .ensures .0), search needs)
+returns-5 c = (call-as _ _ _ (c .before .enum-told5 .given .1) (kept _ (c .alone .ensures .0)), search needs)
 
 returns-6 : tie.Need-returns-6
 unfolding callOf
-returns-6 c = (call-as _ _ (c .before .enum-told6 .given .1) (c .alone2 .ensures .0), search needs)
+returns-6 c = (call-as _ _ _ (c .before .enum-told6 .given .1) (kept _ (c .alone2 .ensures .0)), search needs)
 
 pub read-call-spec : {M : Type 1} → statement M
 read-call-spec =

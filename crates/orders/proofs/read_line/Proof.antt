@@ -12,7 +12,7 @@ wrong-at-requires : tie.Need-wrong-at-requires
 wrong-at-requires c κs = search needs
 
 returns : tie.Need-returns
-returns c = (order-long _ (c .before .if1 .taken) (c .wrong-at .ensures .0), search needs)
+returns c = (order-long _ _ (c .before .if1 .taken) (c .wrong-at .ensures .0), search needs)
 
 past-blanks-requires : tie.Need-past-blanks-requires
 past-blanks-requires c κs = search needs
@@ -24,7 +24,7 @@ plain-requires : tie.Need-plain-requires
 plain-requires c κs = search needs
 
 returns-2 : tie.Need-returns-2
-returns-2 c = (order-remark _ (c .before .before .before .before .if1 .left) (c .before .before .before .past-blanks .ensures .0) (sym (c .before .before .is-remark .ensures) ∙ c .before .if2 .taken) (c .plain .ensures .0), search needs)
+returns-2 c = (order-remark _ _ (c .before .before .before .before .if1 .left) (c .before .before .before .past-blanks .ensures .0) (sym (c .before .before .is-remark .ensures) ∙ c .before .if2 .taken) (c .plain .ensures .0), search needs)
 
 read-word-requires : tie.Need-read-word-requires
 read-word-requires c κs = search needs
@@ -33,7 +33,7 @@ same-length : tie.Need-same-length
 same-length c = search needs
 
 returns-3 : tie.Need-returns-3
-returns-3 c = (order-word _ (c .before .before .before .before .before .before .before .if1 .left) (c .before .before .before .before .before .before .past-blanks .ensures .0) (sym (c .before .before .before .before .before .is-remark .ensures) ∙ c .before .before .before .before .if2 .left) (c .before .before .read-word .ensures .0), search needs)
+returns-3 c = (order-word _ _ (c .before .before .before .before .before .before .before .if1 .left) (c .before .before .before .before .before .before .past-blanks .ensures .0) (sym (c .before .before .before .before .before .is-remark .ensures) ∙ c .before .before .before .before .if2 .left) (c .before .before .read-word .ensures .0), search needs)
 
 pub read-line-spec : {M : Type 1} → statement M
 read-line-spec =

@@ -56,16 +56,16 @@ same-length : tie.Need-same-length
 same-length c = search needs
 
 returns : tie.Need-returns
-returns c = (order-at _ _ (c .before .before .before .before .before .before .before .before .before .word-len .ensures .0) (c .before .before .before .before .before .before .before .word-of .ensures) (order-make _ _ _ (c .before .before .before .before .before .word .given .1) (c .before .before .read-call .ensures .0)), search needs)
+returns c = (order-at _ _ _ (c .before .before .before .before .before .before .before .before .before .word-len .ensures .0) (c .before .before .before .before .before .before .before .word-of .ensures) (order-make _ _ _ _ (c .before .before .before .before .before .word .given .1) (c .before .before .read-call .ensures .0)), search needs)
 
 returns-2 : tie.Need-returns-2
-returns-2 c = (order-at _ _ (c .before .before .before .before .before .before .word-len .ensures .0) (c .before .before .before .before .word-of .ensures) (order-look _ _ _ (c .before .before .word2 .given .1) (c .alone .ensures .0)), search needs)
+returns-2 c = (order-at _ _ _ (c .before .before .before .before .before .before .word-len .ensures .0) (c .before .before .before .before .word-of .ensures) (order-look _ _ _ _ (c .before .before .word2 .given .1) (c .alone .ensures .0)), search needs)
 
 returns-3 : tie.Need-returns-3
-returns-3 c = (order-at _ _ (c .before .before .before .before .before .before .word-len .ensures .0) (c .before .before .before .before .word-of .ensures) (order-fail _ _ _ (c .before .before .word3 .given .1) (c .wrong-at .ensures .0)), search needs)
+returns-3 c = (order-at _ _ _ (c .before .before .before .before .before .before .word-len .ensures .0) (c .before .before .before .before .word-of .ensures) (order-fail _ _ _ _ (c .before .before .word3 .given .1) (c .wrong-at .ensures .0)), search needs)
 
 returns-4 : tie.Need-returns-4
-returns-4 c = (order-at _ _ (c .before .before .before .before .before .word-len .ensures .0) (c .before .before .before .word-of .ensures) (order-skip _ _ _ (c .before .enum-told .given .1) (c .plain .ensures .0)), search needs)
+returns-4 c = (order-at _ _ _ (c .before .before .before .before .before .word-len .ensures .0) (c .before .before .before .word-of .ensures) (order-skip _ _ _ _ (c .before .enum-told .given .1) (c .plain .ensures .0)), search needs)
 
 pub read-word-spec : {M : Type 1} → statement M
 read-word-spec =

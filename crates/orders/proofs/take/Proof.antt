@@ -1,5 +1,5 @@
 -- `orders::take` meets its contract: the part lent has as many bytes as there is room. Assumes nothing.
-use Rattle.orders.proofs.Reading.{reads-as}
+use Rattle.orders.proofs.Reading.{part-read}
 use native.Mathlib.Omega.{arith}
 use borrow.Author.Needs.{needs}
 use Rattle.orders.proofs.take.Statement.{statement}
@@ -24,7 +24,7 @@ same-length : tie.Need-same-length
 same-length c = search needs
 
 returns : tie.Need-returns
-returns c = (reads-as _ _ (omega arith) (c .before .before .take-bytes .ensures .0), search needs)
+returns c = part-read _ _ _ _ _ (omega arith) (omega arith) (omega arith) (c .before .before .take-bytes .ensures .0)
 
 pub take-spec : {M : Type 1} → statement M
 take-spec =

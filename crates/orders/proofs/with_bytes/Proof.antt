@@ -1,6 +1,6 @@
 -- `orders::with_bytes` meets its contract: each fault is a case of the definition. Assumes nothing.
-use Rattle.orders.proofs.Reading.{digit-bytes, over-bytes, short-bytes, good-bytes}
 use mathlib.Core.Path.{refl}
+use Rattle.orders.proofs.Reading.{digit-bytes, over-bytes, short-bytes, good-bytes}
 use borrow.Author.Needs.{needs}
 use Rattle.orders.proofs.with_bytes.Statement.{statement}
 use Rattle.orders.proofs.with_bytes.Tie as tie

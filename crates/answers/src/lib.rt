@@ -31,12 +31,12 @@ pub fn complaint(out: &mut [u8], what: Wrong, column: usize) -> usize
     ensures { λ r. ⌜ Counts r (now (out .exit)) ⌝ }
 {
     match what {
-        Wrong::Long => at_column(out, b"line over 32768 bytes", column),
-        Wrong::Word => at_column(out, b"unknown word", column),
-        Wrong::More => at_column(out, b"nothing more expected", column),
-        Wrong::Digit => at_column(out, b"hex digit expected", column),
-        Wrong::Over => at_column(out, b"command over 8192 bytes", column),
-        Wrong::Image => line(out, b"? image must be 2287 bytes"),
+        Wrong::LongLine => at_column(out, b"line over 32768 bytes", column),
+        Wrong::NoWord => at_column(out, b"unknown word", column),
+        Wrong::MoreText => at_column(out, b"nothing more expected", column),
+        Wrong::NoDigit => at_column(out, b"hex digit expected", column),
+        Wrong::TooMany => at_column(out, b"command over 8192 bytes", column),
+        Wrong::NoImage => line(out, b"? image must be 2287 bytes"),
     }
 }
 

@@ -3,6 +3,9 @@ ghost use mathlib.Core.Path.{_≡_};
 ghost use Prim.Native.Nat.{_≤_, _-_};
 ghost use lib.ListN.{length};
 ghost use Rattle.io.specs.Counts.{Counts};
+ghost use Rattle.wire.specs.Wire.{pasted};
+ghost use Rattle.text.specs.Text.{run};
+ghost use Rattle.orders.specs.Orders.{plainly, wrongAt, viewOf, wordOf, aloneOf, bytesBy, imageBy, ReadsAs, got, occOf, sbeOf, sendOf, loadOf, callOf, orderAt, remark, orderOf, lineLength, lineIn};
 use text::Fault;
 use text::Taken;
 
@@ -14,7 +17,7 @@ pub const IMAGE: usize = 2287;
 // A buffer with room for the longest command, as it is read and as it is framed.
 pub const ROOM: usize = 8198;
 
-// What comes to a session.
+// What is made on a session.
 pub enum Call {
     Occ,
     Sbe,
@@ -34,19 +37,19 @@ pub enum View {
 
 // What a line can have wrong.
 pub enum Wrong {
-    Long,
-    Word,
-    More,
-    Digit,
-    Over,
-    Image,
+    LongLine,
+    NoWord,
+    MoreText,
+    NoDigit,
+    TooMany,
+    NoImage,
 }
 
 pub enum Word {
-    Call(Call),
-    View(View),
-    Wrong(Wrong),
-    Nothing,
+    Make(Call),
+    Look(View),
+    Fail(Wrong),
+    Skip,
 }
 
 // `count` bytes follow those that are due; `column` is where the line is wrong.
@@ -57,6 +60,7 @@ pub struct Order {
 }
 
 fn plain(word: Word) -> Order
+    ensures { λ r. ⌜ r ≡ plainly word ⌝ }
     ensures { λ r. ⌜ r .count ≡ 0 ⌝ }
 {
     Order {
@@ -67,10 +71,11 @@ fn plain(word: Word) -> Order
 }
 
 fn wrong_at(what: Wrong, column: usize) -> Order
+    ensures { λ r. ⌜ r ≡ wrongAt what column ⌝ }
     ensures { λ r. ⌜ r .count ≡ 0 ⌝ }
 {
     Order {
-        word: Word::Wrong(what),
+        word: Word::Fail(what),
         count: 0,
         column: column,
     }
@@ -78,40 +83,44 @@ fn wrong_at(what: Wrong, column: usize) -> Order
 
 // ---- words
 
-fn view_of(word: &[u8]) -> Word {
+fn view_of(word: &[u8]) -> Word
+    ensures { λ r. ⌜ r ≡ viewOf (now (word .entry)) ⌝ }
+{
     if text::same(word, b"image") {
-        return Word::View(View::Image);
+        return Word::Look(View::Image);
     }
     if text::same(word, b"show") {
-        return Word::View(View::Show);
+        return Word::Look(View::Show);
     }
     if text::same(word, b"journal") {
-        return Word::View(View::Journal);
+        return Word::Look(View::Journal);
     }
     if text::same(word, b"help") {
-        return Word::View(View::Help);
+        return Word::Look(View::Help);
     }
-    Word::Wrong(Wrong::Word)
+    Word::Fail(Wrong::NoWord)
 }
 
-fn word_of(word: &[u8]) -> Word {
+fn word_of(word: &[u8]) -> Word
+    ensures { λ r. ⌜ r ≡ wordOf (now (word .entry)) ⌝ }
+{
     if text::same(word, b"occ") {
-        return Word::Call(Call::Occ);
+        return Word::Make(Call::Occ);
     }
     if text::same(word, b"sbe") {
-        return Word::Call(Call::Sbe);
+        return Word::Make(Call::Sbe);
     }
     if text::same(word, b"send") {
-        return Word::Call(Call::Send);
+        return Word::Make(Call::Send);
     }
     if text::same(word, b"load") {
-        return Word::Call(Call::Load);
+        return Word::Make(Call::Load);
     }
     if text::same(word, b"undo") {
-        return Word::Call(Call::Undo);
+        return Word::Make(Call::Undo);
     }
     if text::same(word, b"fresh") {
-        return Word::Call(Call::Fresh);
+        return Word::Make(Call::Fresh);
     }
     view_of(word)
 }
@@ -120,30 +129,32 @@ fn word_of(word: &[u8]) -> Word {
 
 // Nothing may.
 fn alone(word: Word, line: &[u8], from: usize) -> Order
+    ensures { λ r. ⌜ r ≡ aloneOf word (now (line .entry)) from ⌝ }
     ensures { λ r. ⌜ r .count ≡ 0 ⌝ }
 {
     let place = text::past_blanks(line, from);
     if place < line.len() {
-        return wrong_at(Wrong::More, place + 1);
+        return wrong_at(Wrong::MoreText, place + 1);
     }
     plain(word)
 }
 
 // Bytes, of which the first `due` must be there; `end` is the column past the line.
 fn with_bytes(call: Call, taken: Taken, due: usize, end: usize) -> Order
+    ensures { λ r. ⌜ r ≡ bytesBy (taken .fault) call (taken .count) due end ⌝ }
     ensures { λ r. ⌜ r .count ≤ taken .count - due ⌝ }
 {
     let n = taken.count;
     let fault = taken.fault;
     match fault {
-        Fault::Digit(column) => wrong_at(Wrong::Digit, column),
-        Fault::Over(column) => wrong_at(Wrong::Over, column),
+        Fault::Digit(column) => wrong_at(Wrong::NoDigit, column),
+        Fault::Over(column) => wrong_at(Wrong::TooMany, column),
         Fault::Nothing => {
             if n < due {
-                return wrong_at(Wrong::Digit, end);
+                return wrong_at(Wrong::NoDigit, end);
             }
             Order {
-                word: Word::Call(call),
+                word: Word::Make(call),
                 count: n - due,
                 column: 0,
             }
@@ -153,18 +164,19 @@ fn with_bytes(call: Call, taken: Taken, due: usize, end: usize) -> Order
 
 // The bytes of an image, not one more or less.
 fn with_image(taken: Taken) -> Order
+    ensures { λ r. ⌜ r ≡ imageBy (taken .fault) (taken .count) ⌝ }
     ensures { λ r. ⌜ r .count ≡ 0 ⌝ }
 {
     let n = taken.count;
     let fault = taken.fault;
     match fault {
-        Fault::Digit(column) => wrong_at(Wrong::Digit, column),
-        Fault::Over(_) => wrong_at(Wrong::Image, 0),
+        Fault::Digit(column) => wrong_at(Wrong::NoDigit, column),
+        Fault::Over(_) => wrong_at(Wrong::NoImage, 0),
         Fault::Nothing => {
             if n != IMAGE {
-                return wrong_at(Wrong::Image, 0);
+                return wrong_at(Wrong::NoImage, 0);
             }
-            plain(Word::Call(Call::Load))
+            plain(Word::Make(Call::Load))
         }
     }
 }
@@ -172,6 +184,8 @@ fn with_image(taken: Taken) -> Order
 // At most `room` bytes, put from `at` on.
 fn take(line: &[u8], from: usize, sent: &mut [u8], at: usize, room: usize) -> Taken
     requires { ⌜ (at ≤ 2) × (room ≤ 8193) × (8198 ≤ length (now sent)) ⌝ }
+    ensures { λ r. ⌜ ReadsAs (run (now (line .entry)) from room) (r .count) (r .fault) ⌝ }
+    ensures { λ _. ⌜ now (sent .exit) ≡ pasted at ((run (now (line .entry)) from room) .bytes) (now (sent .entry)) ⌝ }
     ensures { λ r. ⌜ r .count ≤ room ⌝ }
 {
     let end = at + room;
@@ -181,6 +195,7 @@ fn take(line: &[u8], from: usize, sent: &mut [u8], at: usize, room: usize) -> Ta
 // The sender stands at 0, the command from 1 on.
 fn occ(line: &[u8], from: usize, sent: &mut [u8]) -> Order
     requires { ⌜ (length (now line) ≤ 32768) × (8198 ≤ length (now sent)) ⌝ }
+    ensures { λ r. ⌜ got r (now (sent .exit)) ≡ occOf (now (line .entry)) from (now (sent .entry)) ⌝ }
     ensures { λ r. ⌜ r .count ≤ 8192 ⌝ }
 {
     let taken = take(line, from, sent, 0, 8193);
@@ -189,6 +204,7 @@ fn occ(line: &[u8], from: usize, sent: &mut [u8]) -> Order
 
 fn sbe(line: &[u8], from: usize, sent: &mut [u8]) -> Order
     requires { ⌜ (length (now line) ≤ 32768) × (8198 ≤ length (now sent)) ⌝ }
+    ensures { λ r. ⌜ got r (now (sent .exit)) ≡ sbeOf (now (line .entry)) from (now (sent .entry)) ⌝ }
     ensures { λ r. ⌜ r .count ≤ 8192 ⌝ }
 {
     let taken = take(line, from, sent, 0, 8192);
@@ -198,6 +214,7 @@ fn sbe(line: &[u8], from: usize, sent: &mut [u8]) -> Order
 // The sender stands at 2, the type at 3, and the data from 4 on, where they stand in a packet.
 fn send(line: &[u8], from: usize, sent: &mut [u8]) -> Order
     requires { ⌜ (length (now line) ≤ 32768) × (8198 ≤ length (now sent)) ⌝ }
+    ensures { λ r. ⌜ got r (now (sent .exit)) ≡ sendOf (now (line .entry)) from (now (sent .entry)) ⌝ }
     ensures { λ r. ⌜ r .count ≤ 8192 ⌝ }
 {
     let taken = take(line, from, sent, 2, 8188);
@@ -206,13 +223,15 @@ fn send(line: &[u8], from: usize, sent: &mut [u8]) -> Order
 
 fn load(line: &[u8], from: usize, sent: &mut [u8]) -> Order
     requires { ⌜ 8198 ≤ length (now sent) ⌝ }
-    ensures { λ r. ⌜ r .count ≡ 0 ⌝ }
+    ensures { λ r. ⌜ got r (now (sent .exit)) ≡ loadOf (now (line .entry)) from (now (sent .entry)) ⌝ }
+    ensures { λ r. ⌜ r .count ≤ 8192 ⌝ }
 {
     with_image(take(line, from, sent, 0, IMAGE))
 }
 
 fn read_call(call: Call, line: &[u8], from: usize, sent: &mut [u8]) -> Order
     requires { ⌜ (length (now line) ≤ 32768) × (8198 ≤ length (now sent)) ⌝ }
+    ensures { λ r. ⌜ got r (now (sent .exit)) ≡ callOf call (now (line .entry)) from (now (sent .entry)) ⌝ }
     ensures { λ r. ⌜ r .count ≤ 8192 ⌝ }
 {
     match call {
@@ -220,8 +239,8 @@ fn read_call(call: Call, line: &[u8], from: usize, sent: &mut [u8]) -> Order
         Call::Sbe => sbe(line, from, sent),
         Call::Send => send(line, from, sent),
         Call::Load => load(line, from, sent),
-        Call::Undo => alone(Word::Call(Call::Undo), line, from),
-        Call::Fresh => alone(Word::Call(Call::Fresh), line, from),
+        Call::Undo => alone(Word::Make(Call::Undo), line, from),
+        Call::Fresh => alone(Word::Make(Call::Fresh), line, from),
     }
 }
 
@@ -230,6 +249,7 @@ fn read_call(call: Call, line: &[u8], from: usize, sent: &mut [u8]) -> Order
 // The line's word stands from `at` on.
 fn read_word(line: &[u8], at: usize, sent: &mut [u8]) -> Order
     requires { ⌜ (at ≤ length (now line)) × (length (now line) ≤ 32768) × (8198 ≤ length (now sent)) ⌝ }
+    ensures { λ r. ⌜ got r (now (sent .exit)) ≡ orderAt (now (line .entry)) at (now (sent .entry)) ⌝ }
     ensures { λ r. ⌜ r .count ≤ 8192 ⌝ }
 {
     let rest = &line[at..];
@@ -237,15 +257,17 @@ fn read_word(line: &[u8], at: usize, sent: &mut [u8]) -> Order
     let end = at + n;
     let word = word_of(&rest[..n]);
     match word {
-        Word::Call(call) => read_call(call, line, end, sent),
-        Word::View(view) => alone(Word::View(view), line, end),
-        Word::Wrong(what) => wrong_at(what, at + 1),
-        Word::Nothing => plain(Word::Nothing),
+        Word::Make(call) => read_call(call, line, end, sent),
+        Word::Look(view) => alone(Word::Look(view), line, end),
+        Word::Fail(what) => wrong_at(what, at + 1),
+        Word::Skip => plain(Word::Skip),
     }
 }
 
 // Whether nothing stands from `at` on, or a remark.
-fn is_remark(line: &[u8], at: usize) -> bool {
+fn is_remark(line: &[u8], at: usize) -> bool
+    ensures { λ r. ⌜ r ≡ remark (now (line .entry)) at ⌝ }
+{
     if line.len() <= at {
         return true;
     }
@@ -254,20 +276,22 @@ fn is_remark(line: &[u8], at: usize) -> bool {
 
 fn read_line(line: &[u8], sent: &mut [u8]) -> Order
     requires { ⌜ 8198 ≤ length (now sent) ⌝ }
+    ensures { λ r. ⌜ got r (now (sent .exit)) ≡ orderOf (now (line .entry)) (now (sent .entry)) ⌝ }
     ensures { λ r. ⌜ r .count ≤ 8192 ⌝ }
 {
     if MOST_LINE < line.len() {
-        return wrong_at(Wrong::Long, MOST_LINE + 1);
+        return wrong_at(Wrong::LongLine, MOST_LINE + 1);
     }
     let at = text::past_blanks(line, 0);
     if is_remark(line, at) {
-        return plain(Word::Nothing);
+        return plain(Word::Skip);
     }
     read_word(line, at, sent)
 }
 
 // The length without one carriage return at the very end.
 fn line_len(s: &[u8]) -> usize
+    ensures { λ r. ⌜ r ≡ lineLength (now (s .entry)) ⌝ }
     ensures { λ r. ⌜ Counts r (now (s .entry)) ⌝ }
 {
     if s.len() == 0 {
@@ -282,10 +306,11 @@ fn line_len(s: &[u8]) -> usize
 
 // The order of a line without its line feed. A buffer that is too short for the longest command takes no order.
 pub fn read(s: &[u8], sent: &mut [u8]) -> Order
+    ensures { λ r. ⌜ (8198 ≤ length (now (sent .entry)) → got r (now (sent .exit)) ≡ orderOf (lineIn (now (s .entry))) (now (sent .entry))) ⌝ }
     ensures { λ r. ⌜ r .count ≤ 8192 ⌝ }
 {
     if sent.len() < ROOM {
-        return plain(Word::Nothing);
+        return plain(Word::Skip);
     }
     let n = line_len(s);
     read_line(&s[..n], sent)

@@ -146,24 +146,24 @@ fn obey(s: Session, order: Order, sequence: u8, sent: &mut [u8], out: &mut [u8])
 {
     let word = order.word;
     match word {
-        Word::Call(call) => carry_out(s, call, order.count, sequence, sent, out),
-        Word::View(view) => {
+        Word::Make(call) => carry_out(s, call, order.count, sequence, sent, out),
+        Word::Look(view) => {
             let n = look(s, view, out);
             tell(out, n);
             s
         }
-        Word::Wrong(what) => {
+        Word::Fail(what) => {
             let n = answers::complaint(out, what, order.column);
             tell(out, n);
             s
         }
-        Word::Nothing => s,
+        Word::Skip => s,
     }
 }
 
 // The sequence of the last packet that `send` made goes up by one with each, and wraps.
 fn next_sequence(word: Word, sequence: u8) -> u8 {
-    if let Word::Call(call) = word {
+    if let Word::Make(call) = word {
         if let Call::Send = call {
             return std::num::wrapping_add_u8(sequence, 1);
         }

@@ -1,21 +1,21 @@
 -- What each turn of a loop does. Assumes nothing.
-use Prim.Native.Nat.{ℕ, suc, _+_, _-_, _*_, _<_, _≤_}
+use Prim.Native.Nat.{ℕ, suc, _+_, _-_, _*_, _/_, _%_, _<_, _≤_}
 use mathlib.Core.Bool.{Bool, true, false, cond, not}
 use mathlib.Core.Path.{_≡_, refl, sym, ap, subst, _∙_}
 use mathlib.Core.List.{List, [], _∷_}
 use native.Mathlib.Numerals.{add-one}
 use native.Mathlib.Nat.{add-zero, zero-add, sub-zero}
 use native.Mathlib.Omega.{arith}
-use lib.Dec.{ltb}
+use lib.Dec.{ltb, eqb}
 use lib.ListN.{length, getD, drop, set, drop-of-length-le}
 use lib.Seq.{drop-cons}
 use borrow.Author.Tests.{ltb-true, ltb-false}
 use Rattle.wire.specs.Wire.{pasted}
-use Rattle.wire.specs.Cases.{if-b, else-b, if-lt, else-lt, if-le, else-le}
+use Rattle.wire.specs.Cases.{if-b, else-b, if-lt, else-lt, if-le, else-le, if-ne, else-ne, cond-elim}
 use Rattle.wire.proofs.Loops.{store-first, paste-none}
 use Rattle.text.specs.declared.Fault.{Fault}
 use Rattle.text.specs.declared.Fault.the-variants.{Nothing, Digit, Over}
-use Rattle.text.specs.Text.{blank, leading, digitOf, digitAt, Run, stopped, onto, Due, high, low, readFrom, run, Takes}
+use Rattle.text.specs.Text.{blank, leading, digitOf, digitAt, Run, stopped, onto, Due, high, low, readFrom, run, Takes, sameText, Sheet, sheet, putOn, putAll, hexDigit, hexOf, hexes, spaced}
 
 -- ---- tests of a call's answer: t is the answer, b what the contract says of it
 
@@ -164,3 +164,58 @@ module _ {s : List ℕ} {at m n : ℕ} {d : List ℕ} {q₀ : Run} {d₀ : List 
               (at-low s (suc at) (m - n) (suc (suc at)) (t .0) (digitOf (getD s at 0)) (omega arith)
               ∙ at-high s at (m - n) (suc at) more dense (omega arith) (omega arith)) in
               record { rest = store h byte (l .rest) }
+
+-- ---- two texts: what is left decides
+
+pub differ : (a b : List ℕ) → (length a ≡ length b → ⊥) → false ≡ sameText a b
+unfolding sameText
+differ [] [] h = absurd (h refl)
+differ [] (y ∷ ys) h = refl
+differ (x ∷ xs) [] h = refl
+differ (x ∷ xs) (y ∷ ys) h =
+    cond-elim (λ (t : Bool). false ≡ t) (not (eqb x y)) refl (differ xs ys (λ e. h (ap suc e)))
+
+module _ (a b : List ℕ) (i : ℕ) where
+  pub same-end : length a ≤ i → length b ≤ i → true ≡ sameText (drop i a) (drop i b)
+  unfolding sameText
+  same-end h k = rw (drop-of-length-le a h, drop-of-length-le b k)
+
+  module _ (h : i < length a) (k : i < length b) where
+    pub same-not : (getD a i 0 ≡ getD b i 0 → ⊥) → false ≡ sameText (drop i a) (drop i b)
+    unfolding sameText
+    same-not e = rw (drop-cons a i 0 h, drop-cons b i 0 k) (if-ne _ _ e refl)
+
+    pub same-more : getD a i 0 ≡ getD b i 0 → sameText (drop (i + 1) a) (drop (i + 1) b) ≡ sameText (drop i a) (drop i b)
+    unfolding sameText
+    same-more e = rw (add-one i, drop-cons a i 0 h, drop-cons b i 0 k) (else-ne _ _ e refl)
+
+-- ---- pieces: those left, put now, give the end
+
+pub put-fits : (at : ℕ) (bs d : List ℕ) {d′ : List ℕ} → at ≤ length d → length bs ≤ length d - at → d′ ≡ pasted at bs d
+    → sheet d′ (at + length bs) ≡ putOn (sheet d at) bs
+unfolding putOn
+put-fits at bs d h k e = else-lt _ _ h (else-lt _ _ k (ap (λ (x : List ℕ). sheet x (at + length bs)) e))
+
+pub hex-pair : {x y : ℕ} (b : ℕ) → x ≡ hexDigit (b / 16) → y ≡ hexDigit (b % 16) → x ∷ y ∷ [] ≡ hexOf b
+unfolding hexOf
+hex-pair b p q = rw (p, q)
+
+module _ (s : List ℕ) (i : ℕ) (p : Sheet) {q : Sheet} where
+  pub hexes-more : i < length s → q ≡ putOn p (hexOf (getD s i 0)) → putAll q (hexes (drop (i + 1) s)) ≡ putAll p (hexes (drop i s))
+  unfolding hexes putAll
+  hexes-more h e = rw (add-one i, drop-cons s i 0) (ap (λ (x : Sheet). putAll x (hexes (drop (suc i) s))) e)
+
+  pub spaced-more : {r : Sheet} → i < length s → q ≡ putOn p (32 ∷ []) → r ≡ putOn q (hexOf (getD s i 0))
+      → putAll r (spaced (drop (i + 1) s)) ≡ putAll p (spaced (drop i s))
+  unfolding spaced putAll
+  spaced-more h e f =
+      rw (add-one i, drop-cons s i 0)
+      (ap (λ (x : Sheet). putAll x (spaced (drop (suc i) s))) (f ∙ ap (λ (x : Sheet). putOn x (hexOf (getD s i 0))) e))
+
+pub hexes-end : (s : List ℕ) (i : ℕ) (p : Sheet) → length s ≤ i → p ≡ putAll p (hexes (drop i s))
+unfolding hexes putAll
+hexes-end s i p h = rw (drop-of-length-le s h)
+
+pub spaced-end : (s : List ℕ) (i : ℕ) (p : Sheet) → length s ≤ i → p ≡ putAll p (spaced (drop i s))
+unfolding spaced putAll
+spaced-end s i p h = rw (drop-of-length-le s h)

@@ -1,13 +1,21 @@
 -- docs/PROTOCOL.md, "Lines" and "Bytes": blanks, words, and bytes in hex. Text is a list of ASCII numbers.
-use Prim.Native.Nat.{ℕ, suc, _+_, _-_, _*_}
+use Prim.Native.Nat.{ℕ, suc, _+_, _-_, _*_, _/_, _%_}
 use mathlib.Core.Bool.{Bool, true, false, cond, not}
 use mathlib.Core.Path.{_≡_}
 use mathlib.Core.List.{List, [], _∷_}
 use lib.Dec.{eqb, ltb, leb}
 use lib.ListN.{length, drop, getD}
+use Rattle.io.specs.Digits.{digits, Fewest}
 use Rattle.wire.specs.Wire.{pasted}
 use Rattle.text.specs.declared.Fault.{Fault}
 use Rattle.text.specs.declared.Fault.the-variants.{Nothing, Digit, Over}
+
+-- whether two texts are equal
+unfoldable pub sameText : List ℕ → List ℕ → Bool
+sameText [] [] = true
+sameText [] (y ∷ ys) = false
+sameText (x ∷ xs) [] = false
+sameText (x ∷ xs) (y ∷ ys) = cond (not (eqb x y)) false (sameText xs ys)
 
 -- ---- words
 
@@ -84,3 +92,48 @@ pub record Takes (q : Run) (d d′ : List ℕ) (n : ℕ) (f : Fault) : Type 0 wh
   pub stands : d′ ≡ pasted 0 (q .bytes) d
   pub count : n ≡ length (q .bytes)
   pub wrong : f ≡ q .fault
+
+-- ---- text put into a buffer
+
+-- a buffer, and the place past what was put last
+pub record Sheet : Type 0 where
+  pub text : List ℕ
+  pub past : ℕ
+
+abbrev pub sheet : List ℕ → ℕ → Sheet
+sheet d at = record { text = d; past = at }
+
+-- what doesn't fit is left out whole, and no place is past the end
+unfoldable pub putOn : Sheet → List ℕ → Sheet
+putOn p bs =
+    cond (ltb (length (p .text)) (p .past)) (sheet (p .text) (length (p .text)))
+    (cond (ltb (length (p .text) - p .past) (length bs)) p
+    (sheet (pasted (p .past) bs (p .text)) (p .past + length bs)))
+
+-- one piece after the other
+unfoldable pub putAll : Sheet → List (List ℕ) → Sheet
+putAll p [] = p
+putAll p (x ∷ xs) = putAll (putOn p x) xs
+
+-- "hex letters are capitals": 48 is "0", 65 is "A"
+unfoldable pub hexDigit : ℕ → ℕ
+hexDigit d = cond (ltb d 10) (48 + d) (65 + (d - 10))
+
+unfoldable pub hexOf : ℕ → List ℕ
+hexOf b = hexDigit (b / 16) ∷ hexDigit (b % 16) ∷ []
+
+-- bytes with nothing between
+unfoldable pub hexes : List ℕ → List (List ℕ)
+hexes [] = []
+hexes (b ∷ bs) = hexOf b ∷ hexes bs
+
+-- bytes, each after a blank
+unfoldable pub spaced : List ℕ → List (List ℕ)
+spaced [] = []
+spaced (b ∷ bs) = (32 ∷ []) ∷ hexOf b ∷ spaced bs
+
+-- a number in decimal: its fewest digits, the most significant first
+pub record PutsDecimal (n : ℕ) (p q : Sheet) : Type 0 where
+  pub places : ℕ
+  pub fewest : Fewest 10 1 n places
+  pub puts : q ≡ putOn p (digits 10 places n)

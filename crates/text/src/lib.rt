@@ -1,10 +1,10 @@
 // Text of lines: reading words and bytes in hex, and putting text into a lent buffer. Each `put` writes from `at` on and gives the place
 // past it; what doesn't fit is left out whole, so no buffer is too short to lend.
 ghost use mathlib.Core.Path.{_≡_};
-ghost use Prim.Native.Nat.{_≤_};
+ghost use Prim.Native.Nat.{_≤_, _<_};
 ghost use lib.ListN.{length};
 ghost use Rattle.io.specs.Counts.{Counts};
-ghost use Rattle.text.specs.Text.{blank, inWord, other, leading, pastBlanks, digitOf, digitAt, run, Takes};
+ghost use Rattle.text.specs.Text.{blank, inWord, other, leading, pastBlanks, digitOf, digitAt, run, Takes, sameText, sheet, putOn, putAll, hexDigit, hexOf, hexes, spaced, PutsDecimal};
 
 // ---- reading
 
@@ -67,7 +67,9 @@ pub fn find(s: &[u8], c: u8) -> usize
 }
 
 // Whether two texts are equal.
-pub fn same(a: &[u8], b: &[u8]) -> bool {
+pub fn same(a: &[u8], b: &[u8]) -> bool
+    ensures { λ r. ⌜ r ≡ sameText (now (a .entry)) (now (b .entry)) ⌝ }
+{
     if a.len() != b.len() {
         return false;
     }
@@ -178,6 +180,7 @@ pub fn take_bytes(s: &[u8], from: usize, out: &mut [u8]) -> Taken
 
 pub fn put(out: &mut [u8], at: usize, s: &[u8]) -> usize
     ensures { λ r. ⌜ Counts r (now (out .exit)) ⌝ }
+    ensures { λ r. ⌜ sheet (now (out .exit)) r ≡ putOn (sheet (now (out .entry)) at) (now (s .entry)) ⌝ }
 {
     if out.len() < at {
         return out.len();
@@ -190,24 +193,26 @@ pub fn put(out: &mut [u8], at: usize, s: &[u8]) -> usize
 }
 
 // The capital digit for a number below 16.
-fn glyph(d: u8) -> u8 {
-    match d {
-        0..=9 => b'0' + d,
-        10..=15 => b'A' + (d - 10),
-        _ => b'?',
-    }
+fn glyph(d: u8) -> u8
+    requires { ⌜ d < 16 ⌝ }
+    ensures { λ r. ⌜ r ≡ hexDigit d ⌝ }
+{
+    if d < 10 { b'0' + d } else { b'A' + (d - 10) }
 }
 
 // A byte's two digits.
 pub fn put_hex(out: &mut [u8], at: usize, b: u8) -> usize
     ensures { λ r. ⌜ Counts r (now (out .exit)) ⌝ }
+    ensures { λ r. ⌜ sheet (now (out .exit)) r ≡ putOn (sheet (now (out .entry)) at) (hexOf b) ⌝ }
 {
     let digits = [glyph(b / 16), glyph(b % 16)];
     put(out, at, &digits)
 }
 
 // Bytes in hex with nothing between.
-pub fn put_hexes(out: &mut [u8], at: usize, s: &[u8]) -> usize {
+pub fn put_hexes(out: &mut [u8], at: usize, s: &[u8]) -> usize
+    ensures { λ r. ⌜ sheet (now (out .exit)) r ≡ putAll (sheet (now (out .entry)) at) (hexes (now (s .entry))) ⌝ }
+{
     let mut end = at;
     let mut i = 0;
     while i < s.len() {
@@ -218,7 +223,9 @@ pub fn put_hexes(out: &mut [u8], at: usize, s: &[u8]) -> usize {
 }
 
 // Bytes in hex, each after a blank.
-pub fn put_bytes(out: &mut [u8], at: usize, s: &[u8]) -> usize {
+pub fn put_bytes(out: &mut [u8], at: usize, s: &[u8]) -> usize
+    ensures { λ r. ⌜ sheet (now (out .exit)) r ≡ putAll (sheet (now (out .entry)) at) (spaced (now (s .entry))) ⌝ }
+{
     let mut end = at;
     let mut i = 0;
     while i < s.len() {
@@ -231,6 +238,7 @@ pub fn put_bytes(out: &mut [u8], at: usize, s: &[u8]) -> usize {
 
 pub fn put_decimal(out: &mut [u8], at: usize, n: u64) -> usize
     ensures { λ r. ⌜ Counts r (now (out .exit)) ⌝ }
+    ensures { λ r. ⌜ PutsDecimal n (sheet (now (out .entry)) at) (sheet (now (out .exit)) r) ⌝ }
 {
     let mut digits = [0u8; 20];
     let k = io::decimal(n, &mut digits);

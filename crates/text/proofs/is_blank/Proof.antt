@@ -1,3 +1,4 @@
+-- `text::is_blank` meets its contract: the tests are those of the definition, in its order. Assumes nothing.
 use mathlib.Core.Path.{refl}
 use Rattle.wire.specs.Cases.{else-eq, if-eq}
 use Rattle.text.specs.Text.{blank}

@@ -1,19 +1,24 @@
--- `text::put` meets its contract: what is copied fits, and the length is kept. Assumes nothing.
+-- `text::put` meets its contract: the tests are those of the definition, in its order. Assumes nothing.
+use Rattle.text.proofs.Turns.{put-fits}
+use Rattle.text.specs.Text.{putOn}
+use Rattle.wire.specs.Cases.{if-lt, else-lt}
+use mathlib.Core.Path.{refl, sym}
 use lib.Seq.{length-take-le}
-use mathlib.Core.Path.{sym}
 use native.Mathlib.Omega.{arith}
 use borrow.Author.Needs.{needs}
 use Rattle.text.proofs.put.Statement.{statement}
 use Rattle.text.proofs.put.Tie as tie
 
 returns : tie.Need-returns
-returns c = (omega arith, sym (length-take-le _ _ (omega arith)))
+unfolding putOn
+returns c = ((omega arith, sym (length-take-le _ _ (omega arith))), if-lt _ _ (c .if1 .taken) refl)
 
 sub-if2 : tie.Need-sub-if2
 sub-if2 c = search needs
 
 returns-2 : tie.Need-returns-2
-returns-2 c = (omega arith, sym (length-take-le _ _ (omega arith)))
+unfolding putOn
+returns-2 c = ((omega arith, sym (length-take-le _ _ (omega arith))), else-lt _ _ (c .before .if1 .left) (if-lt _ _ (c .if2 .taken) refl))
 
 copy-requires : tie.Need-copy-requires
 copy-requires c κs = search needs
@@ -25,7 +30,7 @@ same-length : tie.Need-same-length
 same-length c = search needs
 
 returns-3 : tie.Need-returns-3
-returns-3 c = (omega arith, sym (length-take-le _ _ (omega arith)))
+returns-3 c = ((omega arith, sym (length-take-le _ _ (omega arith))), put-fits _ _ _ (c .before .before .before .before .before .if1 .left) (c .before .before .before .before .if2 .left) (c .before .before .copy .ensures))
 
 pub put-spec : {M : Type 1} → statement M
 put-spec =

@@ -1,19 +1,21 @@
--- `text::put_hexes` meets its contract: the length is kept; what is left of the bytes falls. Assumes nothing.
-use mathlib.Core.Path.{_≡_}
-use borrow.Author.Needs.{needs}
-use lib.ListN.{length}
+-- `text::put_hexes` meets its contract: the pieces left, put now, give the end. Assumes nothing.
+use Rattle.text.specs.Text.{sheet, putAll, hexes}
+use Rattle.text.proofs.Turns.{hexes-more, hexes-end}
 use Prim.Native.Nat.{_-_}
+use lib.ListN.{length, drop}
+use mathlib.Core.Path.{_≡_, refl, _∙_}
+use borrow.Author.Needs.{needs}
 use Rattle.text.proofs.put_hexes.Statement.{statement}
 use Rattle.text.proofs.put_hexes.Tie as tie
 
 abbrev Inv-loop : tie.InvT-loop
-Inv-loop out₀ at s end₀ i₀ out end i = length out ≡ length out₀
+Inv-loop out₀ at s end₀ i₀ out end i = (length out ≡ length out₀) × (putAll (sheet out end) (hexes (drop i s)) ≡ putAll (sheet out₀ at) (hexes s))
 
 abbrev μ-loop : tie.MeasureT-loop
 μ-loop out₀ at s end₀ i₀ out end i = length s - i
 
 loop-holds : tie.Need-loop-holds Inv-loop μ-loop
-loop-holds c = search needs
+loop-holds c = (refl, refl)
 
 shared-slice-read-put-hex : tie.Need-shared-slice-read-put-hex Inv-loop μ-loop
 shared-slice-read-put-hex c = search needs
@@ -28,13 +30,13 @@ loop-less : tie.Need-loop-less Inv-loop μ-loop
 loop-less c = search needs
 
 loop-again : tie.Need-loop-again Inv-loop μ-loop
-loop-again c = search needs
+loop-again c = (search needs, hexes-more _ (c .before .before .before .before .before .before .loop .i) _ (c .before .before .before .before .before .loop-test .taken) (c .before .before .put-hex .ensures .1) ∙ c .before .before .before .before .before .before .loop .inv .1)
 
 same-length : tie.Need-same-length Inv-loop μ-loop
 same-length c = search needs
 
 returns : tie.Need-returns Inv-loop μ-loop
-returns c = search needs
+returns c = hexes-end _ (c .before .loop .i) _ (c .loop-test .left) ∙ c .before .loop .inv .1
 
 pub put-hexes-spec : {M : Type 1} → statement M
 put-hexes-spec =

@@ -1,0 +1,105 @@
+-- `orders::read_call` meets its contract: each call is a case of the definition. Assumes nothing.
+use Rattle.orders.proofs.Reading.{call-as, kept}
+use Rattle.orders.specs.Orders.{callOf}
+use borrow.Author.Needs.{needs}
+use Rattle.orders.proofs.read_call.Statement.{statement}
+use Rattle.orders.proofs.read_call.Tie as tie
+
+enum-told : tie.Need-enum-told
+enum-told c = search needs
+
+occ-requires : tie.Need-occ-requires
+occ-requires c κs = search needs
+
+enum-told-2 : tie.Need-enum-told-2
+enum-told-2 c = search needs
+
+sbe-requires : tie.Need-sbe-requires
+sbe-requires c κs = search needs
+
+enum-told-3 : tie.Need-enum-told-3
+enum-told-3 c = search needs
+
+send-requires : tie.Need-send-requires
+send-requires c κs = search needs
+
+enum-told-4 : tie.Need-enum-told-4
+enum-told-4 c = search needs
+
+load-requires : tie.Need-load-requires
+load-requires c κs = search needs
+
+enum-told-5 : tie.Need-enum-told-5
+enum-told-5 c = search needs
+
+alone-requires : tie.Need-alone-requires
+alone-requires c κs = search needs
+
+enum-told-6 : tie.Need-enum-told-6
+enum-told-6 c = search needs
+
+alone-requires-2 : tie.Need-alone-requires-2
+alone-requires-2 c κs = search needs
+
+same-length : tie.Need-same-length
+same-length c = search needs
+
+returns : tie.Need-returns
+unfolding callOf
+returns c = (call-as _ _ _ (c .before .before .before .before .enum-told .given .1) (c .before .before .occ .ensures .0), search needs)
+
+same-length-2 : tie.Need-same-length-2
+same-length-2 c = search needs
+
+returns-2 : tie.Need-returns-2
+unfolding callOf
+returns-2 c = (call-as _ _ _ (c .before .before .before .before .enum-told2 .given .1) (c .before .before .sbe .ensures .0), search needs)
+
+same-length-3 : tie.Need-same-length-3
+same-length-3 c = search needs
+
+returns-3 : tie.Need-returns-3
+unfolding callOf
+returns-3 c = (call-as _ _ _ (c .before .before .before .before .enum-told3 .given .1) (c .before .before .send .ensures .0), search needs)
+
+same-length-4 : tie.Need-same-length-4
+same-length-4 c = search needs
+
+returns-4 : tie.Need-returns-4
+unfolding callOf
+returns-4 c = (call-as _ _ _ (c .before .before .before .before .enum-told4 .given .1) (c .before .before .load .ensures .0), search needs)
+
+returns-5 : tie.Need-returns-5
+unfolding callOf
+returns-5 c = (call-as _ _ _ (c .before .enum-told5 .given .1) (kept _ (c .alone .ensures .0)), search needs)
+
+returns-6 : tie.Need-returns-6
+unfolding callOf
+returns-6 c = (call-as _ _ _ (c .before .enum-told6 .given .1) (kept _ (c .alone2 .ensures .0)), search needs)
+
+pub read-call-spec : {M : Type 1} → statement M
+read-call-spec =
+    tie.close
+    (tie.spec
+    enum-told
+    occ-requires
+    enum-told-2
+    sbe-requires
+    enum-told-3
+    send-requires
+    enum-told-4
+    load-requires
+    enum-told-5
+    alone-requires
+    enum-told-6
+    alone-requires-2
+    same-length
+    returns
+    same-length-2
+    returns-2
+    same-length-3
+    returns-3
+    same-length-4
+    returns-4
+    returns-5
+    returns-6)

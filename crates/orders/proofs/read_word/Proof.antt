@@ -1,0 +1,94 @@
+-- `orders::read_word` meets its contract: the word was found in the part that starts at it. Assumes nothing.
+use Rattle.orders.proofs.Reading.{order-at, order-make, order-look, order-fail, order-skip}
+use borrow.Author.Needs.{needs}
+use Rattle.orders.proofs.read_word.Statement.{statement}
+use Rattle.orders.proofs.read_word.Tie as tie
+
+sub-rest : tie.Need-sub-rest
+sub-rest c = search needs
+
+part-rest-start : tie.Need-part-rest-start
+part-rest-start c = search needs
+
+part-rest-end : tie.Need-part-rest-end
+part-rest-end c = search needs
+
+word-len-requires : tie.Need-word-len-requires
+word-len-requires c κs = search needs
+
+add-end : tie.Need-add-end
+add-end c = search needs
+
+slice-aggregate-word-of : tie.Need-slice-aggregate-word-of
+slice-aggregate-word-of c = search needs
+
+word-of-requires : tie.Need-word-of-requires
+word-of-requires c κs = search needs
+
+enum-known-word : tie.Need-enum-known-word
+enum-known-word c = search needs
+
+read-call-requires : tie.Need-read-call-requires
+read-call-requires c κs = search needs
+
+enum-known-word-2 : tie.Need-enum-known-word-2
+enum-known-word-2 c = search needs
+
+alone-requires : tie.Need-alone-requires
+alone-requires c κs = search needs
+
+enum-known-word-3 : tie.Need-enum-known-word-3
+enum-known-word-3 c = search needs
+
+add-wrong-at : tie.Need-add-wrong-at
+add-wrong-at c = search needs
+
+wrong-at-requires : tie.Need-wrong-at-requires
+wrong-at-requires c κs = search needs
+
+enum-told : tie.Need-enum-told
+enum-told c = search needs
+
+plain-requires : tie.Need-plain-requires
+plain-requires c κs = search needs
+
+same-length : tie.Need-same-length
+same-length c = search needs
+
+returns : tie.Need-returns
+returns c = (order-at _ _ _ (c .before .before .before .before .before .before .before .before .before .word-len .ensures .0) (c .before .before .before .before .before .before .before .word-of .ensures) (order-make _ _ _ _ (c .before .before .before .before .before .word .given .1) (c .before .before .read-call .ensures .0)), search needs)
+
+returns-2 : tie.Need-returns-2
+returns-2 c = (order-at _ _ _ (c .before .before .before .before .before .before .word-len .ensures .0) (c .before .before .before .before .word-of .ensures) (order-look _ _ _ _ (c .before .before .word2 .given .1) (c .alone .ensures .0)), search needs)
+
+returns-3 : tie.Need-returns-3
+returns-3 c = (order-at _ _ _ (c .before .before .before .before .before .before .word-len .ensures .0) (c .before .before .before .before .word-of .ensures) (order-fail _ _ _ _ (c .before .before .word3 .given .1) (c .wrong-at .ensures .0)), search needs)
+
+returns-4 : tie.Need-returns-4
+returns-4 c = (order-at _ _ _ (c .before .before .before .before .before .word-len .ensures .0) (c .before .before .before .word-of .ensures) (order-skip _ _ _ _ (c .before .enum-told .given .1) (c .plain .ensures .0)), search needs)
+
+pub read-word-spec : {M : Type 1} → statement M
+read-word-spec =
+    tie.close
+    (tie.spec
+    sub-rest
+    part-rest-start
+    part-rest-end
+    word-len-requires
+    add-end
+    slice-aggregate-word-of
+    word-of-requires
+    enum-known-word
+    read-call-requires
+    enum-known-word-2
+    alone-requires
+    enum-known-word-3
+    add-wrong-at
+    wrong-at-requires
+    enum-told
+    plain-requires
+    same-length
+    returns
+    returns-2
+    returns-3
+    returns-4)

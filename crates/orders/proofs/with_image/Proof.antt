@@ -1,0 +1,54 @@
+-- `orders::with_image` meets its contract: each fault is a case of the definition. Assumes nothing.
+use Rattle.orders.proofs.Reading.{digit-image, over-image, short-image, good-image}
+use borrow.Author.Needs.{needs}
+use Rattle.orders.proofs.with_image.Statement.{statement}
+use Rattle.orders.proofs.with_image.Tie as tie
+
+enum-known-fault : tie.Need-enum-known-fault
+enum-known-fault c = search needs
+
+wrong-at-requires : tie.Need-wrong-at-requires
+wrong-at-requires c κs = search needs
+
+enum-told : tie.Need-enum-told
+enum-told c = search needs
+
+wrong-at-requires-2 : tie.Need-wrong-at-requires-2
+wrong-at-requires-2 c κs = search needs
+
+enum-told-2 : tie.Need-enum-told-2
+enum-told-2 c = search needs
+
+wrong-at-requires-3 : tie.Need-wrong-at-requires-3
+wrong-at-requires-3 c κs = search needs
+
+returns : tie.Need-returns
+returns c = (short-image _ (c .before .before .enum-told2 .given .1) (c .before .if1 .taken) (c .wrong-at3 .ensures .0), search needs)
+
+plain-requires : tie.Need-plain-requires
+plain-requires c κs = search needs
+
+returns-2 : tie.Need-returns-2
+returns-2 c = (digit-image _ (c .before .before .fault .given .1) (c .wrong-at .ensures .0), search needs)
+
+returns-3 : tie.Need-returns-3
+returns-3 c = (over-image _ (c .before .enum-told .given .1) (c .wrong-at2 .ensures .0), search needs)
+
+returns-4 : tie.Need-returns-4
+returns-4 c = (good-image _ (c .before .before .enum-told2 .given .1) (c .before .if1 .left) (c .plain .ensures .0), search needs)
+
+pub with-image-spec : {M : Type 1} → statement M
+with-image-spec =
+    tie.close
+    (tie.spec
+    enum-known-fault
+    wrong-at-requires
+    enum-told
+    wrong-at-requires-2
+    enum-told-2
+    wrong-at-requires-3
+    returns
+    plain-requires
+    returns-2
+    returns-3
+    returns-4)

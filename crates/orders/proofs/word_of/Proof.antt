@@ -1,0 +1,99 @@
+-- `orders::word_of` meets its contract: its tests are those of the definition, in its order. Assumes nothing.
+use mathlib.Core.Path.{refl, sym, _∙_}
+use Rattle.wire.specs.Cases.{else-b, if-b}
+use Rattle.orders.specs.Orders.{wordOf}
+use borrow.Author.Needs.{needs}
+use Rattle.orders.proofs.word_of.Statement.{statement}
+use Rattle.orders.proofs.word_of.Tie as tie
+
+slice-aggregate-same : tie.Need-slice-aggregate-same
+slice-aggregate-same c = search needs
+
+same-requires : tie.Need-same-requires
+same-requires c κs = search needs
+
+returns : tie.Need-returns
+unfolding wordOf
+returns c = if-b _ _ (sym (c .before .same .ensures) ∙ c .if1 .taken) refl
+
+slice-aggregate-same-2 : tie.Need-slice-aggregate-same-2
+slice-aggregate-same-2 c = search needs
+
+same-requires-2 : tie.Need-same-requires-2
+same-requires-2 c κs = search needs
+
+returns-2 : tie.Need-returns-2
+unfolding wordOf
+returns-2 c = else-b _ _ (sym (c .before .before .before .before .same .ensures) ∙ c .before .before .before .if1 .left) (if-b _ _ (sym (c .before .same2 .ensures) ∙ c .if2 .taken) refl)
+
+slice-aggregate-same-3 : tie.Need-slice-aggregate-same-3
+slice-aggregate-same-3 c = search needs
+
+same-requires-3 : tie.Need-same-requires-3
+same-requires-3 c κs = search needs
+
+returns-3 : tie.Need-returns-3
+unfolding wordOf
+returns-3 c = else-b _ _ (sym (c .before .before .before .before .before .before .before .same .ensures) ∙ c .before .before .before .before .before .before .if1 .left) (else-b _ _ (sym (c .before .before .before .before .same2 .ensures) ∙ c .before .before .before .if2 .left) (if-b _ _ (sym (c .before .same3 .ensures) ∙ c .if3 .taken) refl))
+
+slice-aggregate-same-4 : tie.Need-slice-aggregate-same-4
+slice-aggregate-same-4 c = search needs
+
+same-requires-4 : tie.Need-same-requires-4
+same-requires-4 c κs = search needs
+
+returns-4 : tie.Need-returns-4
+unfolding wordOf
+returns-4 c = else-b _ _ (sym (c .before .before .before .before .before .before .before .before .before .before .same .ensures) ∙ c .before .before .before .before .before .before .before .before .before .if1 .left) (else-b _ _ (sym (c .before .before .before .before .before .before .before .same2 .ensures) ∙ c .before .before .before .before .before .before .if2 .left) (else-b _ _ (sym (c .before .before .before .before .same3 .ensures) ∙ c .before .before .before .if3 .left) (if-b _ _ (sym (c .before .same4 .ensures) ∙ c .if4 .taken) refl)))
+
+slice-aggregate-same-5 : tie.Need-slice-aggregate-same-5
+slice-aggregate-same-5 c = search needs
+
+same-requires-5 : tie.Need-same-requires-5
+same-requires-5 c κs = search needs
+
+returns-5 : tie.Need-returns-5
+unfolding wordOf
+returns-5 c = else-b _ _ (sym (c .before .before .before .before .before .before .before .before .before .before .before .before .before .same .ensures) ∙ c .before .before .before .before .before .before .before .before .before .before .before .before .if1 .left) (else-b _ _ (sym (c .before .before .before .before .before .before .before .before .before .before .same2 .ensures) ∙ c .before .before .before .before .before .before .before .before .before .if2 .left) (else-b _ _ (sym (c .before .before .before .before .before .before .before .same3 .ensures) ∙ c .before .before .before .before .before .before .if3 .left) (else-b _ _ (sym (c .before .before .before .before .same4 .ensures) ∙ c .before .before .before .if4 .left) (if-b _ _ (sym (c .before .same5 .ensures) ∙ c .if5 .taken) refl))))
+
+slice-aggregate-same-6 : tie.Need-slice-aggregate-same-6
+slice-aggregate-same-6 c = search needs
+
+same-requires-6 : tie.Need-same-requires-6
+same-requires-6 c κs = search needs
+
+returns-6 : tie.Need-returns-6
+unfolding wordOf
+returns-6 c = else-b _ _ (sym (c .before .before .before .before .before .before .before .before .before .before .before .before .before .before .before .before .same .ensures) ∙ c .before .before .before .before .before .before .before .before .before .before .before .before .before .before .before .if1 .left) (else-b _ _ (sym (c .before .before .before .before .before .before .before .before .before .before .before .before .before .same2 .ensures) ∙ c .before .before .before .before .before .before .before .before .before .before .before .before .if2 .left) (else-b _ _ (sym (c .before .before .before .before .before .before .before .before .before .before .same3 .ensures) ∙ c .before .before .before .before .before .before .before .before .before .if3 .left) (else-b _ _ (sym (c .before .before .before .before .before .before .before .same4 .ensures) ∙ c .before .before .before .before .before .before .if4 .left) (else-b _ _ (sym (c .before .before .before .before .same5 .ensures) ∙ c .before .before .before .if5 .left) (if-b _ _ (sym (c .before .same6 .ensures) ∙ c .if6 .taken) refl)))))
+
+view-of-requires : tie.Need-view-of-requires
+view-of-requires c κs = search needs
+
+returns-7 : tie.Need-returns-7
+unfolding wordOf
+returns-7 c = else-b _ _ (sym (c .before .before .before .before .before .before .before .before .before .before .before .before .before .before .before .before .before .same .ensures) ∙ c .before .before .before .before .before .before .before .before .before .before .before .before .before .before .before .before .if1 .left) (else-b _ _ (sym (c .before .before .before .before .before .before .before .before .before .before .before .before .before .before .same2 .ensures) ∙ c .before .before .before .before .before .before .before .before .before .before .before .before .before .if2 .left) (else-b _ _ (sym (c .before .before .before .before .before .before .before .before .before .before .before .same3 .ensures) ∙ c .before .before .before .before .before .before .before .before .before .before .if3 .left) (else-b _ _ (sym (c .before .before .before .before .before .before .before .before .same4 .ensures) ∙ c .before .before .before .before .before .before .before .if4 .left) (else-b _ _ (sym (c .before .before .before .before .before .same5 .ensures) ∙ c .before .before .before .before .if5 .left) (else-b _ _ (sym (c .before .before .same6 .ensures) ∙ c .before .if6 .left) (c .view-of .ensures))))))
+
+pub word-of-spec : {M : Type 1} → statement M
+word-of-spec =
+    tie.close
+    (tie.spec
+    slice-aggregate-same
+    same-requires
+    returns
+    slice-aggregate-same-2
+    same-requires-2
+    returns-2
+    slice-aggregate-same-3
+    same-requires-3
+    returns-3
+    slice-aggregate-same-4
+    same-requires-4
+    returns-4
+    slice-aggregate-same-5
+    same-requires-5
+    returns-5
+    slice-aggregate-same-6
+    same-requires-6
+    returns-6
+    view-of-requires
+    returns-7)

@@ -1,0 +1,140 @@
+-- docs/PROTOCOL.md, "Lines", "Bytes" and "Words": the order that a line gives. Text is a list of ASCII numbers.
+use Prim.Native.Nat.{ℕ, _+_, _-_}
+use mathlib.Core.Bool.{Bool, true, false, cond, not}
+use mathlib.Core.Path.{_≡_}
+use mathlib.Core.List.{List, [], _∷_}
+use lib.Dec.{eqb, ltb, leb}
+use lib.ListN.{length, take, drop, getD}
+use Rattle.wire.specs.Wire.{pasted}
+use Rattle.text.specs.declared.Fault.{Fault}
+use Rattle.text.specs.declared.Fault.the-variants.{Nothing, Digit, Over}
+use Rattle.text.specs.Text.{inWord, leading, pastBlanks, sameText, Run, run}
+use Rattle.orders.specs.declared.Call.{Call}
+use Rattle.orders.specs.declared.Call.the-variants.{Occ, Sbe, Send, Load, Undo, Fresh}
+use Rattle.orders.specs.declared.View.{View}
+use Rattle.orders.specs.declared.View.the-variants.{Image, Show, Journal, Help}
+use Rattle.orders.specs.declared.Wrong.{Wrong}
+use Rattle.orders.specs.declared.Wrong.the-variants.{LongLine, NoWord, MoreText, NoDigit, TooMany, NoImage}
+use Rattle.orders.specs.declared.Word.{Word}
+use Rattle.orders.specs.declared.Word.the-variants.{Make, Look, Fail, Skip}
+use Rattle.orders.specs.declared.Order.{Order}
+
+abbrev pub plainly : Word → Order
+plainly w = record { word = w; count = 0; column = 0 }
+
+abbrev pub wrongAt : Wrong → ℕ → Order
+wrongAt what column = record { word = Fail what; count = 0; column = column }
+
+-- ---- words, "written in small letters"
+
+unfoldable pub viewOf : List ℕ → Word
+viewOf w =
+    cond (sameText w (105 ∷ 109 ∷ 97 ∷ 103 ∷ 101 ∷ [])) (Look Image)
+    (cond (sameText w (115 ∷ 104 ∷ 111 ∷ 119 ∷ [])) (Look Show)
+    (cond (sameText w (106 ∷ 111 ∷ 117 ∷ 114 ∷ 110 ∷ 97 ∷ 108 ∷ [])) (Look Journal)
+    (cond (sameText w (104 ∷ 101 ∷ 108 ∷ 112 ∷ [])) (Look Help)
+    (Fail NoWord))))
+
+unfoldable pub wordOf : List ℕ → Word
+wordOf w =
+    cond (sameText w (111 ∷ 99 ∷ 99 ∷ [])) (Make Occ)
+    (cond (sameText w (115 ∷ 98 ∷ 101 ∷ [])) (Make Sbe)
+    (cond (sameText w (115 ∷ 101 ∷ 110 ∷ 100 ∷ [])) (Make Send)
+    (cond (sameText w (108 ∷ 111 ∷ 97 ∷ 100 ∷ [])) (Make Load)
+    (cond (sameText w (117 ∷ 110 ∷ 100 ∷ 111 ∷ [])) (Make Undo)
+    (cond (sameText w (102 ∷ 114 ∷ 101 ∷ 115 ∷ 104 ∷ [])) (Make Fresh)
+    (viewOf w))))))
+
+-- ---- what follows a word
+
+-- "only blanks may follow"
+unfoldable pub aloneAt : Word → List ℕ → ℕ → Order
+aloneAt w line place = cond (ltb place (length line)) (wrongAt MoreText (place + 1)) (plainly w)
+
+abbrev pub aloneOf : Word → List ℕ → ℕ → Order
+aloneOf w line from = aloneAt w line (pastBlanks line from)
+
+-- n bytes were read, and then a fault; "due are .. the bytes SS and TT themselves", at the column `end` if the line ends first
+unfoldable pub bytesBy : Fault → Call → ℕ → ℕ → ℕ → Order
+bytesBy Nothing call n due end = cond (ltb n due) (wrongAt NoDigit end) (record { word = Make call; count = n - due; column = 0 })
+bytesBy (Digit column) call n due end = wrongAt NoDigit column
+bytesBy (Over column) call n due end = wrongAt TooMany column
+
+-- "another number of bytes"
+unfoldable pub imageBy : Fault → ℕ → Order
+imageBy Nothing n = cond (not (eqb n 2287)) (wrongAt NoImage 0) (plainly (Make Load))
+imageBy (Digit column) n = wrongAt NoDigit column
+imageBy (Over column) n = wrongAt NoImage 0
+
+-- a run of bytes as its count and fault
+pub record ReadsAs (q : Run) (n : ℕ) (f : Fault) : Type 0 where
+  pub count : n ≡ length (q .bytes)
+  pub wrong : f ≡ q .fault
+
+-- an order, and the buffer with the bytes that it took
+pub record Got : Type 0 where
+  pub order : Order
+  pub sent : List ℕ
+
+abbrev pub got : Order → List ℕ → Got
+got o d = record { order = o; sent = d }
+
+abbrev pub bytesOf : Call → ℕ → Run → List ℕ → Order
+bytesOf call due q line = bytesBy (q .fault) call (length (q .bytes)) due (length line + 1)
+
+-- "the most is 8,192 bytes for `occ` (SS not counted) and `sbe`, 8,186 bytes of DATA for `send`"; the data stand where they do in a packet
+unfoldable pub occOf : List ℕ → ℕ → List ℕ → Got
+occOf line from d = got (bytesOf Occ 1 (run line from 8193) line) (pasted 0 ((run line from 8193) .bytes) d)
+
+unfoldable pub sbeOf : List ℕ → ℕ → List ℕ → Got
+sbeOf line from d = got (bytesOf Sbe 0 (run line from 8192) line) (pasted 0 ((run line from 8192) .bytes) d)
+
+unfoldable pub sendOf : List ℕ → ℕ → List ℕ → Got
+sendOf line from d = got (bytesOf Send 2 (run line from 8188) line) (pasted 2 ((run line from 8188) .bytes) d)
+
+unfoldable pub loadOf : List ℕ → ℕ → List ℕ → Got
+loadOf line from d =
+    got (imageBy ((run line from 2287) .fault) (length ((run line from 2287) .bytes))) (pasted 0 ((run line from 2287) .bytes) d)
+
+unfoldable pub callOf : Call → List ℕ → ℕ → List ℕ → Got
+callOf Occ line from d = occOf line from d
+callOf Sbe line from d = sbeOf line from d
+callOf Send line from d = sendOf line from d
+callOf Load line from d = loadOf line from d
+callOf Undo line from d = got (aloneOf (Make Undo) line from) d
+callOf Fresh line from d = got (aloneOf (Make Fresh) line from) d
+
+-- ---- lines
+
+-- the word stands at `at`, and what follows it from `end` on
+unfoldable pub orderBy : Word → List ℕ → ℕ → ℕ → List ℕ → Got
+orderBy (Make call) line at end d = callOf call line end d
+orderBy (Look view) line at end d = got (aloneOf (Look view) line end) d
+orderBy (Fail what) line at end d = got (wrongAt what (at + 1)) d
+orderBy Skip line at end d = got (plainly Skip) d
+
+-- "all bytes up to the next blank or the line's end"
+abbrev pub wordLength : List ℕ → ℕ → ℕ
+wordLength line at = leading inWord (drop at line)
+
+unfoldable pub orderAt : List ℕ → ℕ → List ℕ → Got
+orderAt line at d = orderBy (wordOf (take (wordLength line at) (drop at line))) line at (at + wordLength line at) d
+
+-- "a line of blanks only, or whose first byte that isn't blank is `#`"
+unfoldable pub remark : List ℕ → ℕ → Bool
+remark line at = cond (leb (length line) at) true (eqb (getD line at 0) 35)
+
+abbrev pub orderFrom : List ℕ → List ℕ → ℕ → Got
+orderFrom line d at = cond (remark line at) (got (plainly Skip) d) (orderAt line at d)
+
+unfoldable pub orderOf : List ℕ → List ℕ → Got
+orderOf line d = cond (ltb 32768 (length line)) (got (wrongAt LongLine 32769) d) (orderFrom line d (pastBlanks line 0))
+
+-- "one CR at the very end of a line belongs to the line end"
+unfoldable pub lineLength : List ℕ → ℕ
+lineLength s =
+    cond (eqb (length s) 0) 0
+    (cond (eqb (getD s (length s - 1) 0) 13) (length s - 1) (length s))
+
+abbrev pub lineIn : List ℕ → List ℕ
+lineIn s = take (lineLength s) s

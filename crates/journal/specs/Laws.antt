@@ -8,6 +8,7 @@ use lib.ListN.{length, getD, take, drop, replicate, length-drop}
 use lib.Seq.{take-at, take-all, take-add, length-take-le, drop-drop, drop-cons}
 use Rattle.wire.specs.Wire.{beNat, toBE}
 use Rattle.wire.specs.Laws.{Bytes, bytes-take, bytes-drop, length-toBE, be-toBE, toBE-be}
+use Rattle.record.specs.Widths.{CapsFit, AreaFits}
 use Rattle.record.specs.Record.{noThrottles}
 use Rattle.record.specs.declared.Caps.{Caps}
 use Rattle.record.specs.declared.Area.{Area}
@@ -22,15 +23,6 @@ use Rattle.journal.specs.Bytes.{clearedBody, capsBody, throttlesBody, de
 use Rattle.journal.specs.Read.{capsAt, areaAt, throttlesIn, foundFor, tablesIn}
 
 -- ---- the values that a record can hold, by the types of its fields
-
-pub record CapsFit (caps : Caps) : Type 0 where
-  pub min : caps .min < 256 ^ 2
-  pub max : caps .max < 256 ^ 2
-  pub over : caps .over < 256 ^ 2
-
-pub record AreaFits (area : Area) : Type 0 where
-  pub address : area .address < 256 ^ 8
-  pub size : area .size < 256 ^ 4
 
 pub record TablesFit (t : Tables) : Type 0 where
   pub thermal : length (t .thermal) ≡ 9

@@ -5,7 +5,7 @@ use native.Mathlib.Omega.{arith}
 use lib.ListN.{length}
 use Rattle.record.specs.Record.{freshRecord}
 use Rattle.record.specs.declared.Record.{Record}
-use Rattle.journal.specs.Laws.{CapsFit, AreaFits}
+use Rattle.record.specs.Widths.{CapsFit, AreaFits}
 use Rattle.session.specs.declared.Session.{Session}
 
 -- lengths of tables, and widths of numbers of several bytes; no law here needs that a single byte is below 256

@@ -24,7 +24,8 @@ use Rattle.change.specs.declared.Change.the-variants.{Clear, Unclear, SetState,
 use Rattle.change.specs.declared.Tables.{Tables}
 use Rattle.formed.specs.Formed.{recordOk, nextOk, reasonOk}
 use Rattle.formed.specs.Laws.{sound}
-use Rattle.journal.specs.Laws.{CapsFit, Writable}
+use Rattle.record.specs.Widths.{CapsFit}
+use Rattle.journal.specs.Laws.{Writable}
 use Rattle.sets.specs.Sets.{emptySets, setsOf, emptyFrus, frusOf}
 use Rattle.sets.specs.Laws.{sets-formed, frus-formed}
 use Rattle.occ.specs.Commands.{pollVerdict, clearAt, clearVerdict, stateFits, notReady, stateVerdict, roleVerdict, capsFor, sentCaps, capsVerdict, userAllowed, userFor, userVerdict, logDue, resetFor, resetVerdict}
@@ -253,4 +254,4 @@ module _ (r : Record) (next : ℕ) (q : List ℕ) (bytes : Bytes q) where
   sbe-made (SetDeadman deadman) e = granted _ e (change-fits q bytes _ e, refl)
   sbe-made (SetAreas areas) e =
       let f = change-fits q bytes _ e in
-      granted _ e (record { address = f .0 .address; size = f .0 .size }, record { address = f .1 .address; size = f .1 .size }, refl)
+      granted _ e (f .0, f .1, refl)

@@ -10,7 +10,7 @@ use Rattle.record.specs.Record.{clamped, limitOf, workedOf}
 use Rattle.record.specs.declared.Caps.{Caps}
 use Rattle.record.specs.declared.Record.{Record}
 use Rattle.change.specs.declared.Edit.{Edit}
-use Rattle.journal.specs.Laws.{CapsFit}
+use Rattle.record.specs.Widths.{CapsFit}
 use Rattle.session.specs.Session.{freshSession, withHeld}
 use Rattle.session.specs.declared.Session.{Session}
 use Rattle.occ_call.specs.Occ as occs

@@ -11,8 +11,8 @@ use lib.ListN.{length, take, drop, length-append, length-drop, length-replicate}
 use lib.Seq.{length-take-le}
 use Rattle.wire.specs.Laws.{Bytes, length-toBE, part-fits}
 use Rattle.wire.specs.Cases.{else-b, cond-elim}
+use Rattle.record.specs.Widths.{AreaFits}
 use Rattle.record.specs.Record.{noArea}
-use Rattle.record.specs.declared.Area.{Area}
 use Rattle.change.specs.Change.{noTables}
 use Rattle.change.specs.declared.Change.{Change}
 use Rattle.change.specs.declared.Change.the-variants.{Clear, Unclear, SetState, SetRole, SetCaps, SetUser, SetThermal, SetThrottles, Reset, Unreset, SetMask, SetDeadman, SetAreas}
@@ -47,10 +47,6 @@ unfolding changeOk deadmanOk flagOk areasOk
 change-ok r = of-change r (λ (ch : Change). changeOk noTables ch ≡ true) refl refl refl (λ a. hold-both (area-ok _ _ (a .ffdc)) (area-ok _ _ (a .pass)))
 
 -- ---- its numbers are of their widths
-
-pub record AreaFits (area : Area) : Type 0 where
-  pub address : area .address < 256 ^ 8
-  pub size : area .size < 256 ^ 4
 
 -- one of the three changes that the SBE makes, its numbers of their widths
 abbrev pub Fitting : Change → Type 0

@@ -23,8 +23,8 @@ use Rattle.undo_call.specs.Undo.{notUndone, undoCall}
 use Rattle.undo_call.specs.declared.Undone.{Undone}
 use Rattle.promises.specs.Calls.{Call, said}
 use Rattle.promises.specs.History.{Deed, keeps, adds, strikes, deed, Mark, marked, left, logsMade, replay, Run, next-run, OfBytes}
-use Rattle.promises.specs.Image.{length-padded, journalOf, image, Kept, Sane}
-use Rattle.promises.specs.Steps.{undo-image, undo-nothing}
+use Rattle.promises.specs.ByHistory.{length-padded, journalOf, byHistory, Kept, Sane}
+use Rattle.promises.specs.Steps.{undo-history, undo-nothing}
 use Rattle.promises.specs.Demand3.{Inv, tail, next-inv, formed, held-is, next-is, worked-is, left-strike, logs-strike}
 use Rattle.promises.specs.Shifted.{shiftedRecord, shiftedEdit, kind-shifted, replay-shifted, logs-shifted}
 use Rattle.promises.specs.Heard.{shiftedDeed, noRoom, full-by-kind, heard}
@@ -54,15 +54,15 @@ module _ (base : Record) (k : ℕ) (low : 1 ≤ k) (still : shiftedRecord k base
       ∙ sym (length-append (journalOf base es) (entryBytes b))
 
   undo-shifted : (es : List Edit) (n : ℕ) → Sane base es n → Sane base (there-edits es) (suc n)
-      → (undoCall (image base (there-edits es) (suc n)) .answer ≡ undoCall (image base es n) .answer) × (undoCall (image base (there-edits es) (suc n)) .kind ≡ undoCall (image base es n) .kind)
+      → (undoCall (byHistory base (there-edits es) (suc n)) .answer ≡ undoCall (byHistory base es n) .answer) × (undoCall (byHistory base (there-edits es) (suc n)) .kind ≡ undoCall (byHistory base es n) .kind)
   unfolding notUndone shiftedEdit inverseOf
   undo-shifted [] n g g′ =
       let here = undo-nothing base n g in
       let there = undo-nothing base (suc n) g′ in
       (ap (λ (u : Undone). u .answer) there ∙ sym (ap (λ (u : Undone). u .answer) here), ap (λ (u : Undone). u .kind) there ∙ sym (ap (λ (u : Undone). u .kind) here))
   undo-shifted (e ∷ es) n g g′ =
-      let here = undo-image base e es n g in
-      let there = undo-image base (shiftedEdit k e) (there-edits es) (suc n) g′ in
+      let here = undo-history base e es n g in
+      let there = undo-history base (shiftedEdit k e) (there-edits es) (suc n) g′ in
       let kinds = g′ .kept .0 .links .kind-back ∙ kind-shifted k (e .change) ∙ sym (g .kept .0 .links .kind-back) in
       (ap (λ (u : Undone). u .answer) there ∙ sym (ap (λ (u : Undone). u .answer) here), ap (λ (u : Undone). u .kind) there ∙ kinds ∙ sym (ap (λ (u : Undone). u .kind) here))
 
@@ -77,18 +77,18 @@ module _ (base : Record) (k : ℕ) (low : 1 ≤ k) (still : shiftedRecord k base
     abbrev n : ℕ
     n = logsMade (p .marks)
 
-    here : p .session ≡ image base es n
+    here : p .session ≡ byHistory base es n
     here = b .inv .is
 
-    there-is : q .session ≡ image base (there-edits es) (suc n)
-    there-is = b .inv′ .is ∙ ap₂ (image base) (b .left-is) (b .made-is)
+    there-is : q .session ≡ byHistory base (there-edits es) (suc n)
+    there-is = b .inv′ .is ∙ ap₂ (byHistory base) (b .left-is) (b .made-is)
 
     sane′ : Sane base (there-edits es) (suc n)
     sane′ = subst (λ (x : List Edit). Sane base x (suc n)) (b .left-is) (subst (Sane base (left (q .marks))) (b .made-is) (b .inv′ .sane))
 
-    images : Twins k (image base es n) (image base (there-edits es) (suc n))
-    unfolding image withHeld
-    images =
+    both-sides : Twins k (byHistory base es n) (byHistory base (there-edits es) (suc n))
+    unfolding byHistory withHeld
+    both-sides =
         let held = replay-shifted k low base still es in
         record {
           held-is = held;
@@ -98,21 +98,21 @@ module _ (base : Record) (k : ℕ) (low : 1 ≤ k) (still : shiftedRecord k base
         }
 
     pub twins : Twins k (p .session) (q .session)
-    twins = subst (λ (s : Session). Twins k s (q .session)) (sym here) (subst (Twins k (image base es n)) (sym there-is) images)
+    twins = subst (λ (s : Session). Twins k s (q .session)) (sym here) (subst (Twins k (byHistory base es n)) (sym there-is) both-sides)
 
-    rooms : (e : Edit) → noRoom (length (image base (there-edits es) (suc n) .journal)) (image base (there-edits es) (suc n) .used) (kindOf (shiftedEdit k e .change))
-        ≡ noRoom (length (image base es n .journal)) (image base es n .used) (kindOf (e .change))
-    unfolding image withHeld shiftedEdit
+    rooms : (e : Edit) → noRoom (length (byHistory base (there-edits es) (suc n) .journal)) (byHistory base (there-edits es) (suc n) .used) (kindOf (shiftedEdit k e .change))
+        ≡ noRoom (length (byHistory base es n .journal)) (byHistory base es n .used) (kindOf (e .change))
+    unfolding byHistory withHeld shiftedEdit
     rooms e =
         let long = length-padded (journalOf base (there-edits es)) (sane′ .fits) ∙ sym (length-padded (journalOf base es) (b .inv .sane .fits)) in
-        λ i. noRoom (long i) (images .used-is i) (kind-shifted k (e .change) i)
+        λ i. noRoom (long i) (both-sides .used-is i) (kind-shifted k (e .change) i)
 
     full-is : (e : Edit) → carriedOf (q .session) (shiftedEdit k e) .full ≡ carriedOf (p .session) e .full
     full-is e =
         ap (λ (s : Session). carriedOf s (shiftedEdit k e) .full) there-is
-        ∙ full-by-kind (image base (there-edits es) (suc n)) (shiftedEdit k e)
+        ∙ full-by-kind (byHistory base (there-edits es) (suc n)) (shiftedEdit k e)
         ∙ rooms e
-        ∙ sym (full-by-kind (image base es n) e)
+        ∙ sym (full-by-kind (byHistory base es n) e)
         ∙ ap (λ (s : Session). carriedOf s e .full) (sym here)
 
     from-next : k ≤ p .session .next

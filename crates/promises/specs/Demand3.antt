@@ -33,8 +33,8 @@ use Rattle.links.specs.Made.{Made}
 use Rattle.promises.specs.Calls.{Call, occ, sbe, undo, said}
 use Rattle.promises.specs.History.{Deed, keeps, adds, strikes, adding, occVerdict, occJudgement, sbeVerdict, deed, Mark, strike, marked, left, logsMade, replay, Run, next-run, run, OfBytes, AllOfBytes, undoAnswer, Demand3}
 use Rattle.promises.specs.Ids.{idsMade, countdown, drew, ids-add, ids-strike}
-use Rattle.promises.specs.Image.{image, Sane, image-formed}
-use Rattle.promises.specs.Steps.{carried-image, carried-sane, undo-image, undone-sane, undo-nothing}
+use Rattle.promises.specs.ByHistory.{byHistory, Sane, history-formed}
+use Rattle.promises.specs.Steps.{carried-history, carried-sane, undo-history, undone-sane, undo-nothing}
 use Rattle.promises.specs.Asked.{data-bytes, occ-made, sbe-made}
 
 -- two choices by the same test
@@ -182,16 +182,16 @@ undo-fair (e ∷ l) = ((λ z. omega (arith, z)), (λ z. omega (arith, z)))
 
 module _ (base : Record) where
   pub record Inv (p : Run) : Type 0 where
-    pub is : p .session ≡ image base (left (p .marks)) (logsMade (p .marks))
+    pub is : p .session ≡ byHistory base (left (p .marks)) (logsMade (p .marks))
     pub sane : Sane base (left (p .marks)) (logsMade (p .marks))
     pub ids : idsMade (p .marks) ≡ countdown (logsMade (p .marks))
 
   pub undone : (es : List Edit) (n : ℕ) → Sane base es n
-      → (undoCall (image base es n) .answer ≡ undoAnswer es) × (undoCall (image base es n) .session ≡ image base (tail es) n) × Sane base (tail es) n
+      → (undoCall (byHistory base es n) .answer ≡ undoAnswer es) × (undoCall (byHistory base es n) .session ≡ byHistory base (tail es) n) × Sane base (tail es) n
   unfolding undoAnswer notUndone
   undone [] n g = (ap (λ (u : Undone). u .answer) (undo-nothing base n g), ap (λ (u : Undone). u .session) (undo-nothing base n g), g)
   undone (e ∷ es) n g =
-      (ap (λ (u : Undone). u .answer) (undo-image base e es n g), ap (λ (u : Undone). u .session) (undo-image base e es n g), undone-sane base e es n g)
+      (ap (λ (u : Undone). u .answer) (undo-history base e es n g), ap (λ (u : Undone). u .session) (undo-history base e es n g), undone-sane base e es n g)
 
   module _ (p : Run) (v : Inv p) where
     abbrev es : List Edit
@@ -201,18 +201,18 @@ module _ (base : Record) where
     n = logsMade (p .marks)
 
     pub formed : wellFormed (p .session) ≡ true
-    formed = ap wellFormed (v .is) ∙ image-formed base es n (v .sane)
+    formed = ap wellFormed (v .is) ∙ history-formed base es n (v .sane)
 
     pub held-is : p .session .held ≡ replay base es
-    unfolding image withHeld
+    unfolding byHistory withHeld
     held-is = ap (λ (s : Session). s .held) (v .is)
 
     pub next-is : p .session .next ≡ suc n
-    unfolding image withHeld
+    unfolding byHistory withHeld
     next-is = ap (λ (s : Session). s .next) (v .is)
 
     pub worked-is : p .session .worked ≡ workedOf (replay base es)
-    unfolding image withHeld
+    unfolding byHistory withHeld
     worked-is = ap (λ (s : Session). s .worked) (v .is)
 
     ok : recordOk (p .session .held) (p .session .next) ≡ true
@@ -231,9 +231,9 @@ module _ (base : Record) where
     follow d a t (carries e m f) =
         let made : Made (replay base es) (suc n) (e .tables) (e .change) =
         subst (λ (k : ℕ). Made (replay base es) k (e .tables) (e .change)) next-is (subst (λ (r : Record). Made r (p .session .next) (e .tables) (e .change)) held-is m) in
-        let fits : carriedOf (image base es n) e .full ≡ false = ap (λ (s : Session). carriedOf s e .full) (sym (v .is)) ∙ f in
+        let fits : carriedOf (byHistory base es n) e .full ≡ false = ap (λ (s : Session). carriedOf s e .full) (sym (v .is)) ∙ f in
         record {
-          is = ap (λ (s : Session). carriedOf s e .session) (v .is) ∙ carried-image base e es n (v .sane) made fits;
+          is = ap (λ (s : Session). carriedOf s e .session) (v .is) ∙ carried-history base e es n (v .sane) made fits;
           sane = carried-sane base e es n (v .sane) made fits;
           ids = ids-add (record { edit = e; struck = false }) (p .marks) (drew (replay base es) (suc n) (e .tables) (e .change) made) (v .ids);
         }
@@ -242,13 +242,13 @@ module _ (base : Record) where
     take-back : Inv (record { session = undoCall (p .session) .session; marks = marked (p .marks) (cond (eqb (undoCall (p .session) .answer) 0) strikes keeps) })
     take-back =
         let u = undone es n (v .sane) in
-        let s : undoCall (p .session) .session ≡ image base (tail es) n = ap (λ (s : Session). undoCall s .session) (v .is) ∙ u .1 in
+        let s : undoCall (p .session) .session ≡ byHistory base (tail es) n = ap (λ (s : Session). undoCall s .session) (v .is) ∙ u .1 in
         let marks : ℕ → List Mark = λ (a : ℕ). marked (p .marks) (cond (eqb a 0) strikes keeps) in
         let l : left (marks (undoCall (p .session) .answer)) ≡ tail es = ap (λ (a : ℕ). left (marks a)) undo-answer ∙ undo-left (p .marks) es refl in
         let k : logsMade (marks (undoCall (p .session) .answer)) ≡ n = ap (λ (a : ℕ). logsMade (marks a)) undo-answer ∙ undo-logs (p .marks) es in
         let there = marks (undoCall (p .session) .answer) in
         record {
-          is = s ∙ sym (ap₂ (image base) l k);
+          is = s ∙ sym (ap₂ (byHistory base) l k);
           sane = subst (λ (x : List Edit). Sane base x (logsMade there)) (sym l) (subst (Sane base (tail es)) (sym k) (u .2));
           ids = undo-ids (p .marks) (undoCall (p .session) .answer) ∙ v .ids ∙ ap countdown (sym k);
         }

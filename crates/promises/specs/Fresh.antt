@@ -13,7 +13,7 @@ use Rattle.links.specs.Typed.{typed-fresh}
 use Rattle.promises.specs.ComputedSession.{computedSession}
 use Rattle.promises.specs.History.{left, logsMade, replay, start}
 use Rattle.promises.specs.Ids.{idsMade, countdown}
-use Rattle.promises.specs.Image.{padded, journalOf, image, Sane}
+use Rattle.promises.specs.ByHistory.{padded, journalOf, byHistory, Sane}
 use Rattle.promises.specs.Demand3.{Inv}
 use Rattle.promises.specs.Shifted.{shiftedRecord, no-log}
 
@@ -26,7 +26,7 @@ unfolding journalOf replay
 fresh-sane = record { small = omega arith; fits = omega arith; ok = fresh-ok; typed = typed-fresh; kept = tt }
 
 pub fresh-start : Inv freshRecord (start freshSession)
-unfolding computedSession start left logsMade idsMade countdown image padded journalOf replay
+unfolding computedSession start left logsMade idsMade countdown byHistory padded journalOf replay
 fresh-start = record { is = refl; sane = fresh-sane; ids = refl }
 
 -- a fresh record has no log, so no id in it differs

@@ -21,7 +21,7 @@ use Rattle.image.specs.Laws.{Typed, session-image, length-image}
 use Rattle.bjargolsk.specs.Calls.{packed, Replied, Left, freshOn, undone, undoOn, occAnswered, occOn, sbeAnswered, sbeOn}
 use Rattle.promises.specs.Calls.{Call, occ, sbe, undo, Said, said}
 use Rattle.promises.specs.History.{left, logsMade, replay, Run, next-run, run, AllOfBytes}
-use Rattle.promises.specs.Image.{length-padded, journalOf, image, Sane}
+use Rattle.promises.specs.ByHistory.{length-padded, journalOf, byHistory, Sane}
 use Rattle.promises.specs.Demand3.{Inv, next-inv}
 
 -- ---- a call on an image
@@ -93,9 +93,9 @@ limit-fits role got user caps f u =
     (cond-elim Small (eqb user 0) (f .max) (cond-elim Small (ltb user (caps .min)) (f .min) (cond-elim Small (ltb (caps .max) user) (f .max) u))))
 
 module _ (base : Record) where
-  image-typed : (es : List Edit) (n : ℕ) → Sane base es n → Typed (image base es n)
-  unfolding image withHeld workedOf
-  image-typed es n g =
+  history-typed : (es : List Edit) (n : ℕ) → Sane base es n → Typed (byHistory base es n)
+  unfolding byHistory withHeld workedOf
+  history-typed es n g =
       let r = replay base es in
       record {
         session = record { held = g .typed; journal = length-padded (journalOf base es) (g .fits); next = omega (arith, g .small); used = omega (arith, g .fits) };
@@ -103,7 +103,7 @@ module _ (base : Record) where
       }
 
   run-typed : (p : Run) → Inv base p → Typed (p .session)
-  run-typed p v = subst Typed (sym (v .is)) (image-typed (left (p .marks)) (logsMade (p .marks)) (v .sane))
+  run-typed p v = subst Typed (sym (v .is)) (history-typed (left (p .marks)) (logsMade (p .marks)) (v .sane))
 
   -- the image after a call is the image of the session after it
   image-after : (c : Call) (x : Said) → carriedOver c x .image ≡ imageOf (x .session)

@@ -2,7 +2,7 @@ pub mod Promises
 pub mod Calls
 pub mod History
 pub mod Examples
-pub mod Image
+pub mod ByHistory
 pub mod Steps
 pub mod Asked
 pub mod Ids

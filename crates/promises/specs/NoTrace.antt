@@ -29,7 +29,7 @@ use Rattle.links.specs.Made.{Made}
 use Rattle.promises.specs.Calls.{Call, undo, said}
 use Rattle.promises.specs.History.{keeps, adds, strikes, deed, Mark, marked, left, logsMade, replay, Run, next-run, OfBytes}
 use Rattle.promises.specs.Ids.{one-made}
-use Rattle.promises.specs.Image.{padded, journalOf, image, Kept}
+use Rattle.promises.specs.ByHistory.{padded, journalOf, byHistory, Kept}
 use Rattle.promises.specs.Demand3.{Inv, tail, undone, next-inv, undo-answer, undo-left, undo-logs}
 use Rattle.promises.specs.Shifted.{shiftedLog, shiftedRecord, shiftedChange, shiftedEdit, shifted-low}
 use Rattle.promises.specs.Later.{Wish, AsIf}
@@ -105,20 +105,20 @@ module _ (base : Record) (p : Run) (v : Inv base p) (c : Call) (b : OfBytes c) (
   unfolding logsMade
   logs-are = ap logsMade marks-are
 
-  back-is : undoCall (q .session) .session ≡ image base (left (p .marks)) (logsMade (p .marks) + madeOf (e .change))
+  back-is : undoCall (q .session) .session ≡ byHistory base (left (p .marks)) (logsMade (p .marks) + madeOf (e .change))
   back-is =
       let w = next-inv base p v c b in
       ap (λ (s : Session). undoCall s .session) (w .is)
       ∙ undone base (left (q .marks)) (logsMade (q .marks)) (w .sane) .1
-      ∙ ap₂ (image base) left-is logs-are
+      ∙ ap₂ (byHistory base) left-is logs-are
 
-  moved : withNext (image base (left (p .marks)) (logsMade (p .marks))) (suc (logsMade (p .marks)) + madeOf (e .change))
-      ≡ image base (left (p .marks)) (logsMade (p .marks) + madeOf (e .change))
-  unfolding withNext image withHeld
+  moved : withNext (byHistory base (left (p .marks)) (logsMade (p .marks))) (suc (logsMade (p .marks)) + madeOf (e .change))
+      ≡ byHistory base (left (p .marks)) (logsMade (p .marks) + madeOf (e .change))
+  unfolding withNext byHistory withHeld
   moved = λ i. withHeld (replay base (left (p .marks))) (suc-add (logsMade (p .marks)) (madeOf (e .change)) i) (padded (journalOf base (left (p .marks)))) (length (journalOf base (left (p .marks))))
 
   next-was : p .session .next ≡ suc (logsMade (p .marks))
-  unfolding image withHeld
+  unfolding byHistory withHeld
   next-was = ap (λ (s : Session). s .next) (v .is)
 
   pub trace-free : said (q .session) undo .session ≡ withNext (p .session) (p .session .next + madeOf (e .change))

@@ -32,7 +32,7 @@ use Rattle.undo_call.specs.Undo.{notUndone, undone, undonePut, undoneWith, undo
 use Rattle.links.specs.Made.{Made}
 use Rattle.links.specs.Links.{Link, link, next-up}
 use Rattle.promises.specs.History.{replay}
-use Rattle.promises.specs.Image.{zeros, padded, length-padded, take-padded, paste-padded, unpaste-padded, entered, journalOf, stack, image, Step, Sane, kept-up, stack-reads, stack-written, image-formed}
+use Rattle.promises.specs.ByHistory.{zeros, padded, length-padded, take-padded, paste-padded, unpaste-padded, entered, journalOf, stack, byHistory, Step, Sane, kept-up, stack-reads, stack-written, history-formed}
 
 -- a well-formed record's next id is 256 at most
 next-small : (r : Record) (n : ℕ) → recordOk r n ≡ true → n ≤ 256
@@ -68,13 +68,13 @@ module _ (base : Record) (e : Edit) (es : List Edit) (n : ℕ) where
 
   -- ---- one change more
 
-  module _ (g : Sane base es n) (m : Made here (suc n) (e .tables) (e .change)) (fits : carriedOf (image base es n) e .full ≡ false) where
+  module _ (g : Sane base es n) (m : Made here (suc n) (e .tables) (e .change)) (fits : carriedOf (byHistory base es n) e .full ≡ false) where
     l : Link here (suc n) e
     l = link (replay base es) (suc n) e (g .ok) (g .typed) m
 
     room : length old + entryLen entry ≤ 2048
-    unfolding image withHeld carriedOf
-    room = omega (arith, end-room (image base es n) e (entered base e es) (length (padded (journalOf base es))) (length (journalOf base es)) fits, length-padded (journalOf base es) (g .fits))
+    unfolding byHistory withHeld carriedOf
+    room = omega (arith, end-room (byHistory base es n) e (entered base e es) (length (padded (journalOf base es))) (length (journalOf base es)) fits, length-padded (journalOf base es) (g .fits))
 
     long : length bytes ≡ entryLen entry
     long = length-entry (entered base e es) (l .back-writable)
@@ -95,10 +95,10 @@ module _ (base : Record) (e : Edit) (es : List Edit) (n : ℕ) where
     end-is : endOf (length (padded old)) (length old) entry ≡ At (length old + entryLen entry)
     end-is = end-at (entered base e es) (length (journalOf base es)) (padded (journalOf base es)) (l .back-writable) store-room
 
-    pub carried-image : carriedOf (image base es n) e .session ≡ image base (e ∷ es) (n + madeOf (e .change))
-    unfolding carriedOf carriedTo image withHeld replay
-    carried-image =
-        ap (λ (x : End). carriedTo (image base es n) e x .session) end-is
+    pub carried-history : carriedOf (byHistory base es n) e .session ≡ byHistory base (e ∷ es) (n + madeOf (e .change))
+    unfolding carriedOf carriedTo byHistory withHeld replay
+    carried-history =
+        ap (λ (x : End). carriedTo (byHistory base es n) e x .session) end-is
         ∙ (λ i. withHeld (putOf (replay base es) e .after) (suc-add n (madeOf (e .change)) i) (journal-is i) (used-is i))
 
     grown : suc n + madeOf (e .change) ≡ suc (n + madeOf (e .change))
@@ -126,7 +126,7 @@ module _ (base : Record) (e : Edit) (es : List Edit) (n : ℕ) where
 
   module _ (g : Sane base (e ∷ es) n) where
     abbrev s : Session
-    s = image base (e ∷ es) n
+    s = byHistory base (e ∷ es) n
 
     abbrev step : Step base (suc n) e es
     step = g .kept .0
@@ -140,14 +140,14 @@ module _ (base : Record) (e : Edit) (es : List Edit) (n : ℕ) where
 
     -- the used journal reads as the entries, the newest of which starts after the older ones
     reads : readingOf (scan (take (s .used) (s .journal))) ≡ Whole (length (stack base (e ∷ es))) (length old)
-    unfolding image withHeld readingOf newestAt stack
+    unfolding byHistory withHeld readingOf newestAt stack
     reads =
         ap (λ (l : List ℕ). readingOf (scan l)) (take-padded (journalOf base (e ∷ es)))
         ∙ ap readingOf (stack-reads base (suc n) (e ∷ es) (g .kept))
         ∙ ap (λ (l : List ℕ). Whole (length (stack base (e ∷ es))) (length l)) (stack-written base es)
 
     newest-part : take (s .used - length old) (drop (length old) (s .journal)) ≡ bytes
-    unfolding image withHeld padded journalOf
+    unfolding byHistory withHeld padded journalOf
     newest-part =
         let z : List ℕ = replicate (2048 - length (journalOf base es ++ bytes)) 0 in
         let k : length (journalOf base es ++ bytes) - length old ≡ length bytes = omega (arith, length-append (journalOf base es) bytes) in
@@ -163,7 +163,7 @@ module _ (base : Record) (e : Edit) (es : List Edit) (n : ℕ) where
     unpasted = unpaste-padded (journalOf base es) bytes (omega (arith, all-used, g .fits))
 
     cut-is : cutFrom (length old) (s .used) (s .journal) ≡ padded (journalOf base es)
-    unfolding cutFrom image withHeld
+    unfolding cutFrom byHistory withHeld
     cut-is =
         let whole = length-padded (journalOf base (e ∷ es)) (g .fits) in
         let k : length (journalOf base (e ∷ es)) - length old ≡ length bytes = omega (arith, all-used) in
@@ -174,14 +174,14 @@ module _ (base : Record) (e : Edit) (es : List Edit) (n : ℕ) where
 
     -- what comes of it: answer 0, the kind, and the session of the changes before
     abbrev taken : Undone
-    taken = record { answer = 0; kind = kindOf (entry .change); session = image base es n }
+    taken = record { answer = 0; kind = kindOf (entry .change); session = byHistory base es n }
 
     put-is : putOf (s .held) entry ≡ accepted here
-    unfolding image withHeld replay
+    unfolding byHistory withHeld replay
     put-is = step .links .put-back
 
     undone-is : undonePut s (length old) (kindOf (entry .change)) (accepted here) ≡ taken
-    unfolding undonePut accepted undone image withHeld
+    unfolding undonePut accepted undone byHistory withHeld
     undone-is =
         sym (else-b _ _ (ap not (step .ok)) refl)
         ∙ (λ i. record { answer = 0; kind = kindOf (entry .change); session = withHeld here (suc n) (cut-is i) (length old) })
@@ -195,22 +195,22 @@ module _ (base : Record) (e : Edit) (es : List Edit) (n : ℕ) where
     read-is = ap (undoneRead s) reads ∙ at-is
 
     used-some : s .used ≡ 0 → ⊥
-    unfolding image withHeld
+    unfolding byHistory withHeld
     used-some z = omega (arith, all-used, some-bytes, z)
 
-    pub undo-image : undoCall s ≡ record { answer = 0; kind = kindOf (inverseOf (replay base es) e .change); session = image base es n }
+    pub undo-history : undoCall s ≡ record { answer = 0; kind = kindOf (inverseOf (replay base es) e .change); session = byHistory base es n }
     unfolding undoCall
-    undo-image = sym (else-b _ _ (ap not (image-formed base (e ∷ es) n g)) (else-eq _ _ {m = s .used} {n = 0} used-some (sym read-is)))
+    undo-history = sym (else-b _ _ (ap not (history-formed base (e ∷ es) n g)) (else-eq _ _ {m = s .used} {n = 0} used-some (sym read-is)))
 
     pub undone-sane : Sane base es n
     unfolding journalOf
     undone-sane = record { small = g .small; fits = omega (arith, all-used, g .fits); ok = step .ok; typed = step .typed; kept = g .kept .1 }
 
 -- an empty history has nothing to undo
-pub undo-nothing : (base : Record) (n : ℕ) → Sane base [] n → undoCall (image base [] n) ≡ notUndone 6 (image base [] n)
-unfolding undoCall image withHeld journalOf
+pub undo-nothing : (base : Record) (n : ℕ) → Sane base [] n → undoCall (byHistory base [] n) ≡ notUndone 6 (byHistory base [] n)
+unfolding undoCall byHistory withHeld journalOf
 undo-nothing base n g =
-    let s = image base [] n in
+    let s = byHistory base [] n in
     let rest = undoneRead s (readingOf (scan (take (s .used) (s .journal)))) in
-    sym (else-b (notUndone 1 s) (cond (eqb (s .used) 0) (notUndone 6 s) rest) (ap not (image-formed base [] n g))
+    sym (else-b (notUndone 1 s) (cond (eqb (s .used) 0) (notUndone 6 s) rest) (ap not (history-formed base [] n g))
     (if-eq (notUndone 6 s) rest {m = s .used} {n = 0} refl refl))

@@ -90,8 +90,8 @@ module _ (base : Record) where
   stack [] = []
   stack (e ∷ es) = entryFor (entered e es) ∷ stack es
 
-  unfoldable pub image : List Edit → ℕ → Session
-  image es n = withHeld (replay base es) (suc n) (padded (journalOf es)) (length (journalOf es))
+  unfoldable pub byHistory : List Edit → ℕ → Session
+  byHistory es n = withHeld (replay base es) (suc n) (padded (journalOf es)) (length (journalOf es))
 
   -- each change that is left is undone by its entry, and the record before it is well formed at the next id hi
   pub record Step (hi : ℕ) (e : Edit) (es : List Edit) : Type 0 where
@@ -147,14 +147,10 @@ module _ (base : Record) where
 
   -- ---- it is well formed
 
-  used-part : (es : List Edit) (n : ℕ) → take (image es n .used) (image es n .journal) ≡ journalOf es
-  unfolding image withHeld
-  used-part es n = take-padded (journalOf es)
-
-  pub image-formed : (es : List Edit) (n : ℕ) → Sane es n → wellFormed (image es n) ≡ true
-  unfolding image withHeld journalOk scanOk
-  image-formed es n g =
-      formed-ok (image es n) (record {
+  pub history-formed : (es : List Edit) (n : ℕ) → Sane es n → wellFormed (byHistory es n) ≡ true
+  unfolding byHistory withHeld journalOk scanOk
+  history-formed es n g =
+      formed-ok (byHistory es n) (record {
         record-ok = g .ok;
         worked-is = refl;
         fits = omega (arith, length-padded (journalOf es) (g .fits), g .fits);

@@ -6,30 +6,13 @@ use second::session::Session;
 use std::hint::black_box;
 use std::time::{Duration, Instant};
 
+#[allow(dead_code)] // no session is made fresh here
+#[path = "../../include/bjargolsk.rs"]
+mod ffi;
+
 const ROUNDS: usize = 7;
 const ROUND: Duration = Duration::from_millis(150);
 const HTMGT: u8 = 0x10;
-
-extern "C" {
-    fn bjargolsk_occ(
-        session: *mut u8,
-        session_length: usize,
-        sender: u8,
-        command: *const u8,
-        command_length: usize,
-        reply: *mut u8,
-        reply_length: usize,
-    ) -> u32;
-    fn bjargolsk_sbe(
-        session: *mut u8,
-        session_length: usize,
-        request: *const u8,
-        request_length: usize,
-        reply: *mut u8,
-        reply_length: usize,
-    ) -> u32;
-    fn bjargolsk_undo(session: *mut u8, session_length: usize) -> u32;
-}
 
 enum Call {
     Occ(Vec<u8>),
@@ -53,9 +36,11 @@ fn proved(session: &mut [u8], call: &Call, reply: &mut [u8]) -> u32 {
     // SAFETY: each pointer comes with the length of the slice that it was taken from, and no two slices overlap.
     unsafe {
         match call {
-            Call::Occ(c) => bjargolsk_occ(s, n, HTMGT, c.as_ptr(), c.len(), reply.as_mut_ptr(), reply.len()),
-            Call::Sbe(r) => bjargolsk_sbe(s, n, r.as_ptr(), r.len(), reply.as_mut_ptr(), 32),
-            Call::Undo => bjargolsk_undo(s, n),
+            Call::Occ(c) => {
+                ffi::bjargolsk_occ(s, n, HTMGT, c.as_ptr(), c.len(), reply.as_mut_ptr(), reply.len())
+            }
+            Call::Sbe(r) => ffi::bjargolsk_sbe(s, n, r.as_ptr(), r.len(), reply.as_mut_ptr(), 32),
+            Call::Undo => ffi::bjargolsk_undo(s, n),
         }
     }
 }

@@ -1,29 +1,7 @@
 //! A master OCC brought up, capped, and one change taken back.
 
-/// The functions of include/bjargolsk.h.
-mod ffi {
-    extern "C" {
-        pub fn bjargolsk_fresh(session: *mut u8, session_length: usize) -> u32;
-        pub fn bjargolsk_occ(
-            session: *mut u8,
-            session_length: usize,
-            sender: u8,
-            command: *const u8,
-            command_length: usize,
-            reply: *mut u8,
-            reply_length: usize,
-        ) -> u32;
-        pub fn bjargolsk_sbe(
-            session: *mut u8,
-            session_length: usize,
-            request: *const u8,
-            request_length: usize,
-            reply: *mut u8,
-            reply_length: usize,
-        ) -> u32;
-        pub fn bjargolsk_undo(session: *mut u8, session_length: usize) -> u32;
-    }
-}
+#[path = "../../../include/bjargolsk.rs"]
+mod ffi;
 
 const HTMGT: u8 = 0x10;
 const BMC: u8 = 0x20;

@@ -1,0 +1,23 @@
+//! The functions of bjargolsk.h for Rust: `#[path = ".."] mod` this file, and link the archive (examples/rust/build.rs).
+
+extern "C" {
+    pub fn bjargolsk_fresh(session: *mut u8, session_length: usize) -> u32;
+    pub fn bjargolsk_occ(
+        session: *mut u8,
+        session_length: usize,
+        sender: u8,
+        command: *const u8,
+        command_length: usize,
+        reply: *mut u8,
+        reply_length: usize,
+    ) -> u32;
+    pub fn bjargolsk_sbe(
+        session: *mut u8,
+        session_length: usize,
+        request: *const u8,
+        request_length: usize,
+        reply: *mut u8,
+        reply_length: usize,
+    ) -> u32;
+    pub fn bjargolsk_undo(session: *mut u8, session_length: usize) -> u32;
+}

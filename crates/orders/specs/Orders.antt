@@ -1,6 +1,6 @@
 -- docs/PROTOCOL.md, "Lines", "Bytes" and "Words": the order that a line gives. Text is a list of ASCII numbers.
 use Prim.Native.Nat.{ℕ, _+_, _-_}
-use mathlib.Core.Bool.{Bool, true, false, cond, not}
+use mathlib.Core.Bool.{Bool, true, cond, not}
 use mathlib.Core.Path.{_≡_}
 use mathlib.Core.List.{List, [], _∷_}
 use lib.Dec.{eqb, ltb, leb}
@@ -11,7 +11,6 @@ use Rattle.text.specs.declared.Fault.the-variants.{Nothing, Digit, Over}
 use Rattle.text.specs.Text.{inWord, leading, pastBlanks, sameText, Run, run}
 use Rattle.orders.specs.declared.Call.{Call}
 use Rattle.orders.specs.declared.Call.the-variants.{Occ, Sbe, Send, Load, Undo, Fresh}
-use Rattle.orders.specs.declared.View.{View}
 use Rattle.orders.specs.declared.View.the-variants.{Image, Show, Journal, Help}
 use Rattle.orders.specs.declared.Wrong.{Wrong}
 use Rattle.orders.specs.declared.Wrong.the-variants.{LongLine, NoWord, MoreText, NoDigit, TooMany, NoImage}

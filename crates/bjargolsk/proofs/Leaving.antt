@@ -3,18 +3,18 @@ use Prim.Native.Nat.{ℕ}
 use mathlib.Core.Path.{_≡_, sym, ap, _∙_}
 use mathlib.Core.List.{List}
 use lib.ListN.{length}
-use Rattle.wire.specs.Cases.{if-ne, else-ne}
+use Rattle.wire.specs.laws.Cases.{if-ne, else-ne}
 use Rattle.session.specs.Session.{freshSession}
 use Rattle.session.specs.declared.Session.{Session}
 use Rattle.image.specs.Image.{imageOf, sessionOf, readFrom}
-use Rattle.image.specs.Laws.{read-whole}
+use Rattle.image.specs.laws.Image.{read-whole}
 use Rattle.occ_call.specs.declared.Outcome.{Outcome}
 use Rattle.occ_call.specs.Occ.{occCall}
 use Rattle.sbe_call.specs.declared.Rung.{Rung}
 use Rattle.sbe_call.specs.Sbe.{sbeCall}
 use Rattle.undo_call.specs.declared.Undone.{Undone}
 use Rattle.undo_call.specs.Undo.{undoCall}
-use Rattle.bjargolsk.specs.Calls.{packed, Left, Replied, freshOn, undone, undoOn, occAnswered, occOn, sbeAnswered, sbeOn}
+use Rattle.bjargolsk.specs.Calls.{packed, Left, Replied, freshOn, undoAnswered, undoOn, occAnswered, occOn, sbeAnswered, sbeOn}
 
 -- what a call leaves, part by part
 abbrev Leaves : ℕ → List ℕ → Left → Type 0
@@ -62,9 +62,9 @@ module _ (b : List ℕ) (x : ℕ) where
       as-read = is ∙ sym (read-whole b long)
 
       pub undo-left : (u : Undone) → u ≡ undoCall s → (length b ≡ 2287 → y ≡ imageOf (u .session)) → x ≡ packed (u .answer) (u .kind) → Leaves x y (undoOn b)
-      unfolding undoOn undone
+      unfolding undoOn undoAnswered
       undo-left u e w p =
-          leaves x y _ (else-ne _ _ long ((λ i. record { result = p i; image = w long i }) ∙ ap undone (e ∙ ap undoCall as-read)))
+          leaves x y _ (else-ne _ _ long ((λ i. record { result = p i; image = w long i }) ∙ ap undoAnswered (e ∙ ap undoCall as-read)))
 
       pub occ-left : (sender : ℕ) (c d z : List ℕ) (o : Outcome) → o ≡ occCall s sender c d .outcome → z ≡ occCall s sender c d .reply
           → (length b ≡ 2287 → y ≡ imageOf (o .session)) → x ≡ packed (o .answer) 0 → Replies x y z (occOn b sender c d)

@@ -33,20 +33,20 @@ unfoldable pub freshOn : List ℕ → Left
 freshOn b =
     cond (not (eqb (length b) 2287)) (record { result = packed 1 0; image = b }) (record { result = packed 0 0; image = imageOf freshSession })
 
-unfoldable pub undone : Undone → Left
-undone u = record { result = packed (u .answer) (u .kind); image = imageOf (u .session) }
+unfoldable pub undoAnswered : Undone → Left
+undoAnswered u = record { result = packed (u .answer) (u .kind); image = imageOf (u .session) }
 
 unfoldable pub undoOn : List ℕ → Left
-undoOn b = cond (not (eqb (length b) 2287)) (record { result = packed 1 0; image = b }) (undone (undoCall (sessionOf b)))
+undoOn b = cond (not (eqb (length b) 2287)) (record { result = packed 1 0; image = b }) (undoAnswered (undoCall (sessionOf b)))
 
-unfoldable pub occAnswered : occ.Result → Replied
+unfoldable pub occAnswered : occ.OccResult → Replied
 occAnswered q = record { result = packed (q .outcome .answer) 0; image = imageOf (q .outcome .session); reply = q .reply }
 
 unfoldable pub occOn : List ℕ → ℕ → List ℕ → List ℕ → Replied
 occOn b sender c d =
     cond (not (eqb (length b) 2287)) (record { result = packed 1 0; image = b; reply = d }) (occAnswered (occ.occCall (sessionOf b) sender c d))
 
-unfoldable pub sbeAnswered : sbe.Result → Replied
+unfoldable pub sbeAnswered : sbe.SbeResult → Replied
 sbeAnswered q = record { result = packed (q .outcome .answer) (q .outcome .bell); image = imageOf (q .outcome .session); reply = q .reply }
 
 unfoldable pub sbeOn : List ℕ → List ℕ → List ℕ → Replied

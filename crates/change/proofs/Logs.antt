@@ -9,7 +9,7 @@ use native.Mathlib.Omega.{arith}
 use lib.ListN.{length, getD, drop, drop-of-length-le}
 use lib.Dec.{eqb}
 use lib.Seq.{drop-cons}
-use Rattle.wire.specs.Cases.{if-eq, else-eq, cond-elim}
+use Rattle.wire.specs.laws.Cases.{if-eq, else-eq, cond-elim}
 use Rattle.record.specs.Record.{noLog}
 use Rattle.record.specs.declared.Log.{Log}
 use Rattle.change.specs.Logs.{pendingOf, firstWith, removeAt, insertAt}

@@ -7,8 +7,8 @@ use native.Mathlib.Omega.{arith}
 use lib.ListN.{length, getD, List·getD-eq-default}
 use Rattle.entries.specs.declared.Reading.the-variants.{Whole, Unknown, Cut}
 use Rattle.entries.specs.Entries.{Entry, bodyLengths, bodyLen, scan, newestAt, readingOf}
-use Rattle.entries.specs.Laws.{count-written, newest-written}
-use Rattle.entries.specs.Places.{Place, first-place, place-written, scan-end, scan-unknown, scan-cut, entryAt, next-place}
+use Rattle.entries.specs.laws.Entries.{count-written, newest-written}
+use Rattle.entries.specs.laws.Places.{Place, first-place, place-written, scan-end, scan-unknown, scan-cut, entryAt, next-place}
 
 pub no-such-kind : (k : ℕ) → 12 ≤ k → 0 ≡ bodyLen k
 unfolding bodyLen

@@ -8,7 +8,7 @@ use native.Mathlib.Nat.{add-sub-cancel-left}
 use native.Mathlib.Omega.{arith}
 use lib.ListN.{length, getD, take, drop, drop-of-length-le}
 use lib.Seq.{drop-cons, drop-drop}
-use Rattle.wire.specs.Cases.{if-b, else-b, if-eq, else-eq, if-ne, else-ne}
+use Rattle.wire.specs.laws.Cases.{if-b, else-b, if-eq, else-eq, if-ne, else-ne}
 use Rattle.record.specs.Record.{noLog}
 use Rattle.record.specs.declared.Log.{Log}
 use Rattle.formed.specs.Formed.{pairOk, pairsOk, unused, logOk, logsAbove}

@@ -8,15 +8,16 @@ use lib.Dec.{lit<}
 use lib.ListN.{length, take, drop, length-append, drop-of-length-le}
 use lib.Seq.{drop-drop}
 use Rattle.wire.specs.Wire.{sumOf, toBE, pasted}
-use Rattle.wire.specs.Laws.{take-pasted, drop-pasted}
+use Rattle.wire.specs.laws.Wire.{take-pasted, drop-pasted}
 use Rattle.record.specs.declared.Caps.{Caps}
 use Rattle.record.specs.declared.Areas.{Areas}
 use Rattle.record.specs.declared.Deadman.{Deadman}
 use Rattle.record.specs.declared.Record.{Record}
 use Rattle.record.specs.declared.Throttles.{Throttles}
 use Rattle.record.specs.declared.Worked.{Worked}
-use Rattle.image.specs.Rows.{joined, widthsOf, length-joined, joined-append}
-use Rattle.image.specs.Laws.{recordWidths, widths-record}
+use Rattle.image.specs.Rows.{joined, widthsOf}
+use Rattle.image.specs.laws.Rows.{length-joined, joined-append}
+use Rattle.image.specs.laws.Image.{recordWidths, widths-record}
 use Rattle.image.specs.Image.{byte, headRows, throttlesRows, thermalRows, logsRows, mailboxRows, workedRows, recordRows, sessionRows, imageOf}
 
 -- bytes written after those that were written from a place on

@@ -1,3 +1,3 @@
 pub mod Rows
 pub mod Image
-pub mod Laws
+pub mod laws

@@ -5,7 +5,7 @@ ghost use lib.ListN.{length};
 ghost use Rattle.wire.specs.Wire.{pasted};
 ghost use Rattle.image.specs.Rows.{joined};
 ghost use Rattle.image.specs.Image.{headRows, throttlesRows, thermalRows, logsRows, mailboxRows, workedRows, recordRows, imageOf, writtenTo, partAt, capsIn, throttlesIn, receivedIn, logAt, logsIn, deadmanIn, areasIn, recordIn, workedIn, readFrom};
-ghost use Rattle.image.specs.Laws.{Typed};
+ghost use Rattle.image.specs.laws.Image.{Typed};
 use record::Area;
 use record::Areas;
 use record::Caps;

@@ -3,7 +3,7 @@ use Prim.Native.Nat.{ℕ}
 use mathlib.Core.Path.{_≡_, refl}
 use mathlib.Core.List.{List, [], _∷_, _++_}
 use Rattle.wire.specs.Wire.{toBE, pasted}
-use Rattle.wire.specs.Laws.{field-next}
+use Rattle.wire.specs.laws.Wire.{field-next}
 
 module _ (k got : ℕ) (d x y : List ℕ) where
   pub number-put : (n v : ℕ) → x ≡ pasted 0 (k ∷ []) d → y ≡ pasted 1 (toBE n v) x → y ≡ pasted 0 (k ∷ toBE n v) d

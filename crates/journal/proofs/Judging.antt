@@ -9,10 +9,10 @@ use native.Mathlib.Omega.{arith}
 use borrow.Author.Tests.{not-true, not-false}
 use lib.ListN.{length, getD, take, drop, take-append-drop}
 use lib.Seq.{drop-cons}
-use Rattle.wire.specs.Cases.{if-b, else-b, else-eq, else-ne, cond-elim}
+use Rattle.wire.specs.laws.Cases.{if-b, else-b, else-eq, else-ne, cond-elim}
 use Rattle.entries.specs.Entries.{Entry, bodyLen, bytesOf, Scan, between, within, unknown, opened, eat, scanFrom, scan}
-use Rattle.entries.specs.Laws.{scan-append}
-use Rattle.entries.specs.Places.{Place, first-place, next-place, scan-end, scan-unknown, scan-cut, entryAt, length-body}
+use Rattle.entries.specs.laws.Entries.{scan-append}
+use Rattle.entries.specs.laws.Places.{Place, first-place, next-place, scan-end, scan-unknown, scan-cut, entryAt, length-body}
 use Rattle.journal.specs.Read.{foundFor, tablesIn, badGot, gotFor, gotOf, gotOk, entryOk, allOk, scanOk, journalOk}
 
 -- one whole entry's bytes say what its kind and body say

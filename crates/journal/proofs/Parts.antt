@@ -10,7 +10,7 @@ use lib.Dec.{leb}
 use lib.ListN.{length, getD, take, drop, replicate, length-drop, length-replicate, drop-of-length-le}
 use lib.Seq.{drop-drop, length-take-le}
 use Rattle.wire.specs.Wire.{pasted}
-use Rattle.wire.specs.Laws.{tail-part}
+use Rattle.wire.specs.laws.Wire.{tail-part}
 use Rattle.change.specs.declared.Change.{Change}
 use Rattle.change.specs.declared.Edit.{Edit}
 use Rattle.change.specs.Change.{kindOf}

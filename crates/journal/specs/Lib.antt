@@ -1,5 +1,4 @@
 pub mod Bytes
 pub mod Read
 pub mod Add
-pub mod Laws
-pub mod Ends
+pub mod laws

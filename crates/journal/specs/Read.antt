@@ -26,8 +26,8 @@ capsAt at b = record { min = beNat (take 2 (drop at b)); max = beNat (take 2 (dr
 unfoldable pub areaAt : ℕ → List ℕ → Area
 areaAt at b = record { address = beNat (take 8 (drop at b)); size = beNat (take 4 (drop (at + 8) b)) }
 
-unfoldable pub throttlesIn : List ℕ → Throttles
-throttlesIn b = record { present = beNat (take 2 (drop 1 b)); sets = take 160 (drop 3 b) }
+unfoldable pub throttlesFrom : List ℕ → Throttles
+throttlesFrom b = record { present = beNat (take 2 (drop 1 b)); sets = take 160 (drop 3 b) }
 
 -- ---- what a body says, by its kind
 
@@ -50,7 +50,7 @@ foundFor k b =
 unfoldable pub tablesIn : ℕ → List ℕ → Tables
 tablesIn k b =
     cond (eqb k 0x06) (record { thermal = take 9 (drop 1 b); throttles = noThrottles })
-    (cond (eqb k 0x07) (record { thermal = replicate 9 0; throttles = throttlesIn b })
+    (cond (eqb k 0x07) (record { thermal = replicate 9 0; throttles = throttlesFrom b })
     noTables)
 
 unfoldable pub badGot : Got

@@ -8,7 +8,7 @@ ghost use Rattle.wire.specs.Wire.{pasted, toBE};
 ghost use Rattle.change.specs.Change.{kindOf};
 ghost use Rattle.entries.specs.Entries.{bodyLen};
 ghost use Rattle.journal.specs.Bytes.{clearedBody, capsBody, throttlesBody, deadmanBody, areasBody, entryBytes};
-ghost use Rattle.journal.specs.Read.{capsAt, areaAt, throttlesIn, foundFor, tablesIn, badGot, gotOf, gotOk, journalOk};
+ghost use Rattle.journal.specs.Read.{capsAt, areaAt, throttlesFrom, foundFor, tablesIn, badGot, gotOf, gotOk, journalOk};
 ghost use Rattle.journal.specs.Add.{endOf, addedTo, cutFrom};
 use change::Change;
 use change::Edit;
@@ -201,7 +201,7 @@ fn thermal_in(b: &[u8]) -> [u8; 9]
 
 fn throttles_in(b: &[u8]) -> Throttles
     requires { ⌜ 163 ≤ length (now b) ⌝ }
-    ensures { λ r. ⌜ r ≡ throttlesIn (now (b .entry)) ⌝ }
+    ensures { λ r. ⌜ r ≡ throttlesFrom (now (b .entry)) ⌝ }
 {
     let present = wire::be16(b, 1);
     let mut sets = [0u8; 160];

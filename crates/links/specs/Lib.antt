@@ -1,6 +1,2 @@
 pub mod Typed
-pub mod Logs
-pub mod Made
-pub mod Landing
-pub mod Entry
-pub mod Links
+pub mod laws

@@ -1,9 +1,7 @@
 -- Document 01, "What the stand-in holds": what the types of the fields say of a record and of a session. Assumes nothing.
 use Prim.Native.Nat.{_<_, _^_}
-use mathlib.Core.Path.{_≡_, refl}
-use native.Mathlib.Omega.{arith}
+use mathlib.Core.Path.{_≡_}
 use lib.ListN.{length}
-use Rattle.record.specs.Record.{freshRecord}
 use Rattle.record.specs.declared.Record.{Record}
 use Rattle.record.specs.Widths.{CapsFit, AreaFits}
 use Rattle.session.specs.declared.Session.{Session}
@@ -27,19 +25,3 @@ pub record TypedSession (s : Session) : Type 0 where
   pub journal : length (s .journal) ≡ 2048
   pub next : s .next < 65536
   pub used : s .used < 65536
-
--- "Fresh record"
-pub typed-fresh : TypedRecord freshRecord
-unfolding freshRecord
-typed-fresh = record {
-  logs = refl;
-  thermal = refl;
-  sets = refl;
-  present = omega arith;
-  caps = record { min = omega arith; max = omega arith; over = omega arith };
-  user = omega arith;
-  mask = omega arith;
-  time = omega arith;
-  ffdc = record { address = omega arith; size = omega arith };
-  pass = record { address = omega arith; size = omega arith };
-}

@@ -7,7 +7,7 @@ use native.Mathlib.Nat.{add-sub-cancel-left}
 use native.Mathlib.Omega.{arith}
 use lib.ListN.{length, take, drop, getD}
 use Rattle.entries.specs.Entries.{Entry, bodyLen, Scan, between, scan}
-use Rattle.entries.specs.Places.{Place, first-place, scan-end, whole-fits, entryAt, length-body, next-place}
+use Rattle.entries.specs.laws.Places.{Place, first-place, scan-end, whole-fits, entryAt, length-body, next-place}
 use Rattle.listing.specs.Listing.{line, linesOf, Puts, entriesOf}
 use Rattle.listing.specs.Laws.{length-line}
 use Rattle.listing.proofs.Writing.{puts-none, puts-then, puts-as, puts-length}

@@ -8,7 +8,7 @@ use native.Mathlib.Omega.{arith}
 use lib.ListN.{length, take, drop, getD, length-append, length-drop, take-append-drop}
 use lib.Seq.{take-suc, take-all, drop-drop}
 use Rattle.wire.specs.Wire.{pasted}
-use Rattle.wire.specs.Laws.{length-pasted, take-pasted, drop-pasted}
+use Rattle.wire.specs.laws.Wire.{length-pasted, take-pasted, drop-pasted}
 use Rattle.listing.specs.Listing.{hexDigit, hexOf, hexes, leadingZeros, decimal, Puts}
 
 pasted-is : (at : ℕ) (bs d : List ℕ) → pasted at bs d ≡ take at d ++ (bs ++ drop (at + length bs) d)

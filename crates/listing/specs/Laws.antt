@@ -9,7 +9,7 @@ use lib.Dec.{ltb}
 use lib.ListN.{length, drop, getD, length-append, length-drop}
 use borrow.Author.Tests.{ltb-true, ltb-false}
 use Rattle.entries.specs.Entries.{Entry, Scan, between, within, unknown, scan, written}
-use Rattle.entries.specs.Laws.{Proper, scan-written, scan-proper, length-written}
+use Rattle.entries.specs.laws.Entries.{Proper, scan-written, scan-proper, length-written}
 use Rattle.listing.specs.Listing.{hexOf, hexes, fourDigits, leadingZeros, decimal, line, linesOf, whole, damagedAt, listingOf, listing, longest, tooLong, lineFeed}
 
 -- ---- decimal numbers: the digits spell the number, and the first of several isn't 0

@@ -7,7 +7,7 @@ use lib.ListN.{length, getD, take, drop, length-take, length-drop}
 use lib.Seq.{take-all}
 use borrow.Author.Tests.{eq-eqb}
 use Rattle.occ.specs.Judge.{setsStatus}
-use Rattle.occ.specs.Exactly.{sets-status-exactly}
+use Rattle.occ.specs.laws.Exactly.{sets-status-exactly}
 
 -- what is read from the part that starts at a place is read from all that is left there
 pub of-rest : {A : Type 0} (f : List ℕ → A) (d : List ℕ) (at : ℕ) {x : A} → x ≡ f (take (length d - at) (drop at d)) → x ≡ f (drop at d)

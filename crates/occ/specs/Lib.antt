@@ -1,6 +1,4 @@
 pub mod Commands
 pub mod Judge
-pub mod Chains
-pub mod SetsExactly
-pub mod Exactly
-pub mod Laws
+pub mod Conditions
+pub mod laws

@@ -7,7 +7,7 @@ use native.Mathlib.Omega.{arith}
 use borrow.Author.Tests.{ltb-false}
 use lib.Dec.{ltb}
 use lib.ListN.{length, getD}
-use Rattle.wire.specs.Cases.{if-b, else-b, if-ne, else-ne}
+use Rattle.wire.specs.laws.Cases.{if-b, else-b, if-ne, else-ne}
 use Rattle.change.specs.declared.Change.{Change}
 use Rattle.packet.specs.Packet.{packetStatus, dataOf, replied}
 use Rattle.occ.specs.Judge.{plainly, judgeOf}
@@ -20,18 +20,18 @@ use Rattle.occ.specs.declared.Verdict.{Verdict}
 use Rattle.occ.specs.declared.Verdict.the-variants.{Refuse, Poll, Make}
 use Rattle.occ.specs.declared.Judged.{Judged}
 use Rattle.session.specs.Session.{wellFormed, carriedOf}
-use Rattle.session.specs.Laws.{formed-next}
+use Rattle.session.specs.laws.Session.{formed-next}
 use Rattle.session.specs.declared.Session.{Session}
 use Rattle.session.specs.declared.Carried.{Carried}
 use Rattle.occ_call.specs.declared.Outcome.{Outcome}
-use Rattle.occ_call.specs.Occ.{Result, answered, kept, says, knownSender, refusalOf, occRefusal, carriedSays, occMade, toldOf, verdictSays, judgedSays, askedFor, askedOf, occRead, occFrom, occCall}
+use Rattle.occ_call.specs.Occ.{OccResult, answered, kept, says, knownSender, refusalOf, occRefusal, carriedSays, occMade, toldOf, verdictSays, judgedSays, askedFor, askedOf, occRead, occFrom, occCall}
 
 -- the two halves of a result
-abbrev Halves : Outcome → List ℕ → Result → Type 0
+abbrev Halves : Outcome → List ℕ → OccResult → Type 0
 Halves x y q = (x ≡ q .outcome) × (y ≡ q .reply)
 
-halves : (x : Outcome) (y : List ℕ) (q : Result) → record { outcome = x; reply = y } ≡ q → Halves x y q
-halves x y q e = (ap (λ (r : Result). r .outcome) e, ap (λ (r : Result). r .reply) e)
+halves : (x : Outcome) (y : List ℕ) (q : OccResult) → record { outcome = x; reply = y } ≡ q → Halves x y q
+halves x y q e = (ap (λ (r : OccResult). r .outcome) e, ap (λ (r : OccResult). r .reply) e)
 
 -- no refusal is due: the session is well formed, the sender known and both buffers are long enough
 due : (a b c d : Bool) → cond {A = ℕ} (not a) 1 (cond (not b) 2 (cond c 3 (cond d 4 0))) ≡ 0 → (a ≡ true) × (c ≡ false) × (d ≡ false)

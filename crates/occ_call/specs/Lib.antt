@@ -1,2 +1,2 @@
 pub mod Occ
-pub mod Came
+pub mod laws

@@ -20,7 +20,7 @@ use Rattle.session.specs.declared.Carried.{Carried}
 use Rattle.occ_call.specs.declared.Outcome.{Outcome}
 
 -- answer and session, and the reply buffer as it is left
-pub record Result : Type 0 where
+pub record OccResult : Type 0 where
   pub outcome : Outcome
   pub reply : List ℕ
 
@@ -28,11 +28,11 @@ unfoldable pub answered : ℕ → Session → Outcome
 answered n s = record { answer = n; session = s }
 
 -- "Every answer but 0 returns the session unchanged": and keeps the buffer
-unfoldable pub kept : ℕ → Session → List ℕ → Result
+unfoldable pub kept : ℕ → Session → List ℕ → OccResult
 kept n s d = record { outcome = answered n s; reply = d }
 
 -- answer 0: "a reply, good or error, is written"
-unfoldable pub says : Session → List ℕ → Result
+unfoldable pub says : Session → List ℕ → OccResult
 says s d = record { outcome = answered 0 s; reply = d }
 
 -- 1: session not well formed; 2: "OCC sender neither 0x10 (HTMGT) nor 0x20 (BMC)"; 3: reply buffer under 4,096 bytes; 4: command under 4
@@ -50,10 +50,10 @@ unfoldable pub occRefusal : Session → ℕ → ℕ → ℕ → ℕ
 occRefusal s sender command reply = refusalOf (wellFormed s) sender command reply
 
 -- 5: "an otherwise accepted change whose entry is longer than the unused journal"; else it is carried out, and "success has no data"
-unfoldable pub carriedSays : Carried → Session → ℕ → ℕ → List ℕ → Result
+unfoldable pub carriedSays : Carried → Session → ℕ → ℕ → List ℕ → OccResult
 carriedSays c s seq kind d = cond (c .full) (kept 5 s d) (says (c .session) (replied seq kind 0x00 [] d))
 
-unfoldable pub occMade : Session → Edit → ℕ → ℕ → List ℕ → Result
+unfoldable pub occMade : Session → Edit → ℕ → ℕ → List ℕ → OccResult
 occMade s e seq kind d = carriedSays (carriedOf s e) s seq kind d
 
 -- the reply to what is no change
@@ -63,12 +63,12 @@ toldOf Poll held worked seq kind d = replied seq 0x00 0x00 (pollData held worked
 toldOf (Make change) held worked seq kind d = d
 
 -- "every error reply returns the session unchanged", and so does a poll's
-unfoldable pub verdictSays : Session → ℕ → ℕ → List ℕ → Tables → Verdict → Result
+unfoldable pub verdictSays : Session → ℕ → ℕ → List ℕ → Tables → Verdict → OccResult
 verdictSays s seq kind d t (Refuse status) = says s (toldOf (Refuse status) (s .held) (s .worked) seq kind d)
 verdictSays s seq kind d t Poll = says s (toldOf Poll (s .held) (s .worked) seq kind d)
 verdictSays s seq kind d t (Make change) = occMade s (record { change = change; tables = t }) seq kind d
 
-unfoldable pub judgedSays : Session → ℕ → ℕ → List ℕ → Judged → Result
+unfoldable pub judgedSays : Session → ℕ → ℕ → List ℕ → Judged → OccResult
 judgedSays s seq kind d j = verdictSays s seq kind d (j .tables) (j .verdict)
 
 -- what a command asks for: the packet's own statuses 0x12 and 0x14 come first, then its type and data are judged
@@ -79,12 +79,12 @@ askedFor status held worked next sender c =
 unfoldable pub askedOf : Record → Worked → ℕ → ℕ → List ℕ → Judged
 askedOf held worked next sender c = askedFor (packetStatus c) held worked next sender c
 
-unfoldable pub occRead : Session → ℕ → List ℕ → List ℕ → Result
+unfoldable pub occRead : Session → ℕ → List ℕ → List ℕ → OccResult
 occRead s sender c d = judgedSays s (getD c 0 0) (getD c 1 0) d (askedOf (s .held) (s .worked) (s .next) sender c)
 
 -- "Numbers 1 to 4 are tested in that order, first"
-unfoldable pub occFrom : ℕ → Session → ℕ → List ℕ → List ℕ → Result
+unfoldable pub occFrom : ℕ → Session → ℕ → List ℕ → List ℕ → OccResult
 occFrom n s sender c d = cond (not (eqb n 0)) (kept n s d) (occRead s sender c d)
 
-unfoldable pub occCall : Session → ℕ → List ℕ → List ℕ → Result
+unfoldable pub occCall : Session → ℕ → List ℕ → List ℕ → OccResult
 occCall s sender c d = occFrom (occRefusal s sender (length c) (length d)) s sender c d

@@ -8,8 +8,8 @@ use native.Mathlib.Omega.{arith}
 use lib.ListN.{length, take, drop, length-take, length-drop, take-append-drop}
 use lib.Seq.{drop-append-le, drop-drop}
 use Rattle.wire.specs.Wire.{pasted}
-use Rattle.wire.specs.Laws.{tail-part}
-use Rattle.wire.specs.Cases.{if-b, else-b, if-lt, else-lt, if-ne, else-ne}
+use Rattle.wire.specs.laws.Wire.{tail-part}
+use Rattle.wire.specs.laws.Cases.{if-b, else-b, if-lt, else-lt, if-ne, else-ne}
 use Rattle.text.specs.declared.Fault.{Fault}
 use Rattle.text.specs.declared.Fault.the-variants.{Nothing, Digit, Over}
 use Rattle.text.specs.Text.{inWord, leading, pastBlanks, Run, run, Takes}

@@ -7,9 +7,10 @@ use native.Mathlib.Nat.{add-sub-cancel-left}
 use native.Mathlib.Omega.{arith}
 use lib.ListN.{length, take, drop}
 use Rattle.wire.specs.Wire.{beNat, packetSum}
-use Rattle.wire.specs.Cases.{if-lt, else-lt}
+use Rattle.wire.specs.laws.Cases.{if-lt, else-lt}
 use Rattle.packet.specs.Packet.{dataLength, packetStatus, dataAt, dataOf}
-use Rattle.packet.specs.Exactly.{Fits, status-overlong, status-summed, status-unsummed}
+use Rattle.packet.specs.laws.Exactly.{status-overlong, status-summed, status-unsummed}
+use Rattle.packet.specs.Conditions.{Fits}
 
 module _ (c : List ℕ) where
   -- a buffer of under 6 bytes holds no packet, whatever length it names

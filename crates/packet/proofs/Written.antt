@@ -6,9 +6,9 @@ use native.Mathlib.Nat.{zero-add}
 use native.Mathlib.Omega.{arith}
 use lib.ListN.{length, take}
 use Rattle.wire.specs.Wire.{toBE, packetSum, pasted}
-use Rattle.wire.specs.Laws.{take-pasted, field-next}
+use Rattle.wire.specs.laws.Wire.{take-pasted, field-next}
 use Rattle.packet.specs.Packet.{unsummed, replyBytes, replied}
-use Rattle.packet.specs.Laws.{length-unsummed, replied-room}
+use Rattle.packet.specs.laws.Packet.{length-unsummed, replied-room}
 
 -- the bytes written from the front are read back
 front : (xs d : List ℕ) → length xs ≤ length d → take (length xs) (pasted 0 xs d) ≡ xs

@@ -1,3 +1,3 @@
 pub mod Packet
-pub mod Exactly
-pub mod Laws
+pub mod Conditions
+pub mod laws

@@ -5,7 +5,7 @@ use mathlib.Core.List.{List, [], _∷_, _++_, append-nil}
 use native.Mathlib.Omega.{arith}
 use lib.ListN.{length, drop, drop-of-length-le}
 use Rattle.wire.specs.Wire.{toBE, pasted}
-use Rattle.wire.specs.Laws.{field-next}
+use Rattle.wire.specs.laws.Wire.{field-next}
 use Rattle.record.specs.declared.Caps.{Caps}
 use Rattle.poll.specs.Poll.{logLength, codeLevel, sensorText, pollHead, capsBlock}
 

@@ -5,12 +5,12 @@ use mathlib.Core.Path.{_≡_, sym, ap, ap₂, _∙_}
 use mathlib.Core.List.{List, _++_}
 use lib.ListN.{length, replicate, length-append}
 use Rattle.wire.specs.Wire.{pasted}
-use Rattle.wire.specs.Cases.{if-b, else-b}
+use Rattle.wire.specs.laws.Cases.{if-b, else-b}
 use Rattle.record.specs.declared.Record.{Record}
 use Rattle.record.specs.declared.Worked.{Worked}
 use Rattle.packet.specs.Packet.{replied}
 use Rattle.poll.specs.Poll.{statusByte, oldestId, showsCaps, pollHead, capsBlock, pollData}
-use Rattle.poll.specs.Laws.{length-head, length-block}
+use Rattle.poll.specs.laws.Poll.{length-head, length-block}
 use Rattle.poll.proofs.Bytes.{both-put}
 
 module _ (r : Record) (w : Worked) (status seq : ℕ) (shows : Bool) (l d x : List ℕ) (e : shows ≡ showsCaps (r .role) (r .received .caps)) (s : status ≡ statusByte (r .role) w) where

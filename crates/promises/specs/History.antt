@@ -5,7 +5,7 @@ use mathlib.Core.Path.{_≡_}
 use mathlib.Core.List.{List, [], _∷_}
 use lib.Dec.{eqb}
 use lib.ListN.{length}
-use Rattle.wire.specs.Laws.{Bytes}
+use Rattle.wire.specs.Wire.{Bytes}
 use Rattle.record.specs.Record.{workedOf}
 use Rattle.record.specs.declared.Record.{Record}
 use Rattle.change.specs.Change.{noTables, putOf}
@@ -52,7 +52,7 @@ sbeVerdict s (Granted change) = adding s (record { change = change; tables = noT
 unfoldable pub deed : Session → Call → Deed
 deed s (occ sender c d) =
     cond (not (eqb (occRefusal s sender (length c) (length d)) 0)) keeps (occJudgement s (askedOf (s .held) (s .worked) (s .next) sender c))
-deed s (sbe r d) = cond (not (eqb (sbeRefusal s (length r) (length d)) 0)) keeps (sbeVerdict s (mailbox.judgeOf r))
+deed s (sbe r d) = cond (not (eqb (sbeRefusal s (length r) (length d)) 0)) keeps (sbeVerdict s (mailbox.requestVerdict r))
 deed s undo = cond (eqb (undoCall s .answer) 0) strikes keeps
 
 -- ---- the changes, newest first, and which of them are struck out

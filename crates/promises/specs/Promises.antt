@@ -7,38 +7,45 @@ use mathlib.Core.Path.{_≡_, sym, ap, _∙_}
 use mathlib.Core.List.{List, []}
 use native.Mathlib.Omega.{arith}
 use lib.ListN.{length, getD}
-use Rattle.wire.specs.Laws.{Bytes}
+use Rattle.wire.specs.Wire.{Bytes}
 use Rattle.record.specs.Record.{freshRecord, workedOf}
 use Rattle.record.specs.declared.Record.{Record}
 use Rattle.record.specs.declared.Worked.{Worked}
 use Rattle.change.specs.declared.Edit.{Edit}
 use Rattle.packet.specs.Packet.{packetStatus, replied}
-use Rattle.packet.specs.Exactly.{Fits, Summed, good-exactly}
+use Rattle.packet.specs.laws.Exactly.{good-exactly}
+use Rattle.packet.specs.Conditions.{Fits, Summed}
 use Rattle.occ.specs.Judge.{judgeOf}
-use Rattle.occ.specs.Exactly.{CommandOk, accepts, judge-exactly}
+use Rattle.occ.specs.laws.Exactly.{judge-exactly}
+use Rattle.occ.specs.Conditions.{CommandOk, accepts}
 use Rattle.sbe.specs.Mailbox as mailbox
-use Rattle.sbe.specs.Exactly as requests
+use Rattle.sbe.specs.Conditions.{grants, Accepted}
+use Rattle.sbe.specs.laws.Exactly.{accepted-exactly}
 use Rattle.session.specs.Session.{freshSession, wellFormed, madeOf}
 use Rattle.session.specs.declared.Session.{Session}
 use Rattle.occ_call.specs.Occ.{occCall}
-use Rattle.occ_call.specs.Came as occ-came
+use Rattle.occ_call.specs.laws.Came as occ-came
 use Rattle.sbe_call.specs.Sbe.{sbeCall}
-use Rattle.sbe_call.specs.Came as sbe-came
+use Rattle.sbe_call.specs.laws.Came as sbe-came
 use Rattle.undo_call.specs.Undo.{undoCall}
-use Rattle.undo_call.specs.Came as undo-came
-use Rattle.promises.specs.Calls.{Call, undo, said}
-use Rattle.promises.specs.History.{adds, deed, logsMade, Run, run, next-run, start, OfBytes, AllOfBytes, Demand3}
+use Rattle.undo_call.specs.laws.Came as undo-came
+use Rattle.promises.specs.Calls.{Call, said}
+use Rattle.promises.specs.History.{adds, deed, logsMade, run, start, OfBytes, AllOfBytes, Demand3}
 use Rattle.promises.specs.Ids.{idsMade, countdown}
-use Rattle.promises.specs.Fresh.{fresh-start, fresh-still}
-use Rattle.promises.specs.Demand3.{demand3, ids-in-order, invariant, next-is}
+use Rattle.promises.specs.laws.Fresh.{fresh-start, fresh-still}
+use Rattle.promises.specs.laws.Demand3.{demand3, ids-in-order, invariant, next-is}
 use Rattle.links.specs.Typed.{TypedSession}
-use Rattle.promises.specs.WellFormed.{occ-formed, sbe-formed, undo-formed}
+use Rattle.promises.specs.laws.WellFormed.{occ-formed, sbe-formed, undo-formed}
 use Rattle.promises.specs.Later.{Wish, AsIf}
-use Rattle.promises.specs.NoTrace.{withNext, trace-free, no-log-no-trace, later-alike}
+use Rattle.promises.specs.laws.NoTrace.{trace-free, no-log-no-trace, later-alike}
+use Rattle.promises.specs.NoTrace.{withNext}
 use Rattle.image.specs.Image.{imageOf}
 use Rattle.bjargolsk.specs.Calls.{freshOn}
-use Rattle.promises.specs.Lent.{lent, carriedOver, lentRun, fresh-image, lent-run, lent-next}
-use Rattle.promises.specs.Examples.{All, holds, table, examples}
+use Rattle.promises.specs.laws.Lent.{fresh-image, lent-run, lent-next}
+use Rattle.promises.specs.Lent.{lent, carriedOver, lentRun}
+use Rattle.promises.specs.Examples.{All, holds, table}
+use Rattle.promises.specs.laws.Examples.{examples}
+use Rattle.promises.specs.NoTrace.{after, tried}
 
 -- ---- demand 1: a refusal changes nothing, for every session, right or damaged
 
@@ -93,8 +100,8 @@ pub command-accepted-exactly-when : (r : Record) (w : Worked) (next sender kind 
     → (accepts (judgeOf r w next sender kind d .verdict) ≡ true) ↔ CommandOk r w next sender kind d
 command-accepted-exactly-when = judge-exactly
 
-pub request-accepted-exactly-when : (r : List ℕ) → (requests.accepts (mailbox.judgeOf r) ≡ true) ↔ requests.Accepted r
-request-accepted-exactly-when = requests.accepted-exactly
+pub request-accepted-exactly-when : (r : List ℕ) → (grants (mailbox.requestVerdict r) ≡ true) ↔ Accepted r
+request-accepted-exactly-when = accepted-exactly
 
 -- ---- demand 3: start fresh, and hand each session on unchanged through any calls
 
@@ -102,12 +109,6 @@ pub undo-over-any-calls : (cs : List Call) → AllOfBytes cs → Demand3 freshRe
 undo-over-any-calls cs b = demand3 freshRecord cs (start freshSession) b fresh-start
 
 -- ---- no trace: a change followed by its undo leaves all but the next id as it was, and that only where a log was made
-
-abbrev after : List Call → Run
-after cs = run (start freshSession) cs
-
-abbrev tried : List Call → Call → Session
-tried cs c = said (next-run (after cs) c .session) undo .session
 
 pub no-trace : (cs : List Call) → AllOfBytes cs → (c : Call) → OfBytes c → (e : Edit) → deed (after cs .session) c ≡ adds e
     → tried cs c ≡ withNext (after cs .session) (after cs .session .next + madeOf (e .change))

@@ -6,12 +6,12 @@ use mathlib.Core.List.{List}
 use native.Mathlib.Omega.{arith}
 use lib.ListN.{take, drop}
 use Rattle.wire.specs.Wire.{beNat}
-use Rattle.wire.specs.Cases.{if-le, else-le, if-lt, else-lt, else-eq, if-ne, else-ne}
+use Rattle.wire.specs.laws.Cases.{if-le, else-le, if-lt, else-lt, else-eq, if-ne, else-ne}
 use Rattle.record.specs.declared.Area.{Area}
 use Rattle.change.specs.declared.Change.the-variants.{SetAreas}
 use Rattle.sbe.specs.declared.Verdict.{Verdict}
 use Rattle.sbe.specs.declared.Verdict.the-variants.{Refuse, Make}
-use Rattle.sbe.specs.Mailbox.{flagsOf, wordAt, registerAt, plainFlags, deadmanAt, deadmanOf, areaStatus, areaOf, areasAt, judgeFor}
+use Rattle.sbe.specs.Mailbox.{flagsOf, wordAt, registerAt, plainFlags, deadmanAt, deadmanOf, areaStatus, areaOf, areasAt, requestFor}
 
 -- a value given at a number that is known
 pub by-key : {A : Type 0} (f : ℕ → A) {k n : ℕ} {x : A} → k ≡ n → x ≡ f n → x ≡ f k
@@ -60,20 +60,20 @@ module _ (ffdc pass front back : ℕ) {s : ℕ} (first : s ≡ areaStatus front 
 -- ---- the classes
 
 module _ (class command : ℕ) (r : List ℕ) (other : class ≡ 0xD1 → ⊥) where
-  pub class-below : class < 0xD1 → Refuse 0x01 0x01 ≡ judgeFor class command r
-  unfolding judgeFor
+  pub class-below : class < 0xD1 → Refuse 0x01 0x01 ≡ requestFor class command r
+  unfolding requestFor
   class-below h = let k : class < 0xD3 = omega arith in else-eq _ _ other (if-lt _ _ k refl)
 
-  pub class-between : (class ≡ 0xD2 → ⊥) → 0xD1 ≤ class → class < 0xD7 → Refuse 0x01 0x02 ≡ judgeFor class command r
-  unfolding judgeFor
+  pub class-between : (class ≡ 0xD2 → ⊥) → 0xD1 ≤ class → class < 0xD7 → Refuse 0x01 0x02 ≡ requestFor class command r
+  unfolding requestFor
   class-between n h m =
       let k : 0xD3 ≤ class = omega (arith, other, n) in
       let l : class ≤ 0xD7 = omega arith in
       let d : class ≡ 0xD7 → ⊥ = λ z. omega arith in
       else-eq _ _ other (else-lt _ _ k (else-lt _ _ l (else-eq _ _ d refl)))
 
-  pub class-above : (class ≡ 0xD7 → ⊥) → 0xD7 ≤ class → Refuse 0x01 0x01 ≡ judgeFor class command r
-  unfolding judgeFor
+  pub class-above : (class ≡ 0xD7 → ⊥) → 0xD7 ≤ class → Refuse 0x01 0x01 ≡ requestFor class command r
+  unfolding requestFor
   class-above n h =
       let k : 0xD3 ≤ class = omega arith in
       let l : 0xD7 < class = omega (arith, n) in

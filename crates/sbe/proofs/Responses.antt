@@ -6,7 +6,7 @@ use native.Mathlib.Omega.{arith}
 use lib.ListN.{length, take, drop, replicate, length-drop}
 use lib.Seq.{length-take-le}
 use Rattle.wire.specs.Wire.{toBE, pasted}
-use Rattle.wire.specs.Laws.{field-next}
+use Rattle.wire.specs.laws.Wire.{field-next}
 use Rattle.sbe.specs.Mailbox.{responseBytes}
 
 pub response-put : (primary secondary : ℕ) (r d v w x y : List ℕ) → 32 ≤ length r → v ≡ pasted 0 (toBE 2 primary) d → w ≡ pasted 2 (toBE 2 secondary) v

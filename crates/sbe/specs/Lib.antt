@@ -1,3 +1,3 @@
 pub mod Mailbox
-pub mod Exactly
-pub mod Laws
+pub mod Conditions
+pub mod laws

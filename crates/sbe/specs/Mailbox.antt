@@ -78,15 +78,15 @@ coreState command r =
 unfoldable pub general : ℕ → List ℕ → Verdict
 general command r = cond (eqb command 0x04) (areasOf r) (Refuse 0x01 0x02)
 
-unfoldable pub judgeFor : ℕ → ℕ → List ℕ → Verdict
-judgeFor class command r =
+unfoldable pub requestFor : ℕ → ℕ → List ℕ → Verdict
+requestFor class command r =
     cond (eqb class 0xD1) (coreState command r)
     (cond (ltb class 0xD3) (Refuse 0x01 0x01)
     (cond (ltb 0xD7 class) (Refuse 0x01 0x01)
     (cond (eqb class 0xD7) (general command r) (Refuse 0x01 0x02))))
 
-unfoldable pub judgeOf : List ℕ → Verdict
-judgeOf r = judgeFor (getD r 6 0) (getD r 7 0) r
+unfoldable pub requestVerdict : List ℕ → Verdict
+requestVerdict r = requestFor (getD r 6 0) (getD r 7 0) r
 
 -- ---- "Flag 0x0100 asks for doorbell bit 0 (response), 0x0200 for bit 1 (acknowledge), refused or not": bit 0 is 0x8000, bit 1 0x4000
 

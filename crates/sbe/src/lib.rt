@@ -3,7 +3,7 @@ ghost use mathlib.Core.Path.{_≡_};
 ghost use Prim.Native.Nat.{_≤_};
 ghost use lib.ListN.{length};
 ghost use Rattle.wire.specs.Wire.{pasted};
-ghost use Rattle.sbe.specs.Mailbox.{deadmanOf, coresOf, areaStatus, areaOf, areasOf, coreState, general, judgeOf, plainFlags, bellOf, responseBytes};
+ghost use Rattle.sbe.specs.Mailbox.{deadmanOf, coresOf, areaStatus, areaOf, areasOf, coreState, general, requestVerdict, plainFlags, bellOf, responseBytes};
 use change::Change;
 use record::Area;
 use record::Areas;
@@ -144,7 +144,7 @@ fn general_command(command: u8, r: &[u8]) -> Verdict
 // A whole request of four registers, judged.
 pub fn judge(r: &[u8]) -> Verdict
     requires { ⌜ 32 ≤ length (now r) ⌝ }
-    ensures { λ x. ⌜ x ≡ judgeOf (now (r .entry)) ⌝ }
+    ensures { λ x. ⌜ x ≡ requestVerdict (now (r .entry)) ⌝ }
 {
     let class = r[6];
     let command = r[7];

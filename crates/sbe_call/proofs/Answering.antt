@@ -8,28 +8,28 @@ use borrow.Author.Tests.{ltb-false}
 use lib.Dec.{ltb}
 use lib.ListN.{length}
 use Rattle.wire.specs.Wire.{pasted}
-use Rattle.wire.specs.Cases.{if-b, else-b, if-ne, else-ne}
+use Rattle.wire.specs.laws.Cases.{if-b, else-b, if-ne, else-ne}
 use Rattle.change.specs.Change.{noTables}
 use Rattle.change.specs.declared.Change.{Change}
-use Rattle.sbe.specs.Mailbox.{judgeOf, bellOf, responseBytes}
+use Rattle.sbe.specs.Mailbox.{requestVerdict, bellOf, responseBytes}
 use Rattle.sbe.specs.declared.Verdict.{Verdict}
 use Rattle.sbe.specs.declared.Verdict.the-variants.{Refuse, Make}
 use Rattle.session.specs.Session.{wellFormed, carriedOf}
-use Rattle.session.specs.Laws.{formed-next}
+use Rattle.session.specs.laws.Session.{formed-next}
 use Rattle.session.specs.declared.Session.{Session}
 use Rattle.session.specs.declared.Carried.{Carried}
 use Rattle.sbe_call.specs.declared.Rung.{Rung}
-use Rattle.sbe_call.specs.Sbe.{Result, rung, kept, responds, refusalOf, sbeRefusal, carriedSays, sbeMade, toldOf, verdictSays, sbeFrom, sbeCall}
+use Rattle.sbe_call.specs.Sbe.{SbeResult, rung, kept, responds, refusalOf, sbeRefusal, carriedSays, sbeMade, toldOf, verdictSays, sbeFrom, sbeCall}
 use Rattle.sbe.proofs.Verdict.{the-type}
 use denote.Enum.Declared.{tagOf}
 use Rattle.change.specs.declared.Tables.{Tables}
 
 -- the two halves of a result
-abbrev Halves : Rung → List ℕ → Result → Type 0
+abbrev Halves : Rung → List ℕ → SbeResult → Type 0
 Halves x y q = (x ≡ q .outcome) × (y ≡ q .reply)
 
-halves : (x : Rung) (y : List ℕ) (q : Result) → record { outcome = x; reply = y } ≡ q → Halves x y q
-halves x y q e = (ap (λ (r : Result). r .outcome) e, ap (λ (r : Result). r .reply) e)
+halves : (x : Rung) (y : List ℕ) (q : SbeResult) → record { outcome = x; reply = y } ≡ q → Halves x y q
+halves x y q e = (ap (λ (r : SbeResult). r .outcome) e, ap (λ (r : SbeResult). r .reply) e)
 
 -- no refusal is due: the session is well formed and both buffers are long enough
 due : (b c d : Bool) → cond {A = ℕ} (not b) 1 (cond c 3 (cond d 4 0)) ≡ 0 → (b ≡ true) × (c ≡ false) × (d ≡ false)
@@ -65,7 +65,7 @@ module _ (s : Session) (r d : List ℕ) (f : Bool) (n : ℕ) (e : f ≡ wellForm
   unfolding sbeFrom kept
   call-refused x h z = by-refusal x d (if-ne _ _ z (λ i. record { outcome = h i; reply = d }))
 
-  module _ (none : n ≡ 0) (v : Verdict) (judged : v ≡ judgeOf r) (bell : ℕ) (rings : bell ≡ bellOf r) where
+  module _ (none : n ≡ 0) (v : Verdict) (judged : v ≡ requestVerdict r) (bell : ℕ) (rings : bell ≡ bellOf r) where
     by-verdict : (x : Rung) (y : List ℕ) → record { outcome = x; reply = y } ≡ verdictSays s r d v → Halves x y (sbeCall s r d)
     unfolding sbeFrom
     by-verdict x y h = by-refusal x y (else-ne _ _ none (h ∙ ap (verdictSays s r d) judged))

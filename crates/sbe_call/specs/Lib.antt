@@ -1,2 +1,2 @@
 pub mod Sbe
-pub mod Came
+pub mod laws

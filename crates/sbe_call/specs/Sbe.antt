@@ -7,7 +7,7 @@ use lib.Dec.{ltb, eqb}
 use Rattle.wire.specs.Wire.{pasted}
 use Rattle.change.specs.Change.{noTables}
 use Rattle.change.specs.declared.Change.{Change}
-use Rattle.sbe.specs.Mailbox.{judgeOf, bellOf, responseBytes}
+use Rattle.sbe.specs.Mailbox.{requestVerdict, bellOf, responseBytes}
 use Rattle.sbe.specs.declared.Verdict.{Verdict}
 use Rattle.sbe.specs.declared.Verdict.the-variants.{Refuse, Make}
 use Rattle.session.specs.Session.{wellFormed, carriedOf}
@@ -16,7 +16,7 @@ use Rattle.session.specs.declared.Carried.{Carried}
 use Rattle.sbe_call.specs.declared.Rung.{Rung}
 
 -- answer, doorbell and session, and the reply buffer as it is left
-pub record Result : Type 0 where
+pub record SbeResult : Type 0 where
   pub outcome : Rung
   pub reply : List ℕ
 
@@ -24,11 +24,11 @@ unfoldable pub rung : ℕ → ℕ → Session → Rung
 rung n bell s = record { answer = n; bell = bell; session = s }
 
 -- "Every answer but 0 returns the session unchanged and rings no doorbell bit": and keeps the buffer
-unfoldable pub kept : ℕ → Session → List ℕ → Result
+unfoldable pub kept : ℕ → Session → List ℕ → SbeResult
 kept n s d = record { outcome = rung n 0 s; reply = d }
 
 -- the response "is written on every answer 0"; the bell is rung as asked, refused or not
-unfoldable pub responds : Session → ℕ → ℕ → List ℕ → List ℕ → Result
+unfoldable pub responds : Session → ℕ → ℕ → List ℕ → List ℕ → SbeResult
 responds s primary secondary r d = record { outcome = rung 0 (bellOf r) s; reply = pasted 0 (responseBytes primary secondary r) d }
 
 -- 1: session not well formed; 3: reply buffer under 32 bytes; 4: command under 32
@@ -39,10 +39,10 @@ unfoldable pub sbeRefusal : Session → ℕ → ℕ → ℕ
 sbeRefusal s request reply = refusalOf (wellFormed s) request reply
 
 -- 5: "an otherwise accepted change whose entry is longer than the unused journal"
-unfoldable pub carriedSays : Carried → Session → List ℕ → List ℕ → Result
+unfoldable pub carriedSays : Carried → Session → List ℕ → List ℕ → SbeResult
 carriedSays c s r d = cond (c .full) (kept 5 s d) (responds (c .session) 0x00 0x00 r d)
 
-unfoldable pub sbeMade : Session → Change → List ℕ → List ℕ → Result
+unfoldable pub sbeMade : Session → Change → List ℕ → List ℕ → SbeResult
 sbeMade s change r d = carriedSays (carriedOf s (record { change = change; tables = noTables })) s r d
 
 -- the response to what is no change
@@ -50,12 +50,12 @@ unfoldable pub toldOf : Verdict → List ℕ → List ℕ → List ℕ
 toldOf (Refuse primary secondary) r d = pasted 0 (responseBytes primary secondary r) d
 toldOf (Make change) r d = d
 
-unfoldable pub verdictSays : Session → List ℕ → List ℕ → Verdict → Result
+unfoldable pub verdictSays : Session → List ℕ → List ℕ → Verdict → SbeResult
 verdictSays s r d (Refuse primary secondary) = responds s primary secondary r d
 verdictSays s r d (Make change) = sbeMade s change r d
 
-unfoldable pub sbeFrom : ℕ → Session → List ℕ → List ℕ → Result
-sbeFrom n s r d = cond (not (eqb n 0)) (kept n s d) (verdictSays s r d (judgeOf r))
+unfoldable pub sbeFrom : ℕ → Session → List ℕ → List ℕ → SbeResult
+sbeFrom n s r d = cond (not (eqb n 0)) (kept n s d) (verdictSays s r d (requestVerdict r))
 
-unfoldable pub sbeCall : Session → List ℕ → List ℕ → Result
+unfoldable pub sbeCall : Session → List ℕ → List ℕ → SbeResult
 sbeCall s r d = sbeFrom (sbeRefusal s (length r) (length d)) s r d

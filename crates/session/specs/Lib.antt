@@ -1,2 +1,2 @@
 pub mod Session
-pub mod Laws
+pub mod laws

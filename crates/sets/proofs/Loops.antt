@@ -6,7 +6,7 @@ use native.Mathlib.Nat.{not-suc-le-zero, add-sub-cancel-left}
 use native.Mathlib.Omega.{arith}
 use lib.ListN.{length, take, drop, length-drop}
 use lib.Seq.{drop-drop, length-take-le}
-use Rattle.sets.specs.Laws.{Parted}
+use Rattle.sets.specs.laws.Sets.{Parted}
 
 -- the w bytes from a place on, as the code takes them
 pub part-length : (l : List ℕ) (at w : ℕ) → at + w ≤ length l → length (take (at + w - at) (drop at l)) ≡ w

@@ -5,7 +5,7 @@ use mathlib.Core.List.{List, [], _∷_}
 use native.Mathlib.Nat.{mul-one, one-mul, mul-assoc, pow-succ', not-suc-le-zero, le-of-suc-le-suc}
 use lib.ListN.{getD}
 use lib.Pow.{pow-pos}
-use Rattle.sets.specs.Laws.{bit-free}
+use Rattle.sets.specs.laws.Sets.{bit-free}
 
 -- n numbers, each twice the one before it
 abbrev doubled : ℕ → ℕ → List ℕ

@@ -7,7 +7,7 @@ use native.Mathlib.Omega.{arith}
 use lib.Dec.{eqb}
 use lib.ListN.{getD}
 use Rattle.wire.specs.Wire.{pasted}
-use Rattle.wire.specs.Cases.{if-ne, else-ne}
+use Rattle.wire.specs.laws.Cases.{if-ne, else-ne}
 use Rattle.sets.specs.declared.Sets.{Sets}
 use Rattle.sets.specs.declared.Frus.{Frus}
 use Rattle.sets.specs.Sets.{bitOf, withPair, withFru}

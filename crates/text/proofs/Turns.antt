@@ -11,7 +11,7 @@ use lib.ListN.{length, getD, drop, set, drop-of-length-le}
 use lib.Seq.{drop-cons}
 use borrow.Author.Tests.{ltb-true, ltb-false}
 use Rattle.wire.specs.Wire.{pasted}
-use Rattle.wire.specs.Cases.{if-b, else-b, if-lt, else-lt, if-le, else-le, if-ne, else-ne, cond-elim}
+use Rattle.wire.specs.laws.Cases.{if-b, else-b, if-lt, else-lt, if-le, else-le, if-ne, else-ne, cond-elim}
 use Rattle.wire.proofs.Loops.{store-first, paste-none}
 use Rattle.text.specs.declared.Fault.{Fault}
 use Rattle.text.specs.declared.Fault.the-variants.{Nothing, Digit, Over}

@@ -7,7 +7,7 @@ use native.Mathlib.Omega.{arith}
 use denote.Enum.Declared.{tagOf}
 use lib.ListN.{length, take, drop}
 use lib.Seq.{length-take-le}
-use Rattle.wire.specs.Cases.{if-b, else-b}
+use Rattle.wire.specs.laws.Cases.{if-b, else-b}
 use Rattle.record.specs.Record.{workedOf}
 use Rattle.record.specs.declared.Worked.{Worked}
 use Rattle.change.specs.Change.{kindOf, putOf}
@@ -24,7 +24,7 @@ use Rattle.journal.specs.Add.{cutFrom}
 use Rattle.journal.specs.declared.Found.the-variants.{Good, Bad}
 use Rattle.journal.specs.declared.Got.{Got}
 use Rattle.session.specs.Session.{wellFormed, withHeld}
-use Rattle.session.specs.Laws.{formed}
+use Rattle.session.specs.laws.Session.{formed}
 use Rattle.session.specs.declared.Session.{Session}
 use Rattle.undo_call.specs.declared.Undone.{Undone}
 use Rattle.undo_call.specs.Undo.{notUndone, undone, undonePut, undoneWith, undoneFound, undoneGot, undoneAt, undoneRead}

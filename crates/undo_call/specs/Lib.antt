@@ -1,2 +1,2 @@
 pub mod Undo
-pub mod Came
+pub mod laws

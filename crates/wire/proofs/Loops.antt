@@ -11,8 +11,8 @@ use lib.Dec.{lit<}
 use lib.ListN.{length, getD, take, drop, set, replicate, length-append, length-drop, length-set, take-append-drop, drop-of-length-le}
 use lib.Seq.{take-suc, take-length, drop-length, drop-cons, getD-drop, take-set-le, drop-set-lt, take-suc-set, getD-set-same}
 use Rattle.wire.specs.Wire.{sumOf, packetSum, beOnto, beNat, toBE, pasted, allAre}
-use Rattle.wire.specs.Laws.{onto-append, length-toBE}
-use Rattle.wire.specs.Cases.{if-eq, else-eq}
+use Rattle.wire.specs.laws.Wire.{onto-append, length-toBE}
+use Rattle.wire.specs.laws.Cases.{if-eq, else-eq}
 
 -- ---- sum: the bytes before i are in the sum
 

@@ -1,3 +1,3 @@
-pub mod Cases
 pub mod Wire
-pub mod Laws
+pub mod Conditions
+pub mod laws

@@ -1,5 +1,5 @@
 -- Bytes on the wire, as document 01 uses the words.
-use Prim.Native.Nat.{ℕ, zero, suc, _+_, _*_, _/_, _%_}
+use Prim.Native.Nat.{ℕ, zero, suc, _+_, _*_, _/_, _%_, _<_}
 use mathlib.Core.Bool.{Bool, true, false, cond}
 use mathlib.Core.List.{List, [], _∷_, _++_}
 use lib.Dec.{eqb}
@@ -36,3 +36,8 @@ pasted at bs d = take at d ++ (bs ++ drop (at + length bs) d)
 unfoldable pub allAre : ℕ → List ℕ → Bool
 allAre v [] = true
 allAre v (b ∷ bs) = cond (eqb b v) (allAre v bs) false
+
+-- each element is a byte
+abbrev pub Bytes : List ℕ → Type 0
+Bytes [] = Unit {0}
+Bytes (b ∷ bs) = (b < 256) × Bytes bs

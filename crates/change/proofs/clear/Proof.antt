@@ -1,5 +1,5 @@
 use Rattle.change.proofs.Puts.{with-logs-put}
-use Rattle.wire.specs.Cases.{if-b, else-b}
+use Rattle.wire.specs.laws.Cases.{if-b, else-b}
 use Rattle.change.specs.Change.{clearOf}
 use mathlib.Core.Bool.{not}
 use mathlib.Core.Path.{sym, ap, _∙_}

@@ -1,4 +1,4 @@
-use Rattle.wire.specs.Cases.{if-eq, else-eq}
+use Rattle.wire.specs.laws.Cases.{if-eq, else-eq}
 use Rattle.change.specs.Logs.{findOf}
 use mathlib.Core.Path.{refl}
 use borrow.Author.Needs.{needs}

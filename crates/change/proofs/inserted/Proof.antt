@@ -1,5 +1,5 @@
 use Rattle.change.specs.Logs.{insertAt}
-use Rattle.wire.specs.Cases.{else-lt}
+use Rattle.wire.specs.laws.Cases.{else-lt}
 use Rattle.change.proofs.Logs.{insert-0, insert-1, insert-2, insert-3}
 use mathlib.Core.Path.{refl}
 use native.Mathlib.Omega.{arith}

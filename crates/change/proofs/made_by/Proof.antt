@@ -1,5 +1,5 @@
 use mathlib.Core.Path.{refl}
-use Rattle.wire.specs.Cases.{else-eq, if-eq}
+use Rattle.wire.specs.laws.Cases.{else-eq, if-eq}
 use Rattle.change.specs.Change.{madeBy}
 use Rattle.change.proofs.made_by.Statement.{statement}
 use Rattle.change.proofs.made_by.Tie as tie

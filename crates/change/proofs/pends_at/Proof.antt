@@ -1,5 +1,5 @@
 use mathlib.Core.Path.{refl}
-use Rattle.wire.specs.Cases.{else-eq, else-lt, else-ne, if-eq, if-lt, if-ne}
+use Rattle.wire.specs.laws.Cases.{else-eq, else-lt, else-ne, if-eq, if-lt, if-ne}
 use Rattle.change.specs.Logs.{pendsAt}
 use borrow.Author.Needs.{needs}
 use Rattle.change.proofs.pends_at.Statement.{statement}

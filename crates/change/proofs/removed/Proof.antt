@@ -1,5 +1,5 @@
 use Rattle.change.specs.Logs.{removeAt}
-use Rattle.wire.specs.Cases.{else-lt}
+use Rattle.wire.specs.laws.Cases.{else-lt}
 use Rattle.change.proofs.Logs.{remove-0, remove-1, remove-2, remove-3}
 use mathlib.Core.Path.{refl}
 use native.Mathlib.Omega.{arith}

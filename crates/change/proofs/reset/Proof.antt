@@ -1,4 +1,4 @@
-use Rattle.wire.specs.Cases.{if-eq, else-eq, if-le, else-le}
+use Rattle.wire.specs.laws.Cases.{if-eq, else-eq, if-le, else-le}
 use Rattle.change.specs.Logs.{insertAt}
 use Rattle.change.specs.Change.{resetOf}
 use Rattle.change.proofs.Puts.{state-put, state-logs-put}

@@ -1,5 +1,5 @@
 use mathlib.Core.Path.{ap}
-use Rattle.wire.specs.Cases.{else-eq, if-eq}
+use Rattle.wire.specs.laws.Cases.{else-eq, if-eq}
 use Rattle.change.specs.Change.{tablesFor}
 use Rattle.change.specs.declared.Tables.{Tables}
 use borrow.Author.Needs.{needs}

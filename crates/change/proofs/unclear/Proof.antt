@@ -1,4 +1,4 @@
-use Rattle.wire.specs.Cases.{if-lt, else-lt, if-le, else-le}
+use Rattle.wire.specs.laws.Cases.{if-lt, else-lt, if-le, else-le}
 use Rattle.change.specs.Change.{unclearOf}
 use Rattle.change.proofs.Puts.{with-logs-put}
 use mathlib.Core.Path.{subst}

@@ -1,4 +1,4 @@
-use Rattle.wire.specs.Cases.{if-eq, else-eq}
+use Rattle.wire.specs.laws.Cases.{if-eq, else-eq}
 use Rattle.change.specs.Logs.{removeAt}
 use Rattle.change.specs.Change.{unresetOf}
 use Rattle.change.proofs.Puts.{state-put, state-logs-put}

@@ -1,6 +1,6 @@
 -- The definition goes by the tests that the code makes, in the order of D7 04.
 use mathlib.Core.Path.{refl}
-use Rattle.wire.specs.Cases.{else-eq, if-eq, if-not, else-not}
+use Rattle.wire.specs.laws.Cases.{else-eq, if-eq, if-not, else-not}
 use Rattle.formed.specs.Formed.{areaOk}
 use borrow.Author.Needs.{needs}
 use Rattle.formed.proofs.area_ok.Statement.{statement}

@@ -1,5 +1,5 @@
 -- The definition asks of one area after the other, as the code does.
-use Rattle.wire.specs.Cases.{if-not, else-not}
+use Rattle.wire.specs.laws.Cases.{if-not, else-not}
 use mathlib.Core.Path.{refl}
 use Rattle.formed.specs.Formed.{areasOk}
 use borrow.Author.Needs.{needs}

@@ -1,6 +1,6 @@
 -- The definition goes by the tests that the code makes: place, id, reason.
 use mathlib.Core.Path.{refl}
-use Rattle.wire.specs.Cases.{else-eq, else-lt, if-eq, if-lt}
+use Rattle.wire.specs.laws.Cases.{else-eq, else-lt, if-eq, if-lt}
 use Rattle.formed.specs.Formed.{clearedOk}
 use borrow.Author.Needs.{needs}
 use Rattle.formed.proofs.cleared_ok.Statement.{statement}

@@ -1,7 +1,7 @@
 -- A size of 0 stays in memory at any address; any other size does exactly when its last byte does.
 use borrow.Author.Tests.{le-leb}
 use mathlib.Core.Path.{sym}
-use Rattle.wire.specs.Cases.{same-le}
+use Rattle.wire.specs.laws.Cases.{same-le}
 use Rattle.formed.specs.Formed.{inMemory}
 use native.Mathlib.Omega.{arith}
 use Prim.Native.Nat.{_+_, _-_, _^_}

@@ -1,6 +1,6 @@
 -- The definition goes by the tests that the code makes: id, next id, reason.
 use mathlib.Core.Path.{refl}
-use Rattle.wire.specs.Cases.{else-le, if-le}
+use Rattle.wire.specs.laws.Cases.{else-le, if-le}
 use Rattle.formed.specs.Formed.{logOk}
 use borrow.Author.Needs.{needs}
 use Rattle.formed.proofs.log_ok.Statement.{statement}

@@ -1,6 +1,6 @@
 -- The definition goes by the test that the code makes.
 use mathlib.Core.Path.{refl}
-use Rattle.wire.specs.Cases.{else-eq, if-eq}
+use Rattle.wire.specs.laws.Cases.{else-eq, if-eq}
 use Rattle.formed.specs.Formed.{madeOk}
 use borrow.Author.Needs.{needs}
 use Rattle.formed.proofs.made_ok.Statement.{statement}

@@ -1,6 +1,6 @@
 -- The definition goes by the tests that the code makes.
 use mathlib.Core.Path.{refl}
-use Rattle.wire.specs.Cases.{else-lt, if-lt}
+use Rattle.wire.specs.laws.Cases.{else-lt, if-lt}
 use Rattle.formed.specs.Formed.{nextOk}
 use Rattle.formed.proofs.next_ok.Statement.{statement}
 use Rattle.formed.proofs.next_ok.Tie as tie

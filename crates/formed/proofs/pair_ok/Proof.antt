@@ -1,6 +1,6 @@
 -- The definition goes by the test that the code makes, and `all_are` answers the rest.
 use mathlib.Core.Path.{refl}
-use Rattle.wire.specs.Cases.{else-eq, if-eq}
+use Rattle.wire.specs.laws.Cases.{else-eq, if-eq}
 use Rattle.formed.specs.Formed.{pairOk}
 use borrow.Author.Needs.{needs}
 use Rattle.formed.proofs.pair_ok.Statement.{statement}

@@ -1,6 +1,6 @@
 -- The definition goes by the tests that the code makes.
 use mathlib.Core.Path.{refl}
-use Rattle.wire.specs.Cases.{else-eq, if-eq}
+use Rattle.wire.specs.laws.Cases.{else-eq, if-eq}
 use Rattle.formed.specs.Formed.{reasonOk}
 use Rattle.formed.proofs.reason_ok.Statement.{statement}
 use Rattle.formed.proofs.reason_ok.Tie as tie

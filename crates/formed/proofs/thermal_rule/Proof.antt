@@ -1,6 +1,6 @@
 -- The definition goes by the tests that the code makes, one FRU type after the other.
 use mathlib.Core.Path.{refl}
-use Rattle.wire.specs.Cases.{else-lt, if-lt}
+use Rattle.wire.specs.laws.Cases.{else-lt, if-lt}
 use Rattle.formed.specs.Formed.{thermalRule}
 use borrow.Author.Needs.{needs}
 use Rattle.formed.proofs.thermal_rule.Statement.{statement}

@@ -1,5 +1,5 @@
 -- The definition goes by the tests that the code makes.
-use Rattle.wire.specs.Cases.{if-not, else-not}
+use Rattle.wire.specs.laws.Cases.{if-not, else-not}
 use mathlib.Core.Path.{refl}
 use Rattle.formed.specs.Formed.{unresetOk}
 use borrow.Author.Needs.{needs}

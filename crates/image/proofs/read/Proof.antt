@@ -1,4 +1,4 @@
-use Rattle.wire.specs.Cases.{if-lt, else-lt}
+use Rattle.wire.specs.laws.Cases.{if-lt, else-lt}
 use Rattle.image.specs.Image.{sessionOf, readFrom}
 use borrow.Author.Needs.{needs}
 use Rattle.image.proofs.read.Statement.{statement}

@@ -1,6 +1,6 @@
 use Rattle.image.proofs.Fields.{filled, length-session, session-put}
 use mathlib.Core.Path.{_≡_, refl}
-use Rattle.wire.specs.Cases.{if-lt, else-lt}
+use Rattle.wire.specs.laws.Cases.{if-lt, else-lt}
 use Rattle.image.specs.Image.{writtenTo}
 use native.Mathlib.Omega.{arith}
 use lib.ListN.{length}

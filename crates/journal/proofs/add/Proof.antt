@@ -1,6 +1,6 @@
 use Rattle.journal.specs.declared.End.the-variants.{At}
 use Rattle.journal.proofs.Parts.{tail-pasted, add-room, less-than, at-most}
-use Rattle.wire.specs.Cases.{if-lt, else-lt}
+use Rattle.wire.specs.laws.Cases.{if-lt, else-lt}
 use Rattle.journal.specs.Add.{endOf, addedTo}
 use mathlib.Core.Path.{refl, ap}
 use Prim.Native.Nat.{ℕ, _+_}

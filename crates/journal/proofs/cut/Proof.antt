@@ -1,5 +1,5 @@
 use Rattle.journal.proofs.Parts.{part-zeroed}
-use Rattle.wire.specs.Cases.{if-lt, else-lt}
+use Rattle.wire.specs.laws.Cases.{if-lt, else-lt}
 use Rattle.journal.specs.Add.{cutFrom}
 use mathlib.Core.Path.{refl}
 use borrow.Author.Needs.{needs}

@@ -1,7 +1,7 @@
 use Rattle.record.specs.declared.Caps.{Caps}
 use Rattle.change.specs.declared.Change.the-variants.{SetCaps, SetUser, SetMask, SetDeadman, SetAreas}
 use Rattle.journal.specs.declared.Found.the-variants.{Good}
-use Rattle.wire.specs.Cases.{else-eq}
+use Rattle.wire.specs.laws.Cases.{else-eq}
 use Rattle.journal.proofs.Parts.{room-for, found-by}
 use Rattle.entries.specs.Entries.{bodyLen}
 use Rattle.journal.specs.Read.{foundFor}

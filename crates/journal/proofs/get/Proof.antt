@@ -1,5 +1,5 @@
 use Rattle.journal.proofs.Parts.{get-room, got-by}
-use Rattle.wire.specs.Cases.{if-eq, else-eq, if-ne, else-ne}
+use Rattle.wire.specs.laws.Cases.{if-eq, else-eq, if-ne, else-ne}
 use Rattle.journal.specs.Read.{gotFor, gotOf}
 use mathlib.Core.Path.{sym, _∙_}
 use borrow.Author.Needs.{needs}

@@ -1,6 +1,6 @@
 use Rattle.entries.specs.Entries.{bodyLen}
 use Rattle.journal.proofs.Parts.{room-for}
-use Rattle.wire.specs.Cases.{if-eq, else-eq}
+use Rattle.wire.specs.laws.Cases.{if-eq, else-eq}
 use Rattle.journal.specs.Read.{tablesIn}
 use borrow.Author.Needs.{needs}
 use Rattle.journal.proofs.tables_in.Statement.{statement}

@@ -1,5 +1,5 @@
 use mathlib.Core.Path.{refl}
-use Rattle.journal.specs.Read.{throttlesIn}
+use Rattle.journal.specs.Read.{throttlesFrom}
 use Rattle.journal.proofs.Parts.{part-copied}
 use lib.ListN.{replicate}
 use borrow.Author.Needs.{needs}
@@ -25,7 +25,7 @@ copy-requires : tie.Need-copy-requires
 copy-requires c κs = search needs
 
 returns : tie.Need-returns
-unfolding throttlesIn
+unfolding throttlesFrom
 returns c = let sets = part-copied (c .before .before .before .before .before .before .args .b .now) (replicate 160 0) _ 3 160 (search needs) refl (c .before .copy .ensures) in
     λ i. record { present = c .before .before .before .before .be16 .ensures i; sets = sets i }
 

@@ -1,7 +1,7 @@
 -- `listing::hex` meets its contract: the two ranges are those of the definition. Assumes nothing.
 use mathlib.Core.Path.{refl}
 use borrow.Author.Needs.{needs}
-use Rattle.wire.specs.Cases.{if-lt, else-lt}
+use Rattle.wire.specs.laws.Cases.{if-lt, else-lt}
 use Rattle.listing.specs.Listing.{hexDigit}
 use Rattle.listing.proofs.hex.Statement.{statement}
 use Rattle.listing.proofs.hex.Tie as tie

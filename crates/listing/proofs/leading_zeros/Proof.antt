@@ -1,7 +1,7 @@
 -- `listing::leading_zeros` meets its contract: the tests are those of the definition, in its order. Assumes nothing.
 use mathlib.Core.Path.{refl}
 use borrow.Author.Needs.{needs}
-use Rattle.wire.specs.Cases.{if-lt, else-lt}
+use Rattle.wire.specs.laws.Cases.{if-lt, else-lt}
 use Rattle.listing.specs.Listing.{leadingZeros}
 use Rattle.listing.proofs.leading_zeros.Statement.{statement}
 use Rattle.listing.proofs.leading_zeros.Tie as tie

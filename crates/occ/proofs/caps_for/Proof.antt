@@ -1,6 +1,6 @@
 -- The definition goes by the tests that the code makes: minimum over maximum, then slave.
 use mathlib.Core.Path.{refl}
-use Rattle.wire.specs.Cases.{else-eq, else-lt, if-eq, if-lt}
+use Rattle.wire.specs.laws.Cases.{else-eq, else-lt, if-eq, if-lt}
 use Rattle.occ.specs.Commands.{capsFor}
 use Rattle.occ.proofs.caps_for.Statement.{statement}
 use Rattle.occ.proofs.caps_for.Tie as tie

@@ -1,6 +1,6 @@
 -- The caps are the three numbers that `be16` reads, judged by `caps_for` after length and version.
 use Rattle.occ.specs.Commands.{capsFor, sentCaps, capsVerdict}
-use Rattle.wire.specs.Cases.{if-ne, else-ne}
+use Rattle.wire.specs.laws.Cases.{if-ne, else-ne}
 use mathlib.Core.Path.{refl, ap, _∙_}
 use borrow.Author.Needs.{needs}
 use Rattle.occ.proofs.caps_format.Statement.{statement}

@@ -1,6 +1,6 @@
 -- The definition goes by the tests that the code makes, at the place that `find` gives.
 use Rattle.occ.specs.Commands.{clearAt, clearVerdict}
-use Rattle.wire.specs.Cases.{if-ne, else-ne, if-le, else-le}
+use Rattle.wire.specs.laws.Cases.{if-ne, else-ne, if-le, else-le}
 use mathlib.Core.Path.{refl, ap, _∙_}
 use Prim.Native.Nat.{ℕ}
 use borrow.Author.Needs.{needs}

@@ -1,6 +1,6 @@
 -- The format chooses by the same numbers in the code and in the definition.
 use Rattle.occ.specs.Judge.{plainly, formatJudged, configureJudged}
-use Rattle.wire.specs.Cases.{if-eq, else-eq}
+use Rattle.wire.specs.laws.Cases.{if-eq, else-eq}
 use Rattle.occ.proofs.Parts.{at-key}
 use mathlib.Core.Path.{ap, _∙_}
 use Prim.Native.Nat.{ℕ}

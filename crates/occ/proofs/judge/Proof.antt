@@ -1,6 +1,6 @@
 -- After the sender the type chooses, by the same numbers in the code and in the definition.
 use Rattle.occ.specs.Judge.{plainly, typeJudged, judgeOf}
-use Rattle.wire.specs.Cases.{else-eq, if-not, else-not}
+use Rattle.wire.specs.laws.Cases.{else-eq, if-not, else-not}
 use Rattle.occ.proofs.Parts.{at-key}
 use mathlib.Core.Path.{ap, _∙_}
 use Prim.Native.Nat.{ℕ}

@@ -1,6 +1,6 @@
 -- The definition goes by the reason, as the code does.
 use mathlib.Core.Path.{refl}
-use Rattle.wire.specs.Cases.{else-eq, if-eq}
+use Rattle.wire.specs.laws.Cases.{else-eq, if-eq}
 use Rattle.occ.specs.Commands.{logDue}
 use Rattle.occ.proofs.log_due.Statement.{statement}
 use Rattle.occ.proofs.log_due.Tie as tie

@@ -1,6 +1,6 @@
 -- The definition goes by the state, as the code does.
 use mathlib.Core.Path.{refl}
-use Rattle.wire.specs.Cases.{else-eq, if-eq}
+use Rattle.wire.specs.laws.Cases.{else-eq, if-eq}
 use Rattle.occ.specs.Commands.{notReady}
 use Rattle.occ.proofs.not_ready.Statement.{statement}
 use Rattle.occ.proofs.not_ready.Tie as tie

@@ -1,6 +1,6 @@
 -- The definition goes by the tests that the code makes: sender, then type.
 use mathlib.Core.Path.{refl}
-use Rattle.wire.specs.Cases.{else-eq, else-ne, if-eq, if-ne}
+use Rattle.wire.specs.laws.Cases.{else-eq, else-ne, if-eq, if-ne}
 use Rattle.occ.specs.Judge.{openTo}
 use Rattle.occ.proofs.open_to.Statement.{statement}
 use Rattle.occ.proofs.open_to.Tie as tie

@@ -1,6 +1,6 @@
 -- The definition goes by the tests that the code makes: length, then version.
 use mathlib.Core.Path.{refl}
-use Rattle.wire.specs.Cases.{else-ne, if-ne}
+use Rattle.wire.specs.laws.Cases.{else-ne, if-ne}
 use Rattle.occ.specs.Commands.{pollVerdict}
 use borrow.Author.Needs.{needs}
 use Rattle.occ.proofs.poll.Statement.{statement}

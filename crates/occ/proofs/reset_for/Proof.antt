@@ -1,6 +1,6 @@
 -- The definition asks whether a log is due, then for a place and an id, as the code does.
 use Rattle.occ.specs.Commands.{resetFor}
-use Rattle.wire.specs.Cases.{if-le, else-le, if-not, else-not}
+use Rattle.wire.specs.laws.Cases.{if-le, else-le, if-not, else-not}
 use mathlib.Core.Path.{refl, subst}
 use Prim.Native.Nat.{ℕ, _≤_, _<_}
 use borrow.Author.Needs.{needs}

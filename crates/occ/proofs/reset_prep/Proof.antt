@@ -1,6 +1,6 @@
 -- The definition goes by length, version and reason, and then by what `reset_for` gives.
 use mathlib.Core.Path.{refl}
-use Rattle.wire.specs.Cases.{else-lt, else-ne, if-lt, if-ne}
+use Rattle.wire.specs.laws.Cases.{else-lt, else-ne, if-lt, if-ne}
 use Rattle.occ.specs.Commands.{resetVerdict}
 use borrow.Author.Needs.{needs}
 use Rattle.occ.proofs.reset_prep.Statement.{statement}

@@ -1,6 +1,6 @@
 -- The definition goes by the tests that the code makes: length, role, standby.
 use mathlib.Core.Path.{refl}
-use Rattle.wire.specs.Cases.{else-lt, else-ne, if-lt, if-ne}
+use Rattle.wire.specs.laws.Cases.{else-lt, else-ne, if-lt, if-ne}
 use Rattle.occ.specs.Commands.{roleVerdict}
 use borrow.Author.Needs.{needs}
 use Rattle.occ.proofs.role_format.Statement.{statement}

@@ -1,6 +1,6 @@
 -- The definition asks for length, fitting bytes and readiness, in the order of the code.
 use Rattle.occ.specs.Commands.{stateVerdict}
-use Rattle.wire.specs.Cases.{if-ne, else-ne, if-b, else-b, if-not, else-not}
+use Rattle.wire.specs.laws.Cases.{if-ne, else-ne, if-b, else-b, if-not, else-not}
 use mathlib.Core.Path.{refl, sym, _∙_}
 use borrow.Author.Needs.{needs}
 use Rattle.occ.proofs.set_state.Statement.{statement}

@@ -1,6 +1,6 @@
 -- The definition goes by the tests that the code makes.
 use Rattle.occ.specs.Judge.{setsStatus, countStatus}
-use Rattle.wire.specs.Cases.{if-lt, else-lt, if-ne, else-ne, if-eq, else-eq}
+use Rattle.wire.specs.laws.Cases.{if-lt, else-lt, if-ne, else-ne, if-eq, else-eq}
 use mathlib.Core.Path.{refl}
 use Prim.Native.Nat.{_≤_}
 use native.Mathlib.Nat.{mul-le-mul}

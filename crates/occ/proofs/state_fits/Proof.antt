@@ -1,6 +1,6 @@
 -- The definition goes by the tests that the code makes: version, state, last byte.
 use mathlib.Core.Path.{refl}
-use Rattle.wire.specs.Cases.{else-lt, else-ne, if-lt, if-ne}
+use Rattle.wire.specs.laws.Cases.{else-lt, else-ne, if-lt, if-ne}
 use Rattle.occ.specs.Commands.{stateFits}
 use Rattle.occ.proofs.state_fits.Statement.{statement}
 use Rattle.occ.proofs.state_fits.Tie as tie

@@ -6,7 +6,7 @@ use Rattle.sets.specs.declared.Frus.{Frus}
 use Rattle.sets.specs.Sets.{emptyFrus, frusOf}
 use Rattle.occ.specs.Judge.{thermalJudged, thermalFor, frusJudged}
 use Rattle.occ.proofs.Parts.{of-rest, length-rest, counted-sets}
-use Rattle.wire.specs.Cases.{if-ne, else-ne, if-not, else-not}
+use Rattle.wire.specs.laws.Cases.{if-ne, else-ne, if-not, else-not}
 use Prim.Native.Nat.{ℕ}
 use mathlib.Core.Path.{ap, _∙_}
 use native.Mathlib.Omega.{arith}

@@ -5,7 +5,7 @@ use Rattle.sets.specs.declared.Sets.{Sets}
 use Rattle.sets.specs.Sets.{emptySets, setsOf}
 use Rattle.occ.specs.Judge.{throttlesJudged, throttlesFor, setsJudged}
 use Rattle.occ.proofs.Parts.{of-rest, length-rest, counted-sets}
-use Rattle.wire.specs.Cases.{if-ne, else-ne, if-not, else-not}
+use Rattle.wire.specs.laws.Cases.{if-ne, else-ne, if-not, else-not}
 use Prim.Native.Nat.{ℕ}
 use mathlib.Core.Path.{ap, _∙_}
 use native.Mathlib.Omega.{arith}

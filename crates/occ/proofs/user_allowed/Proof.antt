@@ -1,6 +1,6 @@
 -- The definition goes by the tests that the code makes: 0, caps received, minimum, maximum.
 use mathlib.Core.Path.{refl}
-use Rattle.wire.specs.Cases.{else-eq, else-lt, if-eq, if-lt}
+use Rattle.wire.specs.laws.Cases.{else-eq, else-lt, if-eq, if-lt}
 use Rattle.occ.specs.Commands.{userAllowed}
 use Rattle.occ.proofs.user_allowed.Statement.{statement}
 use Rattle.occ.proofs.user_allowed.Tie as tie

@@ -1,6 +1,6 @@
 -- The value is the number that `be16` reads, judged by `user_for` after the length.
 use Rattle.occ.specs.Commands.{userFor, userVerdict}
-use Rattle.wire.specs.Cases.{if-ne, else-ne}
+use Rattle.wire.specs.laws.Cases.{if-ne, else-ne}
 use mathlib.Core.Path.{refl, ap, _∙_}
 use Prim.Native.Nat.{ℕ}
 use borrow.Author.Needs.{needs}

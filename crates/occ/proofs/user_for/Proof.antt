@@ -1,6 +1,6 @@
 -- The definition asks whether the value is allowed, then for a slave, as the code does.
 use Rattle.occ.specs.Commands.{userFor}
-use Rattle.wire.specs.Cases.{if-eq, else-eq, if-not, else-not}
+use Rattle.wire.specs.laws.Cases.{if-eq, else-eq, if-not, else-not}
 use mathlib.Core.Path.{refl}
 use borrow.Author.Needs.{needs}
 use Rattle.occ.proofs.user_for.Statement.{statement}

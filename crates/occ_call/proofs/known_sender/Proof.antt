@@ -1,5 +1,5 @@
 use mathlib.Core.Path.{refl}
-use Rattle.wire.specs.Cases.{else-eq, if-eq}
+use Rattle.wire.specs.laws.Cases.{else-eq, if-eq}
 use Rattle.occ_call.specs.Occ.{knownSender}
 use Rattle.occ_call.proofs.known_sender.Statement.{statement}
 use Rattle.occ_call.proofs.known_sender.Tie as tie

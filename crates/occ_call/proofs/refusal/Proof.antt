@@ -1,5 +1,5 @@
 use Rattle.occ_call.specs.Occ.{refusalOf}
-use Rattle.wire.specs.Cases.{else-b, else-lt, if-b, if-lt}
+use Rattle.wire.specs.laws.Cases.{else-b, else-lt, if-b, if-lt}
 use mathlib.Core.Bool.{not}
 use mathlib.Core.Path.{refl, sym, ap, _∙_}
 use borrow.Author.Needs.{needs}

@@ -1,6 +1,6 @@
 -- `orders::is_remark` meets its contract: its tests are those of the definition, in its order. Assumes nothing.
 use mathlib.Core.Path.{refl}
-use Rattle.wire.specs.Cases.{else-le, if-le}
+use Rattle.wire.specs.laws.Cases.{else-le, if-le}
 use Rattle.orders.specs.Orders.{remark}
 use borrow.Author.Needs.{needs}
 use Rattle.orders.proofs.is_remark.Statement.{statement}

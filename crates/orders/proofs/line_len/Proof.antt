@@ -1,6 +1,6 @@
 -- `orders::line_len` meets its contract: its tests are those of the definition. Assumes nothing.
 use mathlib.Core.Path.{refl, sym}
-use Rattle.wire.specs.Cases.{if-eq, else-eq}
+use Rattle.wire.specs.laws.Cases.{if-eq, else-eq}
 use Rattle.orders.specs.Orders.{lineLength}
 use lib.Seq.{length-take-le}
 use native.Mathlib.Omega.{arith}

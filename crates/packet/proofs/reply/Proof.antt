@@ -2,7 +2,7 @@
 use lib.Seq.{length-take-le}
 use mathlib.Core.Path.{refl, sym}
 use Rattle.packet.specs.Packet.{replied}
-use Rattle.wire.specs.Cases.{if-lt, else-lt}
+use Rattle.wire.specs.laws.Cases.{if-lt, else-lt}
 use Rattle.packet.proofs.Written.{reply-put}
 use native.Mathlib.Omega.{arith}
 use borrow.Author.Needs.{needs}

@@ -1,6 +1,6 @@
 -- `log_length` meets its contract: its test is that of `logLength`.
 use mathlib.Core.Path.{refl}
-use Rattle.wire.specs.Cases.{else-eq, if-eq}
+use Rattle.wire.specs.laws.Cases.{else-eq, if-eq}
 use Rattle.poll.specs.Poll.{logLength}
 use Rattle.poll.proofs.log_length.Statement.{statement}
 use Rattle.poll.proofs.log_length.Tie as tie

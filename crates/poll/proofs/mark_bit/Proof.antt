@@ -1,7 +1,7 @@
 -- `mark_bit` meets its contract: its test is that of `markBit`.
 use mathlib.Core.Path.{refl}
 use native.Mathlib.Omega.{arith}
-use Rattle.wire.specs.Cases.{else-eq, if-eq}
+use Rattle.wire.specs.laws.Cases.{else-eq, if-eq}
 use Rattle.poll.specs.Poll.{markBit}
 use Rattle.poll.proofs.mark_bit.Statement.{statement}
 use Rattle.poll.proofs.mark_bit.Tie as tie

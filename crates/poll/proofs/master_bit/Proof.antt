@@ -1,7 +1,7 @@
 -- `master_bit` meets its contract: its test is that of `masterBit`.
 use mathlib.Core.Path.{refl}
 use native.Mathlib.Omega.{arith}
-use Rattle.wire.specs.Cases.{else-eq, if-eq}
+use Rattle.wire.specs.laws.Cases.{else-eq, if-eq}
 use Rattle.poll.specs.Poll.{masterBit}
 use Rattle.poll.proofs.master_bit.Statement.{statement}
 use Rattle.poll.proofs.master_bit.Tie as tie

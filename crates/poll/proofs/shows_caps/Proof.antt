@@ -1,6 +1,6 @@
 -- `shows_caps` meets its contract: its tests are those of `showsCaps`.
 use mathlib.Core.Path.{refl}
-use Rattle.wire.specs.Cases.{else-ne, if-ne}
+use Rattle.wire.specs.laws.Cases.{else-ne, if-ne}
 use Rattle.poll.specs.Poll.{showsCaps}
 use Rattle.poll.proofs.shows_caps.Statement.{statement}
 use Rattle.poll.proofs.shows_caps.Tie as tie

@@ -1,5 +1,5 @@
 use mathlib.Core.Path.{refl, sym, _∙_}
-use Rattle.wire.specs.Cases.{else-b, if-b}
+use Rattle.wire.specs.laws.Cases.{else-b, if-b}
 use Rattle.record.specs.Record.{activeReady}
 use borrow.Author.Needs.{needs}
 use Rattle.record.proofs.active_ready.Statement.{statement}

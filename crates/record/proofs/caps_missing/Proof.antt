@@ -1,5 +1,5 @@
 use mathlib.Core.Path.{refl}
-use Rattle.wire.specs.Cases.{else-eq, if-eq}
+use Rattle.wire.specs.laws.Cases.{else-eq, if-eq}
 use Rattle.record.specs.Record.{capsMissing}
 use Rattle.record.proofs.caps_missing.Statement.{statement}
 use Rattle.record.proofs.caps_missing.Tie as tie

@@ -1,5 +1,5 @@
 use mathlib.Core.Path.{refl}
-use Rattle.wire.specs.Cases.{else-b, if-b}
+use Rattle.wire.specs.laws.Cases.{else-b, if-b}
 use Rattle.record.specs.Record.{flagOf}
 use Rattle.record.proofs.flag.Statement.{statement}
 use Rattle.record.proofs.flag.Tie as tie

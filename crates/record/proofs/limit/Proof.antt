@@ -1,5 +1,5 @@
 use mathlib.Core.Path.{refl}
-use Rattle.wire.specs.Cases.{else-eq, else-lt, if-eq, if-lt}
+use Rattle.wire.specs.laws.Cases.{else-eq, else-lt, if-eq, if-lt}
 use Rattle.record.specs.Record.{limitOf, clamped}
 use Rattle.record.proofs.limit.Statement.{statement}
 use Rattle.record.proofs.limit.Tie as tie

@@ -1,5 +1,5 @@
 use mathlib.Core.Path.{refl}
-use Rattle.wire.specs.Cases.{else-eq, if-eq}
+use Rattle.wire.specs.laws.Cases.{else-eq, if-eq}
 use Rattle.record.specs.Record.{observationReady}
 use Rattle.record.proofs.observation_ready.Statement.{statement}
 use Rattle.record.proofs.observation_ready.Tie as tie

@@ -1,5 +1,5 @@
 use mathlib.Core.Path.{refl, sym, _∙_}
-use Rattle.wire.specs.Cases.{else-b, else-eq, if-b, if-eq}
+use Rattle.wire.specs.laws.Cases.{else-b, else-eq, if-b, if-eq}
 use Rattle.record.specs.Record.{wantedOf}
 use borrow.Author.Needs.{needs}
 use Rattle.record.proofs.wanted.Statement.{statement}

@@ -1,7 +1,7 @@
 -- The definition goes by the test that the code makes.
 use mathlib.Core.Path.{refl}
 use Rattle.sbe.specs.Mailbox.{areaOf}
-use Rattle.wire.specs.Cases.{if-eq, else-eq}
+use Rattle.wire.specs.laws.Cases.{if-eq, else-eq}
 use Rattle.sbe.proofs.area.Statement.{statement}
 use Rattle.sbe.proofs.area.Tie as tie
 

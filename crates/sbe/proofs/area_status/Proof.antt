@@ -1,7 +1,7 @@
 -- The definition goes by the tests that the code makes, in the order of D7 04.
 use mathlib.Core.Path.{refl}
 use Rattle.sbe.specs.Mailbox.{areaStatus}
-use Rattle.wire.specs.Cases.{if-eq, else-eq, if-not, else-not}
+use Rattle.wire.specs.laws.Cases.{if-eq, else-eq, if-not, else-not}
 use borrow.Author.Needs.{needs}
 use Rattle.sbe.proofs.area_status.Statement.{statement}
 use Rattle.sbe.proofs.area_status.Tie as tie

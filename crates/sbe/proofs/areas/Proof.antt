@@ -1,5 +1,5 @@
 -- The numbers read are the request's; the FFDC area is judged first, then the other.
-use Rattle.wire.specs.Cases.{if-not, else-not}
+use Rattle.wire.specs.laws.Cases.{if-not, else-not}
 use mathlib.Core.Path.{refl}
 use Rattle.sbe.specs.Mailbox.{areasOf}
 use Rattle.sbe.proofs.Requests.{plain-read, areas-read, first-refused, second-refused, areas-made}

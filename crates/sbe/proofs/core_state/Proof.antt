@@ -2,7 +2,7 @@
 use mathlib.Core.Logic.{⊎-elim}
 use mathlib.Core.Path.{refl}
 use Rattle.sbe.specs.Mailbox.{coreState}
-use Rattle.wire.specs.Cases.{else-eq}
+use Rattle.wire.specs.laws.Cases.{else-eq}
 use Rattle.sbe.proofs.Requests.{by-key}
 use Prim.Native.Nat.{ℕ}
 use borrow.Author.Needs.{needs}

@@ -1,5 +1,5 @@
 -- The flags read are the request's, and plain_flags judges them; the mask is the word read.
-use Rattle.wire.specs.Cases.{if-not, else-not}
+use Rattle.wire.specs.laws.Cases.{if-not, else-not}
 use Rattle.change.specs.declared.Change.the-variants.{SetMask}
 use Rattle.sbe.specs.declared.Verdict.the-variants.{Make}
 use mathlib.Core.Path.{refl, ap}

@@ -3,7 +3,7 @@ use Rattle.change.specs.declared.Change.the-variants.{SetDeadman}
 use Rattle.sbe.specs.declared.Verdict.the-variants.{Make}
 use mathlib.Core.Path.{refl, ap}
 use Rattle.sbe.specs.Mailbox.{registerAt, deadmanAt}
-use Rattle.wire.specs.Cases.{else-eq}
+use Rattle.wire.specs.laws.Cases.{else-eq}
 use Rattle.sbe.proofs.Requests.{deadman-refused, deadman-asked}
 use Prim.Native.Nat.{ℕ}
 use borrow.Author.Needs.{needs}

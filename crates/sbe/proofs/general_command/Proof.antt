@@ -1,7 +1,7 @@
 -- The match is on the number that the definition tests; any other command is refused.
 use mathlib.Core.Path.{refl}
 use Rattle.sbe.specs.Mailbox.{general}
-use Rattle.wire.specs.Cases.{else-eq}
+use Rattle.wire.specs.laws.Cases.{else-eq}
 use Rattle.sbe.proofs.Requests.{by-key}
 use Prim.Native.Nat.{ℕ}
 use borrow.Author.Needs.{needs}

@@ -1,7 +1,7 @@
 -- The definition goes by the tests that the code makes.
 use mathlib.Core.Path.{refl}
 use Rattle.sbe.specs.Mailbox.{plainFlags}
-use Rattle.wire.specs.Cases.{if-le, else-le}
+use Rattle.wire.specs.laws.Cases.{if-le, else-le}
 use Rattle.sbe.proofs.plain_flags.Statement.{statement}
 use Rattle.sbe.proofs.plain_flags.Tie as tie
 

@@ -1,5 +1,5 @@
 use Rattle.sbe_call.specs.Sbe.{refusalOf}
-use Rattle.wire.specs.Cases.{else-b, else-lt, if-b, if-lt}
+use Rattle.wire.specs.laws.Cases.{else-b, else-lt, if-b, if-lt}
 use mathlib.Core.Path.{refl}
 use Rattle.sbe_call.proofs.refusal.Statement.{statement}
 use Rattle.sbe_call.proofs.refusal.Tie as tie

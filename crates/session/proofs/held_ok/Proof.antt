@@ -1,7 +1,7 @@
 use Rattle.record.specs.declared.Worked.{Worked}
 use mathlib.Core.Path.{refl, sym, ap, _∙_}
 use mathlib.Core.Bool.{not}
-use Rattle.wire.specs.Cases.{else-b, if-b}
+use Rattle.wire.specs.laws.Cases.{else-b, if-b}
 use Rattle.session.specs.Session.{heldOk, workedFits}
 use borrow.Author.Needs.{needs}
 use Rattle.session.proofs.held_ok.Statement.{statement}

@@ -1,9 +1,9 @@
 use Rattle.wire.specs.Wire.{allAre}
-use Rattle.wire.specs.Laws.{tail-part}
+use Rattle.wire.specs.laws.Wire.{tail-part}
 use lib.Seq.{length-take-le}
 use mathlib.Core.Path.{refl, sym, ap, _∙_}
 use mathlib.Core.Bool.{not}
-use Rattle.wire.specs.Cases.{else-b, else-lt, if-b, if-lt}
+use Rattle.wire.specs.laws.Cases.{else-b, else-lt, if-b, if-lt}
 use Rattle.session.specs.Session.{storeOk}
 use borrow.Author.Needs.{needs}
 use Rattle.session.proofs.store_ok.Statement.{statement}

@@ -1,6 +1,6 @@
 use mathlib.Core.Path.{refl, sym, ap, _∙_}
 use mathlib.Core.Bool.{not}
-use Rattle.wire.specs.Cases.{else-b, if-b}
+use Rattle.wire.specs.laws.Cases.{else-b, if-b}
 use Rattle.session.specs.Session.{wellFormed}
 use borrow.Author.Needs.{needs}
 use Rattle.session.proofs.well_formed.Statement.{statement}

@@ -1,5 +1,5 @@
 use mathlib.Core.Path.{refl}
-use Rattle.wire.specs.Cases.{else-ne, if-ne}
+use Rattle.wire.specs.laws.Cases.{else-ne, if-ne}
 use Rattle.session.specs.Session.{workedFits}
 use Rattle.session.proofs.worked_fits.Statement.{statement}
 use Rattle.session.proofs.worked_fits.Tie as tie

@@ -2,7 +2,7 @@
 use mathlib.Core.Path.{refl}
 use native.Mathlib.Omega.{arith}
 use borrow.Author.Needs.{needs}
-use Rattle.wire.specs.Cases.{else-b, else-lt, if-b, if-lt}
+use Rattle.wire.specs.laws.Cases.{else-b, else-lt, if-b, if-lt}
 use Rattle.sets.specs.Sets.{oneFru}
 use Rattle.sets.proofs.Stored.{fru-below, bit-clear, if-bit, else-bit}
 use Rattle.sets.proofs.Powers.{power-positive}

@@ -1,7 +1,7 @@
 -- `one_set` meets its contract: its tests are those of `oneSet`, in that order.
 use mathlib.Core.Path.{refl}
 use borrow.Author.Needs.{needs}
-use Rattle.wire.specs.Cases.{else-b, else-lt, if-b, if-lt}
+use Rattle.wire.specs.laws.Cases.{else-b, else-lt, if-b, if-lt}
 use Rattle.sets.specs.Sets.{oneSet}
 use Rattle.sets.proofs.Stored.{pair-below, bit-clear, if-bit, else-bit}
 use Rattle.sets.proofs.Powers.{power-positive}

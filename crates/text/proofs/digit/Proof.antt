@@ -1,6 +1,6 @@
 -- `text::digit` meets its contract: the tests are those of the definition, in its order. Assumes nothing.
 use mathlib.Core.Path.{refl}
-use Rattle.wire.specs.Cases.{else-le, else-lt, if-le, if-lt}
+use Rattle.wire.specs.laws.Cases.{else-le, else-lt, if-le, if-lt}
 use Rattle.text.specs.Text.{digitOf}
 use borrow.Author.Needs.{needs}
 use Rattle.text.proofs.digit.Statement.{statement}

@@ -1,6 +1,6 @@
 -- `text::digit_at` meets its contract: the tests are those of the definition, in its order. Assumes nothing.
 use mathlib.Core.Path.{refl}
-use Rattle.wire.specs.Cases.{else-lt, if-lt}
+use Rattle.wire.specs.laws.Cases.{else-lt, if-lt}
 use Rattle.text.specs.Text.{digitAt}
 use borrow.Author.Needs.{needs}
 use Rattle.text.proofs.digit_at.Statement.{statement}

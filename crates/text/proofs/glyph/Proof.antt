@@ -1,6 +1,6 @@
 -- `text::glyph` meets its contract: the test is that of the definition. Assumes nothing.
 use Rattle.text.specs.Text.{hexDigit}
-use Rattle.wire.specs.Cases.{if-lt, else-lt}
+use Rattle.wire.specs.laws.Cases.{if-lt, else-lt}
 use mathlib.Core.Path.{refl}
 use borrow.Author.Needs.{needs}
 use Rattle.text.proofs.glyph.Statement.{statement}

@@ -1,6 +1,6 @@
 -- `text::is_blank` meets its contract: the tests are those of the definition, in its order. Assumes nothing.
 use mathlib.Core.Path.{refl}
-use Rattle.wire.specs.Cases.{else-eq, if-eq}
+use Rattle.wire.specs.laws.Cases.{else-eq, if-eq}
 use Rattle.text.specs.Text.{blank}
 use Rattle.text.proofs.is_blank.Statement.{statement}
 use Rattle.text.proofs.is_blank.Tie as tie

@@ -1,5 +1,5 @@
 -- `text::past_blanks` meets its contract: what stands before the place and what is counted from it on are the whole. Assumes nothing.
-use Rattle.wire.specs.Cases.{if-lt, else-lt}
+use Rattle.wire.specs.laws.Cases.{if-lt, else-lt}
 use Rattle.text.specs.Text.{blank, leading, pastBlanks}
 use Rattle.text.proofs.Turns.{not-true, not-false, leading-more, leading-stop, leading-end}
 use Prim.Native.Nat.{_≤_, _+_, _-_}

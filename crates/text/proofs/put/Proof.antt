@@ -1,7 +1,7 @@
 -- `text::put` meets its contract: the tests are those of the definition, in its order. Assumes nothing.
 use Rattle.text.proofs.Turns.{put-fits}
 use Rattle.text.specs.Text.{putOn}
-use Rattle.wire.specs.Cases.{if-lt, else-lt}
+use Rattle.wire.specs.laws.Cases.{if-lt, else-lt}
 use mathlib.Core.Path.{refl, sym}
 use lib.Seq.{length-take-le}
 use native.Mathlib.Omega.{arith}

@@ -1,7 +1,7 @@
 use mathlib.Core.Path.{sym, ap, _∙_}
 use Rattle.undo_call.specs.Undo.{undoCall, undoneRead}
 use Rattle.undo_call.proofs.Taking.{not-whole, whole-at, used-fits, newest-fits, entry-bad, entry-good}
-use Rattle.wire.specs.Cases.{if-b, else-b, if-eq, else-eq}
+use Rattle.wire.specs.laws.Cases.{if-b, else-b, if-eq, else-eq}
 use mathlib.Core.Bool.{not}
 use mathlib.Core.Logic.{⊎-elim}
 use borrow.Author.Tests.{not-false}

@@ -1,0 +1,17 @@
+pub mod ByHistory
+pub mod Steps
+pub mod Asked
+pub mod Ids
+pub mod Demand3
+pub mod NoTrace
+pub mod Lent
+pub mod Shifted
+pub mod Judgements
+pub mod Heard
+pub mod AsIf
+pub mod WellFormed
+pub mod Fresh
+pub mod Examples
+pub mod ComputedSession
+pub mod ComputedOcc
+pub mod ComputedSbe

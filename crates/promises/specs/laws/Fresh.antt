@@ -1,0 +1,36 @@
+-- A fresh session starts a history. Assumes nothing.
+use Prim.Native.Nat.{ℕ, _≤_}
+use mathlib.Core.Bool.{true}
+use mathlib.Core.Path.{_≡_, refl}
+use mathlib.Core.List.{[]}
+use native.Mathlib.Omega.{arith}
+use lib.ListN.{replicate}
+use Rattle.record.specs.Record.{freshRecord}
+use Rattle.change.specs.With.{withLogs}
+use Rattle.formed.specs.Formed.{recordOk}
+use Rattle.session.specs.Session.{freshSession}
+use Rattle.links.specs.laws.Typed.{typed-fresh}
+use Rattle.promises.specs.laws.ComputedSession.{computedSession}
+use Rattle.promises.specs.History.{left, logsMade, replay, start}
+use Rattle.promises.specs.Ids.{idsMade, countdown}
+use Rattle.promises.specs.laws.ByHistory.{padded, journalOf, byHistory, Sane}
+use Rattle.promises.specs.laws.Demand3.{Inv}
+use Rattle.promises.specs.laws.Shifted.{no-log}
+use Rattle.promises.specs.Shifted.{shiftedRecord}
+
+fresh-ok : recordOk freshRecord 1 ≡ true
+unfolding computedSession
+fresh-ok = refl
+
+fresh-sane : Sane freshRecord [] 0
+unfolding journalOf replay
+fresh-sane = record { small = omega arith; fits = omega arith; ok = fresh-ok; typed = typed-fresh; kept = tt }
+
+pub fresh-start : Inv freshRecord (start freshSession)
+unfolding computedSession start left logsMade idsMade countdown byHistory padded journalOf replay
+fresh-start = record { is = refl; sane = fresh-sane; ids = refl }
+
+-- a fresh record has no log, so no id in it differs
+pub fresh-still : (k : ℕ) → 1 ≤ k → shiftedRecord k freshRecord ≡ freshRecord
+unfolding computedSession shiftedRecord withLogs
+fresh-still k low = λ i. withLogs freshRecord (replicate 4 (no-log k low i))

@@ -1,0 +1,91 @@
+-- A well-formed session by its parts. Assumes nothing.
+use Prim.Native.Nat.{ℕ, _≤_}
+use mathlib.Core.Bool.{Bool, true, false, cond, not, false≢true, true≢false}
+use mathlib.Core.Path.{_≡_, refl, sym, ap, _∙_}
+use native.Mathlib.Omega.{arith}
+use borrow.Author.Tests.{ltb-false, leb-true, eqb-true, eq-eqb}
+use lib.Dec.{ltb, eqb}
+use lib.ListN.{length, take, drop}
+use Rattle.wire.specs.Wire.{allAre}
+use Rattle.wire.specs.laws.Cases.{else-lt, else-ne}
+use Rattle.record.specs.Record.{workedOf}
+use Rattle.record.specs.declared.Worked.{Worked}
+use Rattle.formed.specs.Formed.{recordOk, nextOk}
+use Rattle.formed.specs.laws.Formed.{both-hold, hold-both, sound}
+use Rattle.journal.specs.Read.{journalOk}
+use Rattle.session.specs.declared.Session.{Session}
+use Rattle.change.specs.Change.{inverseOf}
+use Rattle.change.specs.declared.Edit.{Edit}
+use Rattle.journal.specs.Add.{endOf}
+use Rattle.journal.specs.declared.End.{End}
+use Rattle.journal.specs.declared.End.the-variants.{At, Full}
+use Rattle.session.specs.Session.{workedFits, heldOk, storeOk, wellFormed, withHeld, carriedTo, carriedOf}
+
+-- a first test that must not hold, and the rest
+ltb-hold : (m n : ℕ) (b : Bool) → cond (ltb m n) false b ≡ true → (n ≤ m) × (b ≡ true)
+ltb-hold m n b h = go (ltb m n) refl h
+  where
+    go : (t : Bool) → ltb m n ≡ t → cond t false b ≡ true → (n ≤ m) × (b ≡ true)
+    go true e h = absurd (false≢true h)
+    go false e h = (ltb-false m n e, h)
+
+worked-same : (a b : Worked) → workedFits a b ≡ true → a ≡ b
+unfolding workedFits
+worked-same a b h =
+    let p = both-hold (eqb (a .limit) (b .limit)) _ h in
+    let q = both-hold (eqb (a .observation) (b .observation)) _ (p .1) in
+    let r = both-hold (eqb (a .active) (b .active)) _ (q .1) in
+    let l = eqb-true (a .limit) (b .limit) (p .0) in
+    let o = eqb-true (a .observation) (b .observation) (q .0) in
+    let c = eqb-true (a .active) (b .active) (r .0) in
+    let w = eqb-true (a .wanted) (b .wanted) (r .1) in
+    λ i. record { limit = l i; observation = o i; active = c i; wanted = w i }
+
+pub worked-fits : (a : Worked) → workedFits a a ≡ true
+unfolding workedFits
+worked-fits a =
+    sym (else-ne _ _ {m = a .limit} {n = a .limit} refl
+    (else-ne _ _ {m = a .observation} {n = a .observation} refl
+    (else-ne _ _ {m = a .active} {n = a .active} refl (sym (eq-eqb (a .wanted) (a .wanted) refl)))))
+
+-- what the test for answer 1 says, part by part
+pub record Formed (s : Session) : Type 0 where
+  pub record-ok : recordOk (s .held) (s .next) ≡ true
+  pub worked-is : s .worked ≡ workedOf (s .held)
+  pub fits : s .used ≤ length (s .journal)
+  pub reads : journalOk (take (s .used) (s .journal)) ≡ true
+  pub unused : allAre 0 (drop (s .used) (s .journal)) ≡ true
+
+pub formed : (s : Session) → wellFormed s ≡ true → Formed s
+unfolding wellFormed heldOk storeOk
+formed s h =
+    let p = both-hold (heldOk (s .held) (s .worked) (s .next)) _ h in
+    let q = both-hold (recordOk (s .held) (s .next)) _ (p .0) in
+    let r = ltb-hold (length (s .journal)) (s .used) _ (p .1) in
+    let t = both-hold (journalOk (take (s .used) (s .journal))) _ (r .1) in
+    record { record-ok = q .0; worked-is = sym (worked-same _ _ (q .1)); fits = r .0; reads = t .0; unused = t .1 }
+
+pub formed-ok : (s : Session) → Formed s → wellFormed s ≡ true
+unfolding wellFormed heldOk storeOk
+formed-ok s f =
+    hold-both
+    (hold-both (f .record-ok) (ap (workedFits (workedOf (s .held))) (f .worked-is) ∙ worked-fits (workedOf (s .held))))
+    (sym (else-lt _ _ {m = length (s .journal)} {n = s .used} (f .fits) (sym (hold-both (f .reads) (f .unused)))))
+
+pub formed-next : (s : Session) → wellFormed s ≡ true → s .next ≤ 256
+unfolding nextOk
+formed-next s h = leb-true (s .next) 256 (ltb-hold (s .next) 1 _ (sound (formed s h .record-ok) .next) .1)
+
+-- a refusal that begins with answer 1 is none only of a well-formed session
+pub none-due : (b : Bool) (n : ℕ) → cond (not b) 1 n ≡ 0 → b ≡ true
+none-due true n h = refl
+none-due false n h = let z : ⊥ = omega (arith, h) in absurd z
+
+-- after carrying out, what is worked out is the new record's
+pub carried-worked : (s : Session) (e : Edit) → carriedOf s e .full ≡ false → carriedOf s e .session .worked ≡ workedOf (carriedOf s e .session .held)
+unfolding carriedOf carriedTo withHeld
+carried-worked s e f = go (endOf (length (s .journal)) (s .used) (inverseOf (s .held) e)) f
+  where
+    go : (x : End) → carriedTo s e x .full ≡ false → carriedTo s e x .session .worked ≡ workedOf (carriedTo s e x .session .held)
+    go (At used) f = refl
+    go Full f = absurd (true≢false f)

@@ -1,0 +1,39 @@
+-- Document 01, formats 0x12 and 0x13: the conditions on the sets that follow the count.
+use Prim.Native.Nat.{ℕ, zero, suc, _+_, _*_, _<_, _≤_}
+use mathlib.Core.Path.{_≡_}
+use mathlib.Core.List.{List}
+use lib.ListN.{getD, take, drop}
+use Rattle.wire.specs.Conditions.{_and_}
+
+-- the i-th part of w bytes
+unfoldable pub setAt : ℕ → ℕ → List ℕ → List ℕ
+setAt w zero l = take w l
+setAt w (suc i) l = setAt w i (drop w l)
+
+-- each of the first n parts has the property
+abbrev pub Each : ℕ → (List ℕ → Type 0) → ℕ → List ℕ → Type 0
+Each w P n l = (i : ℕ) → i < n → P (setAt w i l)
+
+-- no two of them have the same number
+abbrev pub NoneTwice : ℕ → (List ℕ → ℕ) → ℕ → List ℕ → Type 0
+NoneTwice w number n l = (i j : ℕ) → i < j → j < n → number (setAt w i l) ≡ number (setAt w j l) → ⊥
+
+-- "hub 0 to 7, MBA 0 or 1, no pair twice": twelve bytes a set, hub and MBA first
+abbrev pub InPairs : List ℕ → Type 0
+InPairs s = (getD s 0 0 ≤ 7) and (getD s 1 0 ≤ 1)
+
+abbrev pub pairOf : List ℕ → ℕ
+pairOf s = getD s 0 0 * 2 + getD s 1 0
+
+unfoldable pub SetsOk : ℕ → List ℕ → Type 0
+SetsOk n l = Each 12 InPairs n l and NoneTwice 12 pairOf n l
+
+-- "FRU 0 to 2, none twice, DVFS at most ERROR (H)": four bytes a set, FRU, DVFS and ERROR first
+abbrev pub InFrus : List ℕ → Type 0
+InFrus s = (getD s 0 0 ≤ 2) and (getD s 1 0 ≤ getD s 2 0)
+
+abbrev pub fruOf : List ℕ → ℕ
+fruOf s = getD s 0 0
+
+unfoldable pub FrusOk : ℕ → List ℕ → Type 0
+FrusOk n l = Each 4 InFrus n l and NoneTwice 4 fruOf n l

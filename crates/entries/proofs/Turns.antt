@@ -1,18 +1,42 @@
 -- What each turn of `read` keeps, and what it finds where it stops. Assumes nothing.
 use Prim.Native.Nat.{ℕ, suc, _+_, _-_, _≤_, _<_}
+use mathlib.Core.Bool.{Bool, true, false}
 use mathlib.Core.Path.{_≡_, refl, sym, ap, _∙_}
 use mathlib.Core.List.{List, [], _∷_}
 use native.Mathlib.Numerals.{add-one}
 use native.Mathlib.Omega.{arith}
+use borrow.Author.Tests.{leb-true, leb-false}
+use lib.Dec.{leb}
 use lib.ListN.{length, getD, List·getD-eq-default}
 use Rattle.entries.specs.declared.Reading.the-variants.{Whole, Unknown, Cut}
 use Rattle.entries.specs.Entries.{Entry, bodyLengths, bodyLen, scan, newestAt, readingOf}
 use Rattle.entries.specs.laws.Entries.{count-written, newest-written}
 use Rattle.entries.specs.laws.Places.{Place, first-place, place-written, scan-end, scan-unknown, scan-cut, entryAt, next-place}
 
-pub no-such-kind : (k : ℕ) → 12 ≤ k → 0 ≡ bodyLen k
+past-the-table : (k : ℕ) → 12 ≤ k → 0 ≡ bodyLen k
 unfolding bodyLen
-no-such-kind k h = sym (List·getD-eq-default bodyLengths 0 h)
+past-the-table k h = sym (List·getD-eq-default bodyLengths 0 h)
+
+kind-zero : (k : ℕ) → k ≡ 0 → 0 ≡ bodyLen k
+unfolding bodyLen
+kind-zero k e = sym (ap bodyLen e)
+
+lt-one : (k : ℕ) → k < 1 → k ≡ 0
+lt-one k h = omega arith
+
+less : (n k : ℕ) → (k ≡ n → ⊥) → k < suc n → k < n
+less n k h l = omega arith
+
+pub no-other-kind : (k : ℕ) → (k ≡ 1 → ⊥) → (k ≡ 2 → ⊥) → (k ≡ 3 → ⊥) → (k ≡ 4 → ⊥) → (k ≡ 5 → ⊥) → (k ≡ 6 → ⊥) → (k ≡ 7 → ⊥) → (k ≡ 8 → ⊥) → (k ≡ 9 → ⊥)
+    → (k ≡ 10 → ⊥) → (k ≡ 11 → ⊥) → 0 ≡ bodyLen k
+no-other-kind k n1 n2 n3 n4 n5 n6 n7 n8 n9 n10 n11 = go (leb 12 k) refl
+  where
+    none : k < 12 → k < 1
+    none h = less 1 k n1 (less 2 k n2 (less 3 k n3 (less 4 k n4 (less 5 k n5 (less 6 k n6 (less 7 k n7 (less 8 k n8 (less 9 k n9 (less 10 k n10 (less 11 k n11 h))))))))))
+
+    go : (t : Bool) → leb 12 k ≡ t → 0 ≡ bodyLen k
+    go true h = past-the-table k (leb-true 12 k h)
+    go false h = kind-zero k (lt-one k (none (leb-false 12 k h)))
 
 -- `at` is a place, after `count` entries, the newest of them at `newest`
 pub record Passed (j : List ℕ) (at count newest : ℕ) : Type 0 where

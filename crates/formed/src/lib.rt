@@ -1,9 +1,7 @@
 // When a record is well formed, and which values a change may hold: ones that a well-formed record could.
 ghost use mathlib.Core.Path.{_≡_};
 ghost use lib.ListN.{drop};
-ghost use Rattle.formed.specs.Formed.{stateOk, flagOk, roleOk, capsOk, pairOk, absentZero, throttlesOk, deadmanOk, multipleOf128, inMemory, areaOk, areasOk, thermalRule, thermalOk, reasonOk, logOk, unused, logsOk, nextOk, fieldsOk, recordOk, clearedOk, madeOk, unresetOk, editOk};
-use change::Change;
-use change::Edit;
+ghost use Rattle.formed.specs.Formed.{stateOk, flagOk, roleOk, capsOk, pairOk, absentZero, throttlesOk, deadmanOk, multipleOf128, inMemory, areaOk, areasOk, thermalRule, thermalOk, reasonOk, logOk, unused, logsOk, nextOk, fieldsOk, recordOk, clearedOk, unresetOk};
 use record::Area;
 use record::Areas;
 use record::Caps;
@@ -297,7 +295,7 @@ pub fn record_ok(r: Record, next: u16) -> bool
 
 // ---- the values of a change
 
-fn cleared_ok(place: u8, log: Log) -> bool
+pub fn cleared_ok(place: u8, log: Log) -> bool
     ensures { λ x. ⌜ x ≡ clearedOk place log ⌝ }
 {
     if 3 < place {
@@ -309,45 +307,11 @@ fn cleared_ok(place: u8, log: Log) -> bool
     reason_ok(log.reason)
 }
 
-fn made_ok(log: Log) -> bool
-    ensures { λ x. ⌜ x ≡ madeOk log ⌝ }
-{
-    if log.id == 0 {
-        return log.reason == 0;
-    }
-    reason_ok(log.reason)
-}
-
-fn unreset_ok(state: u8, made: u8) -> bool
+pub fn unreset_ok(state: u8, made: u8) -> bool
     ensures { λ x. ⌜ x ≡ unresetOk state made ⌝ }
 {
     if !state_ok(state) {
         return false;
     }
     flag_ok(made)
-}
-
-// Whether a change's values are ones that a well-formed record could hold.
-pub fn edit_ok(e: Edit) -> bool
-    ensures { λ x. ⌜ x ≡ editOk e ⌝ }
-{
-    let change = e.change;
-    let tables = e.tables;
-    let thermal = tables.thermal;
-    let throttles = tables.throttles;
-    match change {
-        Change::Clear(place, log) => cleared_ok(place, log),
-        Change::Unclear(place, log) => cleared_ok(place, log),
-        Change::SetState(state) => state_ok(state),
-        Change::SetRole(got, role) => role_ok(got, role),
-        Change::SetCaps(got, caps) => caps_ok(got, caps),
-        Change::SetUser(_) => true,
-        Change::SetThermal(got) => thermal_ok(got, thermal),
-        Change::SetThrottles(got) => throttles_ok(got, throttles),
-        Change::Reset(log) => made_ok(log),
-        Change::Unreset(state, made) => unreset_ok(state, made),
-        Change::SetMask(_) => true,
-        Change::SetDeadman(deadman) => deadman_ok(deadman),
-        Change::SetAreas(areas) => areas_ok(areas),
-    }
 }

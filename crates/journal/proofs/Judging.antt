@@ -1,31 +1,18 @@
 -- What each turn of `all_ok` keeps, and what it finds where it stops. Assumes nothing.
 use Prim.Native.Nat.{ℕ, zero, suc, _+_, _-_, _≤_, _<_}
 use mathlib.Core.Bool.{Bool, true, false, not}
-use mathlib.Core.Path.{_≡_, refl, sym, ap, _∙_}
+use mathlib.Core.Path.{_≡_, refl, sym, ap, subst, _∙_}
 use mathlib.Core.List.{List, [], _∷_, _++_}
 use native.Mathlib.Numerals.{add-one}
 use native.Mathlib.Nat.{add-sub-cancel-left}
 use native.Mathlib.Omega.{arith}
 use borrow.Author.Tests.{not-true, not-false}
 use lib.ListN.{length, getD, take, drop, take-append-drop}
-use lib.Seq.{drop-cons}
-use Rattle.wire.specs.laws.Cases.{if-b, else-b, else-eq, else-ne, cond-elim}
-use Rattle.entries.specs.Entries.{Entry, bodyLen, bytesOf, Scan, between, within, unknown, opened, eat, scanFrom, scan}
+use Rattle.wire.specs.laws.Cases.{if-b, else-b, cond-elim}
+use Rattle.entries.specs.Entries.{Entry, bodyLen, Scan, between, within, unknown, opened, eat, scanFrom, scan}
 use Rattle.entries.specs.laws.Entries.{scan-append}
 use Rattle.entries.specs.laws.Places.{Place, first-place, next-place, scan-end, scan-unknown, scan-cut, entryAt, length-body}
-use Rattle.journal.specs.Read.{foundFor, tablesIn, badGot, gotFor, gotOf, gotOk, entryOk, allOk, scanOk, journalOk}
-
--- one whole entry's bytes say what its kind and body say
-pub got-whole : (e : Entry) → bodyLen (e .kind) ≡ length (e .body) → gotOf (bytesOf e) ≡ record { found = foundFor (e .kind) (e .body); tables = tablesIn (e .kind) (e .body) }
-unfolding bytesOf gotOf gotFor
-got-whole e h =
-    let some : suc (length (e .body)) ≡ 0 → ⊥ = λ z. omega arith in
-    let fits : suc (length (e .body)) - 1 ≡ bodyLen (e .kind) = omega arith in
-    sym (else-eq badGot _ {m = suc (length (e .body))} {n = 0} some (else-ne badGot _ {m = suc (length (e .body)) - 1} {n = bodyLen (e .kind)} fits refl))
-
-got-entry : (e : Entry) → bodyLen (e .kind) ≡ length (e .body) → gotOk (gotOf (bytesOf e)) ≡ entryOk e
-unfolding gotOk entryOk
-got-entry e h = ap gotOk (got-whole e h)
+use Rattle.journal.specs.Read.{entryOk, allOk, scanOk, journalOk}
 
 -- ---- an entry whose values are bad spoils all that is read after it
 
@@ -83,35 +70,37 @@ module _ {j : List ℕ} {at : ℕ} (p : Judged j at) where
     judged-cut z h = sym (ap scanOk (scan-cut (p .place) size more z h))
 
     module _ (known : n ≡ 0 → ⊥) (uncut : n < length j - at) where
-      -- the bytes lent, from the kind to the end of the body
-      entry-part : take (at + (n + 1) - at) (drop at j) ≡ bytesOf (entryAt j at n)
-      unfolding bytesOf
-      entry-part = rw (add-sub-cancel-left, add-one, drop-cons j at 0 more)
+      -- the bytes lent, those of the body
+      body-part : take (at + 1 + n - (at + 1)) (drop (at + 1) j) ≡ entryAt j at n .body
+      body-part = rw (add-sub-cancel-left, add-one)
 
-      next : Place j (at + (n + 1)) (entryAt j at n ∷ p .entries)
-      next = next-place (p .place) size more known uncut
+      end : at + (n + 1) ≡ at + 1 + n
+      end = omega arith
 
-      module _ {x : Bool} (judged : x ≡ gotOk (gotOf (take (at + (n + 1) - at) (drop at j)))) where
+      next : Place j (at + 1 + n) (entryAt j at n ∷ p .entries)
+      next = subst (λ (m : ℕ). Place j m (entryAt j at n ∷ p .entries)) end (next-place (p .place) size more known uncut)
+
+      pub body-room : bodyLen (getD j at 0) ≤ length (take (at + 1 + n - (at + 1)) (drop (at + 1) j))
+      body-room = omega (arith, size, ap length body-part, length-body j at n uncut)
+
+      module _ {x : Bool} (judged : x ≡ entryOk (record { kind = getD j at 0; body = take (at + 1 + n - (at + 1)) (drop (at + 1) j) })) where
         value : x ≡ entryOk (entryAt j at n)
-        value =
-            judged
-            ∙ ap (λ (l : List ℕ). gotOk (gotOf l)) entry-part
-            ∙ got-entry (entryAt j at n) (sym size ∙ sym (length-body j at n uncut))
+        value = judged ∙ ap (λ (b : List ℕ). entryOk (record { kind = getD j at 0; body = b })) body-part
 
         spoilt : x ≡ false → fine (between (entryAt j at n ∷ p .entries)) ≡ false
         unfolding fine allOk
         spoilt h = sym (else-b _ _ (sym value ∙ h) refl)
 
-        whole-scan : scan j ≡ scanFrom (scan (take (at + (n + 1)) j)) (drop (at + (n + 1)) j)
-        whole-scan = ap scan (sym (take-append-drop (at + (n + 1)) j)) ∙ scan-append (take (at + (n + 1)) j) (drop (at + (n + 1)) j)
+        whole-scan : scan j ≡ scanFrom (scan (take (at + 1 + n) j)) (drop (at + 1 + n) j)
+        whole-scan = ap scan (sym (take-append-drop (at + 1 + n) j)) ∙ scan-append (take (at + 1 + n) j) (drop (at + 1 + n) j)
 
         pub judged-bad : not x ≡ true → false ≡ journalOk j
         unfolding journalOk
         judged-bad h =
-            let bad : fine (scan (take (at + (n + 1)) j)) ≡ false = ap fine (next .reads) ∙ spoilt (not-true x h) in
-            bad-scan (scan j) (ap fine whole-scan ∙ bad-from (scan (take (at + (n + 1)) j)) (drop (at + (n + 1)) j) bad)
+            let bad : fine (scan (take (at + 1 + n) j)) ≡ false = ap fine (next .reads) ∙ spoilt (not-true x h) in
+            bad-scan (scan j) (ap fine whole-scan ∙ bad-from (scan (take (at + 1 + n) j)) (drop (at + 1 + n) j) bad)
 
-        pub judged-next : not x ≡ false → Judged j (at + (n + 1))
+        pub judged-next : not x ≡ false → Judged j (at + 1 + n)
         unfolding allOk
         judged-next h = record {
           entries = entryAt j at n ∷ p .entries;

@@ -15,12 +15,11 @@ use Rattle.change.specs.declared.Change.{Change}
 use Rattle.change.specs.declared.Edit.{Edit}
 use Rattle.change.specs.Change.{kindOf}
 use Rattle.entries.specs.Entries.{bytesOf, bodyLengths, bodyLen}
-use Rattle.formed.specs.Formed.{editOk}
 use Rattle.journal.specs.declared.Found.{Found}
-use Rattle.journal.specs.declared.Found.the-variants.{Good, Bad}
+use Rattle.journal.specs.declared.Found.the-variants.{Bad}
 use Rattle.journal.specs.declared.Got.{Got}
 use Rattle.journal.specs.Bytes.{bodyOf, entryFor, entryBytes}
-use Rattle.journal.specs.Read.{foundFor, tablesIn, valuesOk, gotOk}
+use Rattle.journal.specs.Read.{foundFor, tablesIn, valuesOk, entryOk}
 use Rattle.change.specs.declared.Tables.{Tables}
 
 -- ---- parts of lent bytes
@@ -78,13 +77,12 @@ put-room e ch n h p = subst (λ (c : Change). bodyLen (kindOf c) + 1 ≤ n) h p
 
 -- ---- what was got
 
-pub ok-bad : (g h : Got) → g ≡ h → g .found ≡ Bad → false ≡ gotOk h
-unfolding gotOk valuesOk
-ok-bad g h e p = sym (ap (valuesOk (g .tables)) p) ∙ ap gotOk e
+pub ok-by : (k n : ℕ) (b : List ℕ) (x : Bool) → k ≡ n → x ≡ entryOk (record { kind = n; body = b }) → x ≡ entryOk (record { kind = k; body = b })
+ok-by k n b x e p = p ∙ ap (λ (i : ℕ). entryOk (record { kind = i; body = b })) (sym e)
 
-pub ok-good : (g h : Got) (ch : Change) (x : Bool) → g ≡ h → g .found ≡ Good ch → x ≡ editOk (record { change = ch; tables = g .tables }) → x ≡ gotOk h
-unfolding gotOk valuesOk editOk
-ok-good g h ch x e p q = q ∙ sym (ap (valuesOk (g .tables)) p) ∙ ap gotOk e
+pub ok-bad : (t : Tables) (f : Found) → Bad ≡ f → false ≡ valuesOk t f
+unfolding valuesOk
+ok-bad t f e = ap (valuesOk t) e
 
 pub got-by : (k : ℕ) (e : List ℕ) (f : Found) (t : Tables) → f ≡ foundFor k (take (length e - 1) (drop 1 e)) → t ≡ tablesIn k (take (length e - 1) (drop 1 e))
     → _≡_ {A = Got} (record { found = f; tables = t }) (record { found = foundFor k (drop 1 e); tables = tablesIn k (drop 1 e) })

@@ -8,7 +8,7 @@ ghost use Rattle.wire.specs.Wire.{pasted, toBE};
 ghost use Rattle.change.specs.Change.{kindOf};
 ghost use Rattle.entries.specs.Entries.{bodyLen};
 ghost use Rattle.journal.specs.Bytes.{clearedBody, capsBody, throttlesBody, deadmanBody, areasBody, entryBytes};
-ghost use Rattle.journal.specs.Read.{capsAt, areaAt, throttlesFrom, foundFor, tablesIn, badGot, gotOf, gotOk, journalOk};
+ghost use Rattle.journal.specs.Read.{capsAt, areaAt, throttlesFrom, foundFor, tablesIn, badGot, gotOf, entryOk, journalOk};
 ghost use Rattle.journal.specs.Add.{endOf, addedTo, cutFrom};
 use change::Change;
 use change::Edit;
@@ -302,20 +302,37 @@ pub fn get(e: &[u8]) -> Got
 
 // ---- judging entries
 
-// Whether one whole entry's values are ones that a well-formed record could hold.
-pub fn entry_ok(e: &[u8]) -> bool
-    ensures { λ r. ⌜ r ≡ gotOk (gotOf (now (e .entry))) ⌝ }
+// Whether a body's values are ones that a well-formed record could hold, straight off its bytes.
+fn body_ok(kind: u8, b: &[u8]) -> bool
+    requires { ⌜ bodyLen kind ≤ length (now b) ⌝ }
+    ensures { λ r. ⌜ r ≡ entryOk (record { kind = kind; body = now (b .entry) }) ⌝ }
 {
-    let got = get(e);
-    let found = got.found;
-    let tables = got.tables;
-    let Found::Good(change) = found else {
-        return false;
-    };
-    formed::edit_ok(Edit {
-        change: change,
-        tables: tables,
-    })
+    match kind {
+        0x01 => formed::cleared_ok(
+            b[0],
+            Log {
+                id: b[1],
+                reason: b[2],
+            },
+        ),
+        0x02 => formed::state_ok(b[0]),
+        0x03 => formed::role_ok(b[0], b[1]),
+        0x04 => formed::caps_ok(b[0], caps_at(b, 1)),
+        0x05 => true,
+        0x06 => formed::thermal_ok(b[0], thermal_in(b)),
+        0x07 => formed::throttles_ok(b[0], throttles_in(b)),
+        0x08 => formed::unreset_ok(b[0], b[1]),
+        0x09 => true,
+        0x0A => formed::deadman_ok(Deadman {
+            running: b[0],
+            time: wire::be64(b, 1),
+        }),
+        0x0B => formed::areas_ok(Areas {
+            ffdc: area_at(b, 0),
+            pass: area_at(b, 12),
+        }),
+        _ => false,
+    }
 }
 
 // Whether the bytes read exactly as entries with such values.
@@ -324,15 +341,17 @@ pub fn all_ok(j: &[u8]) -> bool
 {
     let mut at = 0;
     while at < j.len() {
-        let n = entries::body_len(j[at]);
+        let kind = j[at];
+        let n = entries::body_len(kind);
         if n == 0 {
             return false;
         }
         if j.len() - at <= n {
             return false;
         }
-        let end = at + (n + 1);
-        if !entry_ok(&j[at..end]) {
+        let start = at + 1;
+        let end = start + n;
+        if !body_ok(kind, &j[start..end]) {
             return false;
         }
         at = end;

@@ -1,18 +1,17 @@
 -- What each turn of a loop does. Assumes nothing.
 use Prim.Native.Nat.{ℕ, zero, suc, _+_, _-_, _*_, _/_, _%_, _^_, _<_, _≤_}
-use mathlib.Core.Bool.{true, false}
+use mathlib.Core.Bool.{Bool, true, false, cond, not}
 use mathlib.Core.Path.{_≡_, refl, sym, ap, _∙_}
 use mathlib.Core.List.{List, [], _∷_, _++_, append-nil, append-assoc}
 use native.Mathlib.Numerals.{add-one}
-use native.Mathlib.Nat.{add-zero, add-suc, pow-suc, pow-le-pow-right, mod-add-mod, not-suc-le-zero}
+use native.Mathlib.Nat.{add-zero, add-suc, pow-suc, pow-le-pow-right, mod-add-mod, not-suc-le-zero, le-of-suc-le-suc}
 use native.Mathlib.Omega.{arith}
 use borrow.Author.Fill.{fill-more}
-use lib.Dec.{lit<}
+use lib.Dec.{lit<, eqb}
 use lib.ListN.{length, getD, take, drop, set, replicate, length-append, length-drop, length-set, take-append-drop, drop-of-length-le}
 use lib.Seq.{take-suc, take-length, drop-length, drop-cons, getD-drop, take-set-le, drop-set-lt, take-suc-set, getD-set-same}
 use Rattle.wire.specs.Wire.{sumOf, packetSum, beOnto, beNat, toBE, pasted, allAre}
 use Rattle.wire.specs.laws.Wire.{onto-append, length-toBE}
-use Rattle.wire.specs.laws.Cases.{if-eq, else-eq}
 
 -- ---- sum: the bytes before i are in the sum
 
@@ -108,17 +107,31 @@ zero-more i d x h e = ap (λ (l : List ℕ). set l i 0) e ∙ fill-more i 0 d h
 pub zero-end : (i : ℕ) (d x : List ℕ) → i ≡ length d → x ≡ replicate i 0 ++ drop i d → x ≡ replicate (length d) 0
 zero-end i d x e p = p ∙ rw (e, drop-length, append-nil)
 
--- ---- all_are: what is left decides
+-- ---- all_are: the mark says it of the bytes before i
 
-module _ (v : ℕ) (l : List ℕ) (i : ℕ) where
-  pub all-more : i < length l → getD l i 0 ≡ v → allAre v (drop (i + 1) l) ≡ allAre v (drop i l)
-  unfolding allAre
-  all-more h e = rw (add-one, drop-cons l i 0) (if-eq _ _ e refl)
+pub are-none : (v : ℕ) (l : List ℕ) → true ≡ allAre v (take 0 l)
+unfolding allAre
+are-none v l = refl
 
-  pub all-not : i < length l → (getD l i 0 ≡ v → ⊥) → false ≡ allAre v (drop i l)
-  unfolding allAre
-  all-not h e = rw (drop-cons l i 0) (else-eq _ _ e refl)
+turned : (b : Bool) → cond b true false ≡ cond (not b) false true
+turned true = refl
+turned false = refl
 
-  pub all-end : length l ≤ i → true ≡ allAre v (drop i l)
-  unfolding allAre
-  all-end h = rw (drop-of-length-le l h)
+later : (b c p q : Bool) → p ≡ cond (not c) false q → cond b p false ≡ cond (not c) false (cond b q false)
+later true c p q e = e
+later false true p q e = refl
+later false false p q e = refl
+
+are-more : (v : ℕ) (l : List ℕ) (i : ℕ) → i < length l → allAre v (take (suc i) l) ≡ cond (not (eqb (getD l i 0) v)) false (allAre v (take i l))
+unfolding allAre
+are-more v [] i h = absurd (not-suc-le-zero h)
+are-more v (x ∷ l) zero h = turned (eqb x v)
+are-more v (x ∷ l) (suc i) h =
+    later (eqb x v) (eqb (getD l i 0) v) (allAre v (take (suc i) l)) (allAre v (take i l)) (are-more v l i (le-of-suc-le-suc h))
+
+pub are-next : (v : ℕ) (l : List ℕ) (i : ℕ) (a r : Bool) → i < length l → a ≡ allAre v (take i l) → r ≡ cond (not (eqb (getD l i 0) v)) false a
+    → r ≡ allAre v (take (i + 1) l)
+are-next v l i a r h p q = q ∙ ap (cond (not (eqb (getD l i 0) v)) false) p ∙ rw add-one (sym (are-more v l i h))
+
+pub are-all : (v : ℕ) (l : List ℕ) (i : ℕ) → i ≡ length l → allAre v (take i l) ≡ allAre v l
+are-all v l i e = rw (e, take-length)

@@ -1,6 +1,8 @@
 // Bytes on the wire: the packet sum, big-endian numbers of any width, and parts of lent buffers.
+ghost use mathlib.Core.Bool.{cond, not, false};
 ghost use mathlib.Core.Path.{_≡_};
 ghost use Prim.Native.Nat.{_+_, _%_, _^_, _≤_, _<_};
+ghost use lib.Dec.{eqb};
 ghost use lib.ListN.{length, take, drop, replicate};
 ghost use Rattle.wire.specs.Wire.{packetSum, beNat, toBE, pasted, allAre};
 
@@ -108,16 +110,25 @@ pub fn zero_all(d: &mut [u8])
     }
 }
 
-// Whether every byte of `s` is `v`.
+// A mark that stays only where two bytes are the same.
+fn still(same: bool, a: u8, b: u8) -> bool
+    ensures { λ r. ⌜ r ≡ cond (not (eqb a b)) false same ⌝ }
+{
+    if a != b {
+        return false;
+    }
+    same
+}
+
+// Whether every byte of `s` is `v`. It goes to the end whatever it meets, so that the compiler can take many bytes at a turn.
 pub fn all_are(s: &[u8], v: u8) -> bool
     ensures { λ r. ⌜ r ≡ allAre v (now (s .entry)) ⌝ }
 {
+    let mut same = true;
     let mut i = 0;
     while i < s.len() {
-        if s[i] != v {
-            return false;
-        }
+        same = still(same, s[i], v);
         i += 1;
     }
-    true
+    same
 }

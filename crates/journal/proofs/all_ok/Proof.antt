@@ -1,7 +1,7 @@
-use Rattle.journal.proofs.Judging.{Judged, judged-none, judged-end, judged-unknown, judged-cut, judged-bad, judged-next}
 use borrow.Author.Needs.{needs}
-use lib.ListN.{length}
 use Prim.Native.Nat.{_-_}
+use lib.ListN.{length}
+use Rattle.journal.proofs.Judging.{Judged, judged-none, judged-end, judged-unknown, judged-cut, judged-bad, judged-next, body-room}
 use Rattle.journal.proofs.all_ok.Statement.{statement}
 use Rattle.journal.proofs.all_ok.Tie as tie
 
@@ -14,8 +14,8 @@ abbrev μ-loop : tie.MeasureT-loop
 loop-holds : tie.Need-loop-holds Inv-loop μ-loop
 loop-holds c = judged-none _
 
-shared-slice-read-body-len : tie.Need-shared-slice-read-body-len Inv-loop μ-loop
-shared-slice-read-body-len c = search needs
+shared-slice-read-kind : tie.Need-shared-slice-read-kind Inv-loop μ-loop
+shared-slice-read-kind c = search needs
 
 body-len-requires : tie.Need-body-len-requires Inv-loop μ-loop
 body-len-requires c κs = search needs
@@ -29,32 +29,32 @@ sub-if2 c = search needs
 returns-2 : tie.Need-returns-2 Inv-loop μ-loop
 returns-2 c = judged-cut (c .before .before .before .before .before .loop .inv) (c .before .before .body-len .ensures) (c .before .before .before .before .loop-test .taken) (c .before .if1 .left) (c .if2 .taken)
 
+add-start : tie.Need-add-start Inv-loop μ-loop
+add-start c = search needs
+
 add-end : tie.Need-add-end Inv-loop μ-loop
 add-end c = search needs
 
-add-end-2 : tie.Need-add-end-2 Inv-loop μ-loop
-add-end-2 c = search needs
+sub-body-ok : tie.Need-sub-body-ok Inv-loop μ-loop
+sub-body-ok c = search needs
 
-sub-entry-ok : tie.Need-sub-entry-ok Inv-loop μ-loop
-sub-entry-ok c = search needs
+part-body-ok-start : tie.Need-part-body-ok-start Inv-loop μ-loop
+part-body-ok-start c = search needs
 
-part-entry-ok-start : tie.Need-part-entry-ok-start Inv-loop μ-loop
-part-entry-ok-start c = search needs
+part-body-ok-end : tie.Need-part-body-ok-end Inv-loop μ-loop
+part-body-ok-end c = search needs
 
-part-entry-ok-end : tie.Need-part-entry-ok-end Inv-loop μ-loop
-part-entry-ok-end c = search needs
-
-entry-ok-requires : tie.Need-entry-ok-requires Inv-loop μ-loop
-entry-ok-requires c κs = search needs
+body-ok-requires : tie.Need-body-ok-requires Inv-loop μ-loop
+body-ok-requires c κs = body-room (c .before .before .before .before .before .before .loop .inv) (c .before .before .before .body-len .ensures) (c .before .before .before .before .before .loop-test .taken) (c .before .before .if1 .left) (c .before .if2 .left)
 
 returns-3 : tie.Need-returns-3 Inv-loop μ-loop
-returns-3 c = judged-bad (c .before .before .before .before .before .before .before .before .loop .inv) (c .before .before .before .before .before .body-len .ensures) (c .before .before .before .before .before .before .before .loop-test .taken) (c .before .before .before .before .if1 .left) (c .before .before .before .if2 .left) (c .before .entry-ok .ensures) (c .if3 .taken)
+returns-3 c = judged-bad (c .before .before .before .before .before .before .before .before .loop .inv) (c .before .before .before .before .before .body-len .ensures) (c .before .before .before .before .before .before .before .loop-test .taken) (c .before .before .before .before .if1 .left) (c .before .before .before .if2 .left) (c .before .body-ok .ensures) (c .if3 .taken)
 
 loop-less : tie.Need-loop-less Inv-loop μ-loop
 loop-less c = search needs
 
 loop-again : tie.Need-loop-again Inv-loop μ-loop
-loop-again c = judged-next (c .before .before .before .before .before .before .before .before .loop .inv) (c .before .before .before .before .before .body-len .ensures) (c .before .before .before .before .before .before .before .loop-test .taken) (c .before .before .before .before .if1 .left) (c .before .before .before .if2 .left) (c .before .entry-ok .ensures) (c .if3 .left)
+loop-again c = judged-next (c .before .before .before .before .before .before .before .before .loop .inv) (c .before .before .before .before .before .body-len .ensures) (c .before .before .before .before .before .before .before .loop-test .taken) (c .before .before .before .before .if1 .left) (c .before .before .before .if2 .left) (c .before .body-ok .ensures) (c .if3 .left)
 
 returns-4 : tie.Need-returns-4 Inv-loop μ-loop
 returns-4 c = judged-end (c .before .loop .inv) (c .loop-test .left)
@@ -66,17 +66,17 @@ all-ok-spec =
     Inv-loop
     μ-loop
     loop-holds
-    shared-slice-read-body-len
+    shared-slice-read-kind
     body-len-requires
     returns
     sub-if2
     returns-2
+    add-start
     add-end
-    add-end-2
-    sub-entry-ok
-    part-entry-ok-start
-    part-entry-ok-end
-    entry-ok-requires
+    sub-body-ok
+    part-body-ok-start
+    part-body-ok-end
+    body-ok-requires
     returns-3
     loop-less
     loop-again

@@ -1,27 +1,27 @@
-use Rattle.wire.specs.Wire.{allAre}
-use Rattle.wire.proofs.Loops.{all-more, all-not, all-end}
-use mathlib.Core.Path.{_≡_, refl, _∙_}
+use native.Mathlib.Omega.{arith}
 use borrow.Author.Needs.{needs}
-use lib.ListN.{length, drop}
+use lib.ListN.{length, take}
+use mathlib.Core.Path.{_≡_, _∙_}
+use Rattle.wire.specs.Wire.{allAre}
+use Rattle.wire.proofs.Loops.{are-none, are-next, are-all}
 use Prim.Native.Nat.{_≤_, _-_}
 use Rattle.wire.proofs.all_are.Statement.{statement}
 use Rattle.wire.proofs.all_are.Tie as tie
 
 abbrev Inv-loop : tie.InvT-loop
-Inv-loop s v i₀ i = (i ≤ length s) × (allAre v (drop i s) ≡ allAre v s)
+Inv-loop s v same₀ i₀ same i = (i ≤ length s) × (same ≡ allAre v (take i s))
 
 abbrev μ-loop : tie.MeasureT-loop
-μ-loop s v i₀ i = length s - i
+μ-loop s v same₀ i₀ same i = length s - i
 
 loop-holds : tie.Need-loop-holds Inv-loop μ-loop
-loop-holds c = (search needs, refl)
+loop-holds c = (search needs, are-none _ (c .before .args .s .now))
 
-shared-slice-read-if1 : tie.Need-shared-slice-read-if1 Inv-loop μ-loop
-shared-slice-read-if1 c = search needs
+shared-slice-read-still : tie.Need-shared-slice-read-still Inv-loop μ-loop
+shared-slice-read-still c = search needs
 
-returns : tie.Need-returns Inv-loop μ-loop
-returns c = let p = c .before .before .before in
-    all-not _ _ (p .loop .i) (c .before .before .loop-test .taken) (c .if1 .taken) ∙ p .loop .inv .1
+still-requires : tie.Need-still-requires Inv-loop μ-loop
+still-requires c κs = search needs
 
 add-i : tie.Need-add-i Inv-loop μ-loop
 add-i c = search needs
@@ -31,10 +31,10 @@ loop-less c = search needs
 
 loop-again : tie.Need-loop-again Inv-loop μ-loop
 loop-again c = let p = c .before .before .before in
-    (search needs, all-more _ _ (p .loop .i) (c .before .before .loop-test .taken) (c .if1 .left) ∙ p .loop .inv .1)
+    (search needs, are-next _ _ (p .loop .i) _ _ (c .before .before .loop-test .taken) (p .loop .inv .1) (c .still .ensures))
 
-returns-2 : tie.Need-returns-2 Inv-loop μ-loop
-returns-2 c = all-end _ _ (c .before .loop .i) (c .loop-test .left) ∙ c .before .loop .inv .1
+returns : tie.Need-returns Inv-loop μ-loop
+returns c = c .before .loop .inv .1 ∙ are-all _ (c .before .before .before .args .s .now) (c .before .loop .i) (omega arith)
 
 pub all-are-spec : {M : Type 1} → statement M
 all-are-spec =
@@ -43,9 +43,9 @@ all-are-spec =
     Inv-loop
     μ-loop
     loop-holds
-    shared-slice-read-if1
-    returns
+    shared-slice-read-still
+    still-requires
     add-i
     loop-less
     loop-again
-    returns-2)
+    returns)

@@ -10,8 +10,10 @@ use Rattle.promises.specs.History.{Run, run, next-run, start}
 unfoldable pub withNext : Session → ℕ → Session
 withNext s n = record { held = s .held; worked = s .worked; next = n; journal = s .journal; used = s .used }
 
-abbrev after : List Call → Run
+-- calls made one after the other, from a fresh session
+abbrev pub after : List Call → Run
 after cs = run (start freshSession) cs
 
-abbrev tried : List Call → Call → Session
+-- the session after those calls, one more, and an undo
+abbrev pub tried : List Call → Call → Session
 tried cs c = said (next-run (after cs) c .session) undo .session

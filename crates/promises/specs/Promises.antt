@@ -38,14 +38,13 @@ use Rattle.links.specs.Typed.{TypedSession}
 use Rattle.promises.specs.laws.WellFormed.{occ-formed, sbe-formed, undo-formed}
 use Rattle.promises.specs.Later.{Wish, AsIf}
 use Rattle.promises.specs.laws.NoTrace.{trace-free, no-log-no-trace, later-alike}
-use Rattle.promises.specs.NoTrace.{withNext}
+use Rattle.promises.specs.NoTrace.{withNext, after, tried}
 use Rattle.image.specs.Image.{imageOf}
 use Rattle.bjargolsk.specs.Calls.{freshOn}
 use Rattle.promises.specs.laws.Lent.{fresh-image, lent-run, lent-next}
 use Rattle.promises.specs.Lent.{lent, carriedOver, lentRun}
 use Rattle.promises.specs.Examples.{All, holds, table}
 use Rattle.promises.specs.laws.Examples.{examples}
-use Rattle.promises.specs.NoTrace.{after, tried}
 
 -- ---- demand 1: a refusal changes nothing, for every session, right or damaged
 

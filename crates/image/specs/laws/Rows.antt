@@ -5,6 +5,7 @@ use mathlib.Core.List.{List, [], _∷_, _++_, append-assoc}
 use lib.ListN.{length, take, drop, length-append}
 use lib.Seq.{take-at, drop-at, take-add, drop-drop}
 use Rattle.wire.specs.Wire.{sumOf}
+use Rattle.image.specs.Rows.{joined, widthsOf, rowsFrom}
 
 pub length-joined : (rs : List (List ℕ)) → length (joined rs) ≡ sumOf (widthsOf rs)
 unfolding joined widthsOf sumOf

@@ -2,6 +2,7 @@
 use mathlib.Core.Path.{refl}
 use native.Mathlib.Omega.{arith}
 use Rattle.record.specs.Record.{freshRecord}
+use Rattle.links.specs.Typed.{TypedRecord}
 
 -- "Fresh record"
 pub typed-fresh : TypedRecord freshRecord

@@ -58,16 +58,16 @@ filled n bs d x h p e =
     let z : drop (0 + length bs) d ≡ [] = drop-of-length-le d {i = 0 + length bs} (omega arith) in
     p ∙ rw (z, append-nil)
 
-module _ (d : List ℕ) (long : 2287 ≤ length d) where
+module _ (d : List ℕ) (long : 239 ≤ length d) where
   -- rows written after rows: x holds the ones from `at` on, y the others from `m` on too
-  rows-next : (at m : ℕ) (rs ss : List (List ℕ)) (x y : List ℕ) → m ≤ 2287 → at + length (joined rs) ≡ m → x ≡ pasted at (joined rs) d → y ≡ pasted m (joined ss) x
+  rows-next : (at m : ℕ) (rs ss : List (List ℕ)) (x y : List ℕ) → m ≤ 239 → at + length (joined rs) ≡ m → x ≡ pasted at (joined rs) d → y ≡ pasted m (joined ss) x
       → y ≡ pasted at (joined (rs ++ ss)) d
   rows-next at m rs ss x y h e p q =
       q ∙ ap₂ (λ (n : ℕ) (l : List ℕ). pasted n (joined ss) l) (sym e) p
       ∙ paste-on at (joined rs) (joined ss) d (omega arith)
       ∙ ap (λ (l : List ℕ). pasted at l d) (sym (joined-append rs ss))
 
-  row-next : (at m : ℕ) (rs : List (List ℕ)) (r x y : List ℕ) → m ≤ 2287 → at + length (joined rs) ≡ m → x ≡ pasted at (joined rs) d → y ≡ pasted m r x
+  row-next : (at m : ℕ) (rs : List (List ℕ)) (r x y : List ℕ) → m ≤ 239 → at + length (joined rs) ≡ m → x ≡ pasted at (joined rs) d → y ≡ pasted m r x
       → y ≡ pasted at (joined (rs ++ (r ∷ []))) d
   unfolding joined
   row-next at m rs r x y h e p q = rows-next at m rs (r ∷ []) x y h e p (q ∙ ap (λ (l : List ℕ). pasted m l x) (sym (append-nil r)))

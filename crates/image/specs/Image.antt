@@ -1,10 +1,10 @@
 -- The image of a session: its fields one after the other, numbers big-endian, no padding, 2,287 bytes. Beside each row is its offset.
 use Prim.Native.Nat.{ℕ, _+_}
-use mathlib.Core.Bool.{cond}
+use mathlib.Core.Bool.{cond, not}
 use mathlib.Core.List.{List, [], _∷_, _++_}
 use lib.ListN.{length, getD, take, drop}
-use lib.Dec.{ltb}
-use Rattle.wire.specs.Wire.{beNat, toBE, pasted}
+use lib.Dec.{eqb}
+use Rattle.wire.specs.Wire.{beNat, toBE}
 use Rattle.record.specs.Record.{noLog}
 use Rattle.record.specs.declared.Log.{Log}
 use Rattle.record.specs.declared.Caps.{Caps}
@@ -14,9 +14,9 @@ use Rattle.record.specs.declared.Received.{Received}
 use Rattle.record.specs.declared.Throttles.{Throttles}
 use Rattle.record.specs.declared.Record.{Record}
 use Rattle.record.specs.declared.Worked.{Worked}
-use Rattle.session.specs.Session.{freshSession}
 use Rattle.session.specs.declared.Session.{Session}
 use Rattle.image.specs.Rows.{joined}
+use Rattle.image.specs.declared.Head.{Head}
 
 -- ---- a session as bytes
 
@@ -155,16 +155,26 @@ recordIn b =
 unfoldable pub workedIn : List ℕ → Worked
 workedIn b = record { limit = numberAt 2 230 b; observation = byteAt 232 b; active = byteAt 233 b; wanted = byteAt 234 b }
 
+-- a session's head: all but its journal
+unfoldable pub headIn : List ℕ → Head
+headIn b = record { held = recordIn b; worked = workedIn b; next = numberAt 2 235 b; used = numberAt 2 237 b }
+
+-- its journal, where it stands
+abbrev pub journalIn : List ℕ → List ℕ
+journalIn b = partAt 2048 239 b
+
+unfoldable pub sessionAt : Head → List ℕ → Session
+sessionAt h j = record { held = h .held; worked = h .worked; next = h .next; used = h .used; journal = j }
+
 unfoldable pub sessionOf : List ℕ → Session
-sessionOf b =
-    record { held = recordIn b; worked = workedIn b; next = numberAt 2 235 b; used = numberAt 2 237 b; journal = partAt 2048 239 b }
+sessionOf b = sessionAt (headIn b) (journalIn b)
 
--- ---- what the two functions do with any buffer
+-- ---- a session written into a buffer
 
--- a buffer without room is kept, and so are the bytes past the image
+-- the length of an image
+abbrev pub imageLength : ℕ
+imageLength = 2287
+
+-- bytes of another length are kept
 unfoldable pub writtenTo : List ℕ → Session → List ℕ
-writtenTo d s = cond (ltb (length d) 2287) d (pasted 0 (imageOf s) d)
-
--- bytes that are too few for an image are none: the fresh session
-unfoldable pub readFrom : List ℕ → Session
-readFrom b = cond (ltb (length b) 2287) freshSession (sessionOf b)
+writtenTo d s = cond (not (eqb (length d) imageLength)) d (imageOf s)

@@ -1,11 +1,10 @@
-// A session as 2,287 bytes, its image, and back: each field at its offset, numbers big-endian, no padding.
+// A session as 2,287 bytes, its image: its head read and written at the fields' offsets, numbers big-endian, no padding.
 ghost use mathlib.Core.Path.{_≡_};
 ghost use Prim.Native.Nat.{_≤_, _+_};
 ghost use lib.ListN.{length};
-ghost use Rattle.wire.specs.Wire.{pasted};
+ghost use Rattle.wire.specs.Wire.{pasted, Bytes};
 ghost use Rattle.image.specs.Rows.{joined};
-ghost use Rattle.image.specs.Image.{headRows, throttlesRows, thermalRows, logsRows, mailboxRows, workedRows, recordRows, imageOf, writtenTo, partAt, capsIn, throttlesIn, receivedIn, logAt, logsIn, deadmanIn, areasIn, recordIn, workedIn, readFrom};
-ghost use Rattle.image.specs.laws.Image.{Typed};
+ghost use Rattle.image.specs.Image.{headRows, throttlesRows, thermalRows, logsRows, mailboxRows, workedRows, recordRows, imageOf, imageLength, writtenTo, partAt, capsIn, throttlesIn, receivedIn, logAt, logsIn, deadmanIn, areasIn, recordIn, workedIn, headIn, journalIn, sessionAt};
 use record::Area;
 use record::Areas;
 use record::Caps;
@@ -17,10 +16,20 @@ use record::Throttles;
 use record::Worked;
 use session::Session;
 
+pub const LENGTH: usize = 2287;
+
+// A session without its journal, which stays in the lent bytes.
+pub struct Head {
+    pub held: Record,
+    pub worked: Worked,
+    pub next: u16,
+    pub used: u16,
+}
+
 // ---- writing, a part at a time; the rest of the buffer is kept
 
 fn put_head(d: &mut [u8], state: u8, role: u8, caps: Caps)
-    requires { ⌜ 2287 ≤ length (now d) ⌝ }
+    requires { ⌜ 239 ≤ length (now d) ⌝ }
     ensures { λ _. ⌜ now (d .exit) ≡ pasted 0 (joined (headRows state role caps)) (now (d .entry)) ⌝ }
 {
     let bytes = [state, role];
@@ -31,7 +40,7 @@ fn put_head(d: &mut [u8], state: u8, role: u8, caps: Caps)
 }
 
 fn put_throttles(d: &mut [u8], throttles: Throttles)
-    requires { ⌜ 2287 ≤ length (now d) ⌝ }
+    requires { ⌜ 239 ≤ length (now d) ⌝ }
     ensures { λ _. ⌜ now (d .exit) ≡ pasted 8 (joined (throttlesRows throttles)) (now (d .entry)) ⌝ }
 {
     let sets = throttles.sets;
@@ -40,7 +49,7 @@ fn put_throttles(d: &mut [u8], throttles: Throttles)
 }
 
 fn put_thermal(d: &mut [u8], user: u16, thermal: [u8; 9])
-    requires { ⌜ 2287 ≤ length (now d) ⌝ }
+    requires { ⌜ 239 ≤ length (now d) ⌝ }
     ensures { λ _. ⌜ now (d .exit) ≡ pasted 170 (joined (thermalRows user thermal)) (now (d .entry)) ⌝ }
 {
     wire::put_be(&mut *d, 170, 2, user as u64);
@@ -48,7 +57,7 @@ fn put_thermal(d: &mut [u8], user: u16, thermal: [u8; 9])
 }
 
 fn put_logs(d: &mut [u8], got: Received, logs: [Log; 4])
-    requires { ⌜ 2287 ≤ length (now d) ⌝ }
+    requires { ⌜ 239 ≤ length (now d) ⌝ }
     ensures { λ _. ⌜ now (d .exit) ≡ pasted 181 (joined (logsRows got logs)) (now (d .entry)) ⌝ }
 {
     let a = logs[0];
@@ -73,7 +82,7 @@ fn put_logs(d: &mut [u8], got: Received, logs: [Log; 4])
 }
 
 fn put_mailbox(d: &mut [u8], mask: u32, deadman: Deadman, areas: Areas)
-    requires { ⌜ 2287 ≤ length (now d) ⌝ }
+    requires { ⌜ 239 ≤ length (now d) ⌝ }
     ensures { λ _. ⌜ now (d .exit) ≡ pasted 193 (joined (mailboxRows mask deadman areas)) (now (d .entry)) ⌝ }
 {
     let ffdc = areas.ffdc;
@@ -89,7 +98,7 @@ fn put_mailbox(d: &mut [u8], mask: u32, deadman: Deadman, areas: Areas)
 }
 
 fn put_worked(d: &mut [u8], worked: Worked, next: u16, used: u16)
-    requires { ⌜ 2287 ≤ length (now d) ⌝ }
+    requires { ⌜ 239 ≤ length (now d) ⌝ }
     ensures { λ _. ⌜ now (d .exit) ≡ pasted 230 (joined (workedRows worked next used)) (now (d .entry)) ⌝ }
 {
     let bytes = [worked.observation, worked.active, worked.wanted];
@@ -100,7 +109,7 @@ fn put_worked(d: &mut [u8], worked: Worked, next: u16, used: u16)
 }
 
 fn put_record(d: &mut [u8], r: Record)
-    requires { ⌜ 2287 ≤ length (now d) ⌝ }
+    requires { ⌜ 239 ≤ length (now d) ⌝ }
     ensures { λ _. ⌜ now (d .exit) ≡ pasted 0 (joined (recordRows r)) (now (d .entry)) ⌝ }
     ensures { λ _. ⌜ length (joined (recordRows r)) ≡ 230 ⌝ }
 {
@@ -118,12 +127,22 @@ fn put_record(d: &mut [u8], r: Record)
     put_mailbox(d, r.mask, deadman, areas);
 }
 
-// The image at the front of a buffer; one without room is kept, one of an image's length holds nothing else.
+// The head, before the journal that stands there.
+pub fn write_head(d: &mut [u8], h: Head)
+    requires { ⌜ length (now d) ≡ imageLength ⌝ }
+    ensures { λ _. ⌜ now (d .exit) ≡ imageOf (sessionAt h (journalIn (now (d .entry)))) ⌝ }
+{
+    let held = h.held;
+    let worked = h.worked;
+    put_record(&mut *d, held);
+    put_worked(d, worked, h.next, h.used);
+}
+
+// A whole session; bytes of another length are kept.
 pub fn write(s: Session, d: &mut [u8])
     ensures { λ _. ⌜ now (d .exit) ≡ writtenTo (now (d .entry)) s ⌝ }
-    ensures { λ _. ⌜ (length (now (d .entry)) ≡ 2287 → now (d .exit) ≡ imageOf s) ⌝ }
 {
-    if d.len() < 2287 {
+    if d.len() != LENGTH {
         return;
     }
     let held = s.held;
@@ -137,7 +156,7 @@ pub fn write(s: Session, d: &mut [u8])
 // ---- reading, a part at a time
 
 fn caps_in(b: &[u8]) -> Caps
-    requires { ⌜ 2287 ≤ length (now b) ⌝ }
+    requires { ⌜ 239 ≤ length (now b) ⌝ }
     ensures { λ r. ⌜ r ≡ capsIn (now (b .entry)) ⌝ }
 {
     let min = wire::be16(b, 2);
@@ -151,7 +170,7 @@ fn caps_in(b: &[u8]) -> Caps
 }
 
 fn throttles_in(b: &[u8]) -> Throttles
-    requires { ⌜ 2287 ≤ length (now b) ⌝ }
+    requires { ⌜ 239 ≤ length (now b) ⌝ }
     ensures { λ r. ⌜ r ≡ throttlesIn (now (b .entry)) ⌝ }
 {
     let present = wire::be16(b, 8);
@@ -164,7 +183,7 @@ fn throttles_in(b: &[u8]) -> Throttles
 }
 
 fn thermal_in(b: &[u8]) -> [u8; 9]
-    requires { ⌜ 2287 ≤ length (now b) ⌝ }
+    requires { ⌜ 239 ≤ length (now b) ⌝ }
     ensures { λ r. ⌜ r ≡ partAt 9 172 (now (b .entry)) ⌝ }
 {
     let mut thermal = [0u8; 9];
@@ -173,7 +192,7 @@ fn thermal_in(b: &[u8]) -> [u8; 9]
 }
 
 fn received_in(b: &[u8]) -> Received
-    requires { ⌜ 2287 ≤ length (now b) ⌝ }
+    requires { ⌜ 239 ≤ length (now b) ⌝ }
     ensures { λ r. ⌜ r ≡ receivedIn (now (b .entry)) ⌝ }
 {
     Received {
@@ -195,7 +214,7 @@ fn log_at(b: &[u8], at: usize) -> Log
 }
 
 fn logs_in(b: &[u8]) -> [Log; 4]
-    requires { ⌜ 2287 ≤ length (now b) ⌝ }
+    requires { ⌜ 239 ≤ length (now b) ⌝ }
     ensures { λ r. ⌜ r ≡ logsIn (now (b .entry)) ⌝ }
 {
     [
@@ -207,7 +226,7 @@ fn logs_in(b: &[u8]) -> [Log; 4]
 }
 
 fn deadman_in(b: &[u8]) -> Deadman
-    requires { ⌜ 2287 ≤ length (now b) ⌝ }
+    requires { ⌜ 239 ≤ length (now b) ⌝ }
     ensures { λ r. ⌜ r ≡ deadmanIn (now (b .entry)) ⌝ }
 {
     let time = wire::be64(b, 198);
@@ -218,7 +237,7 @@ fn deadman_in(b: &[u8]) -> Deadman
 }
 
 fn areas_in(b: &[u8]) -> Areas
-    requires { ⌜ 2287 ≤ length (now b) ⌝ }
+    requires { ⌜ 239 ≤ length (now b) ⌝ }
     ensures { λ r. ⌜ r ≡ areasIn (now (b .entry)) ⌝ }
 {
     let ffdc = Area {
@@ -236,7 +255,7 @@ fn areas_in(b: &[u8]) -> Areas
 }
 
 fn record_in(b: &[u8]) -> Record
-    requires { ⌜ 2287 ≤ length (now b) ⌝ }
+    requires { ⌜ 239 ≤ length (now b) ⌝ }
     ensures { λ r. ⌜ r ≡ recordIn (now (b .entry)) ⌝ }
 {
     let caps = caps_in(b);
@@ -264,7 +283,7 @@ fn record_in(b: &[u8]) -> Record
 }
 
 fn worked_in(b: &[u8]) -> Worked
-    requires { ⌜ 2287 ≤ length (now b) ⌝ }
+    requires { ⌜ 239 ≤ length (now b) ⌝ }
     ensures { λ r. ⌜ r ≡ workedIn (now (b .entry)) ⌝ }
 {
     let limit = wire::be16(b, 230);
@@ -276,40 +295,21 @@ fn worked_in(b: &[u8]) -> Worked
     }
 }
 
-fn journal_in(b: &[u8]) -> [u8; 2048]
-    requires { ⌜ 2287 ≤ length (now b) ⌝ }
-    ensures { λ r. ⌜ r ≡ partAt 2048 239 (now (b .entry)) ⌝ }
+// The head, by value; the journal stays where it stands. That lent bytes are bytes is said here, once: a call that writes nothing leaves
+// the image of what was read.
+pub fn read_head(b: &[u8]) -> Head
+    requires { ⌜ 239 ≤ length (now b) ⌝ }
+    ensures { λ h. ⌜ h ≡ headIn (now (b .entry)) ⌝ }
+    ensures { λ _. ⌜ Bytes (now (b .entry)) ⌝ }
 {
-    let mut journal = [0u8; 2048];
-    wire::copy(&mut journal, 0, &b[239..2287]);
-    journal
-}
-
-// The session of the image at the front of the bytes; too few are none, the fresh session.
-pub fn read(b: &[u8]) -> Session
-    ensures { λ s. ⌜ s ≡ readFrom (now (b .entry)) ⌝ }
-{
-    if b.len() < 2287 {
-        return session::fresh();
-    }
     let held = record_in(b);
     let worked = worked_in(b);
     let next = wire::be16(b, 235);
     let used = wire::be16(b, 237);
-    let journal = journal_in(b);
-    Session {
+    Head {
         held: held,
         worked: worked,
         next: next,
-        journal: journal,
         used: used,
     }
-}
-
-// ---- every session has what the laws ask for
-
-pub fn typed(s: Session)
-    ensures { λ _. ⌜ Typed s ⌝ }
-{
-    links::typed_session(s);
 }

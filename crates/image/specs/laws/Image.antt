@@ -18,9 +18,9 @@ use Rattle.session.specs.declared.Session.{Session}
 use Rattle.links.specs.Typed.{TypedSession}
 use Rattle.image.specs.Rows.{joined, widthsOf, rowsFrom}
 use Rattle.image.specs.laws.Rows.{length-joined, rows-joined, joined-rows}
-use Rattle.image.specs.Image.{byte, headRows, throttlesRows, thermalRows, logsRows, mailboxRows, workedRows, recordRows, sessionRows, imageOf, byteAt, partAt, numberAt, capsIn, throttlesIn, receivedIn, logAt, logsIn, deadmanIn, areasIn, recordIn, workedIn, sessionOf, readFrom}
+use Rattle.image.specs.Image.{byte, headRows, throttlesRows, thermalRows, logsRows, mailboxRows, workedRows, recordRows, sessionRows, imageOf, byteAt, partAt, numberAt, capsIn, throttlesIn, receivedIn, logAt, logsIn, deadmanIn, areasIn, recordIn, workedIn, headIn, sessionAt, sessionOf}
 
--- what the types of the fields say of a session; every value has it (`image::typed`)
+-- what the types of the fields say of a session; every value has it
 pub record Typed (s : Session) : Type 0 where
   pub session : TypedSession s
   pub limit : s .worked .limit < 256 ^ 2
@@ -126,7 +126,7 @@ module _ (s : Session) (t : Typed s) where
       }
 
   pub session-image : sessionOf (imageOf s) ≡ s
-  unfolding sessionOf rowsFrom recordWidths widths sessionRows recordRows headRows throttlesRows thermalRows logsRows mailboxRows workedRows
+  unfolding sessionOf sessionAt headIn rowsFrom recordWidths widths sessionRows recordRows headRows throttlesRows thermalRows logsRows mailboxRows workedRows
   session-image = λ i.
       record {
         held = record-image i;
@@ -149,7 +149,7 @@ module _ (b : List ℕ) (bytes : Bytes b) (long : length b ≡ 2287) where
       ap (λ (k : ℕ). toBE k (numberAt n at b)) (sym m) ∙ toBE-be (partAt n at b) (bytes-take n (drop at b) (bytes-drop at b bytes))
 
   rows-session : sessionRows (sessionOf b) ≡ rowsFrom 0 widths b
-  unfolding sessionOf recordIn capsIn throttlesIn receivedIn logAt logsIn deadmanIn areasIn workedIn rowsFrom recordWidths widths sessionRows recordRows headRows throttlesRows thermalRows logsRows mailboxRows workedRows
+  unfolding sessionOf sessionAt headIn recordIn capsIn throttlesIn receivedIn logAt logsIn deadmanIn areasIn workedIn rowsFrom recordWidths widths sessionRows recordRows headRows throttlesRows thermalRows logsRows mailboxRows workedRows
   rows-session = λ i.
       one 0 (lit< tt) i
       ∷ one 1 (lit< tt) i
@@ -191,8 +191,3 @@ module _ (b : List ℕ) (bytes : Bytes b) (long : length b ≡ 2287) where
   pub image-session : imageOf (sessionOf b) ≡ b
   unfolding imageOf recordWidths widths sumOf
   image-session = ap joined rows-session ∙ joined-rows 0 widths b ∙ take-all 2287 b (omega arith)
-
--- bytes that are an image and nothing else are read as they stand
-pub read-whole : (b : List ℕ) → length b ≡ 2287 → sessionOf b ≡ readFrom b
-unfolding readFrom
-read-whole b long = else-lt freshSession (sessionOf b) {m = length b} {n = 2287} (omega arith) refl

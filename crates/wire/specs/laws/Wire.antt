@@ -9,7 +9,7 @@ use native.Mathlib.Omega.{arith}
 use lib.Arith.{digits-div, digits-mod}
 use borrow.Author.Tests.{eqb-true}
 use lib.Dec.{lit<, eqb}
-use lib.ListN.{length, take, drop, replicate, length-append, length-take, length-drop, take-append-drop, length-replicate}
+use lib.ListN.{length, getD, take, drop, replicate, length-append, length-take, length-drop, take-append-drop, length-replicate}
 use lib.Seq.{length-take-le, take-at, drop-at, drop-drop, take-all, take-append-seam, drop-append-add}
 use Rattle.wire.specs.laws.Cases.{if-eq}
 use Rattle.wire.specs.Wire.{beOnto, beNat, toBE, pasted, allAre}
@@ -80,6 +80,11 @@ part-fits n at r h =
     let l : length (take n (drop at r)) ≤ n = simp length-take (omega arith) in
     lt-of-lt-of-le (be-fits (take n (drop at r)) (bytes-take n (drop at r) (bytes-drop at r h))) (pow-le-pow-right (lit< tt) l)
 
+-- what is a byte at each place is a list of bytes
+pub bytes-of : (b : List ℕ) → ((i : ℕ) → getD b i 0 < 256) → Bytes b
+bytes-of [] h = tt
+bytes-of (x ∷ xs) h = (h 0, bytes-of xs (λ i. h (suc i)))
+
 -- the part of lent bytes from a place to their end
 pub tail-part : (j : List ℕ) (at : ℕ) → take (length j - at) (drop at j) ≡ drop at j
 tail-part j at = take-all (length j - at) (drop at j) (simp length-drop (omega arith))
@@ -102,6 +107,13 @@ module _ (at : ℕ) (bs d : List ℕ) (fits : at + length bs ≤ length d) where
   drop-pasted =
       ap (drop (at + length bs)) (sym (append-assoc (take at d) bs (drop (at + length bs) d)))
       ∙ drop-at (take at d ++ bs) (drop (at + length bs) d) (at + length bs) (length-append (take at d) bs ∙ ap (λ (n : ℕ). n + length bs) (length-take-le at d (omega arith)))
+
+-- what stands at a place, written there again
+pub paste-self : (at n : ℕ) (d : List ℕ) → at + n ≤ length d → pasted at (take n (drop at d)) d ≡ d
+unfolding pasted
+paste-self at n d h =
+    let l : length (take n (drop at d)) ≡ n = length-take-le n (drop at d) (simp length-drop (omega arith)) in
+    rw (l, ← drop-drop n at d, take-append-drop, take-append-drop)
 
 -- bytes written after those that were written from the front
 pub paste-next : (at : ℕ) (xs bs d : List ℕ) → at ≡ length xs → pasted at bs (pasted 0 xs d) ≡ pasted 0 (xs ++ bs) d

@@ -1,0 +1,19 @@
+use Rattle.image.proofs.Standing.{head-stands}
+use borrow.Author.Needs.{needs}
+use Rattle.image.proofs.write_head.Statement.{statement}
+use Rattle.image.proofs.write_head.Tie as tie
+
+put-record-requires : tie.Need-put-record-requires
+put-record-requires c κs = search needs
+
+put-worked-requires : tie.Need-put-worked-requires
+put-worked-requires c κs = search needs
+
+same-length : tie.Need-same-length
+same-length c = search needs
+
+returns : tie.Need-returns
+returns c = head-stands (c .before .before .before .before .before .before .before .before .before .before .before .args .d .now) (c .before .before .before .before .before .before .before .before .before .before .before .pre) _ _ _ (c .before .before .before .before .before .before .put-record .ensures .1) (c .before .before .before .before .before .before .put-record .ensures .0) (c .before .before .put-worked .ensures)
+
+pub write-head-spec : {M : Type 1} → statement M
+write-head-spec = tie.close (tie.spec put-record-requires put-worked-requires same-length returns)

@@ -19,10 +19,9 @@ use Rattle.change.specs.declared.Tables.{Tables}
 use Rattle.occ.specs.declared.Verdict.{Verdict}
 use Rattle.occ.specs.declared.Verdict.the-variants.{Refuse, Poll, Make}
 use Rattle.occ.specs.declared.Judged.{Judged}
-use Rattle.session.specs.Session.{wellFormed, carriedOf}
+use Rattle.session.specs.Session.{Carried, wellFormed, carriedOf}
 use Rattle.session.specs.laws.Session.{formed-next}
 use Rattle.session.specs.declared.Session.{Session}
-use Rattle.session.specs.declared.Carried.{Carried}
 use Rattle.occ_call.specs.declared.Outcome.{Outcome}
 use Rattle.occ_call.specs.Occ.{OccResult, answered, kept, says, knownSender, refusalOf, occRefusal, carriedSays, occMade, toldOf, verdictSays, judgedSays, askedFor, askedOf, occRead, occFrom, occCall}
 

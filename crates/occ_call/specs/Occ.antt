@@ -14,9 +14,8 @@ use Rattle.occ.specs.Judge.{plainly, judgeOf}
 use Rattle.occ.specs.declared.Verdict.{Verdict}
 use Rattle.occ.specs.declared.Verdict.the-variants.{Refuse, Poll, Make}
 use Rattle.occ.specs.declared.Judged.{Judged}
-use Rattle.session.specs.Session.{wellFormed, carriedOf}
+use Rattle.session.specs.Session.{Carried, wellFormed, carriedOf}
 use Rattle.session.specs.declared.Session.{Session}
-use Rattle.session.specs.declared.Carried.{Carried}
 use Rattle.occ_call.specs.declared.Outcome.{Outcome}
 
 -- answer and session, and the reply buffer as it is left

@@ -18,7 +18,6 @@ use Rattle.journal.specs.Add.{endOf, addedTo}
 use Rattle.journal.specs.declared.End.{End}
 use Rattle.journal.specs.declared.End.the-variants.{At, Full}
 use Rattle.session.specs.declared.Session.{Session}
-use Rattle.session.specs.declared.Carried.{Carried}
 
 -- "A session is one value: record, worked-out values, next log id, and a journal of 2,048 bytes, all zero when fresh, with its used length"
 unfoldable pub freshSession : Session
@@ -65,6 +64,11 @@ madeOf (SetAreas areas) = 0
 -- a session whose record is this one; its limit, readiness and wanted format are that record's
 unfoldable pub withHeld : Record → ℕ → List ℕ → ℕ → Session
 withHeld held next journal used = record { held = held; worked = workedOf held; next = next; journal = journal; used = used }
+
+-- the session after a change, or that its entry has no room
+pub record Carried : Type 0 where
+  pub full : Bool
+  pub session : Session
 
 -- "Each accepted command but poll adds one entry, holding what was before"; answer 5: the entry is longer than the unused journal
 unfoldable pub carriedTo : Session → Edit → End → Carried

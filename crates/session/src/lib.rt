@@ -1,12 +1,7 @@
-// The session: one value, when it is well formed, and the one function that carries a change out.
+// The session: one value, and the parts of the test whether it is well formed.
 ghost use mathlib.Core.Path.{_≡_};
-ghost use mathlib.Core.Bool.{true};
-ghost use Prim.Native.Nat.{_≤_};
-ghost use lib.ListN.{length};
-ghost use Rattle.session.specs.Session.{freshSession, workedFits, heldOk, storeOk, wellFormed, madeOf, carriedOf};
+ghost use Rattle.session.specs.Session.{freshSession, workedFits, heldOk, storeOk, madeOf};
 use change::Change;
-use change::Edit;
-use journal::End;
 use record::Record;
 use record::Worked;
 
@@ -50,7 +45,7 @@ fn worked_fits(a: Worked, b: Worked) -> bool
 }
 
 // The record, against the next id, and what is worked out from it.
-fn held_ok(held: Record, worked: Worked, next: u16) -> bool
+pub fn held_ok(held: Record, worked: Worked, next: u16) -> bool
     ensures { λ x. ⌜ x ≡ heldOk held worked next ⌝ }
 {
     if !formed::record_ok(held, next) {
@@ -60,7 +55,7 @@ fn held_ok(held: Record, worked: Worked, next: u16) -> bool
 }
 
 // The used journal reads as entries with good values, and the unused part is zero. It is read once.
-fn store_ok(j: &[u8], used: usize) -> bool
+pub fn store_ok(j: &[u8], used: usize) -> bool
     ensures { λ x. ⌜ x ≡ storeOk (now (j .entry)) used ⌝ }
 {
     if j.len() < used {
@@ -72,21 +67,10 @@ fn store_ok(j: &[u8], used: usize) -> bool
     wire::all_are(&j[used..], 0)
 }
 
-pub fn well_formed(s: Session) -> bool
-    ensures { λ x. ⌜ x ≡ wellFormed s ⌝ }
-{
-    let held = s.held;
-    let worked = s.worked;
-    if !held_ok(held, worked, s.next) {
-        return false;
-    }
-    store_ok(&s.journal, s.used as usize)
-}
-
-// ---- carrying out
+// ---- the id counter
 
 // How many logs a change makes: one for a reset with a log.
-fn made(change: Change) -> u16
+pub fn made(change: Change) -> u16
     ensures { λ n. ⌜ n ≡ madeOf change ⌝ }
 {
     match change {
@@ -103,43 +87,5 @@ fn made(change: Change) -> u16
         Change::SetMask(_) => 0,
         Change::SetDeadman(_) => 0,
         Change::SetAreas(_) => 0,
-    }
-}
-
-// The session after a change, or that its entry has no room.
-pub struct Carried {
-    pub full: bool,
-    pub session: Session,
-}
-
-// Entry, record, worked-out values and next id, in one place. Nothing else writes a record but undo, by the same road.
-pub fn carry(s: Session, e: Edit) -> Carried
-    requires { ⌜ s .next ≤ 256 ⌝ }
-    ensures { λ x. ⌜ x ≡ carriedOf s e ⌝ }
-{
-    let held = s.held;
-    let change = e.change;
-    let back = change::inverse(held, e);
-    let mut j = s.journal;
-    let end = journal::add(&mut j, s.used as usize, back);
-    let End::At(used) = end else {
-        return Carried {
-            full: true,
-            session: s,
-        };
-    };
-    let put = change::put(held, e);
-    let after = put.after;
-    let worked = record::work_out(after);
-    let next = s.next + made(change);
-    Carried {
-        full: false,
-        session: Session {
-            held: after,
-            worked: worked,
-            next: next,
-            journal: j,
-            used: used as u16,
-        },
     }
 }

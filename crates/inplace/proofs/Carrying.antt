@@ -19,9 +19,8 @@ use Rattle.change.specs.declared.Edit.{Edit}
 use Rattle.journal.specs.Add.{entryLen, endOf, addedTo}
 use Rattle.journal.specs.declared.End.{End}
 use Rattle.journal.specs.declared.End.the-variants.{At, Full}
 use Rattle.session.specs.declared.Session.{Session}
-use Rattle.session.specs.declared.Carried.{Carried}
-use Rattle.session.specs.Session.{madeOf, withHeld, carriedTo, carriedOf}
+use Rattle.session.specs.Session.{Carried, madeOf, withHeld, carriedTo, carriedOf}
 
 made-by-one : (log : Log) → madeBy log ≤ 1
 unfolding madeBy

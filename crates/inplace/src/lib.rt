@@ -10,6 +10,21 @@ use change::Edit;
 use image::Head;
 use journal::End;
 
+// A session answer, and the number beside it: the doorbell, the kind taken back, 0 where a call has none.
+pub struct Told {
+    pub answer: u8,
+    pub beside: u16,
+}
+
+pub fn answer_with(answer: u8, beside: u16) -> Told
+    ensures { λ x. ⌜ x ≡ record { answer = answer; beside = beside } ⌝ }
+{
+    Told {
+        answer: answer,
+        beside: beside,
+    }
+}
+
 // The test for answer 1, on the head that was read and the journal that stands after it.
 pub fn well_formed(lent: &[u8], h: Head) -> bool
     requires { ⌜ length (now lent) ≡ imageLength ⌝ }

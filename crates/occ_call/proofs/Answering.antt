@@ -7,7 +7,7 @@ use native.Mathlib.Omega.{arith}
 use borrow.Author.Tests.{ltb-false}
 use lib.Dec.{ltb}
 use lib.ListN.{length, getD}
-use Rattle.wire.specs.laws.Cases.{if-b, else-b, if-ne, else-ne}
+use Rattle.wire.specs.laws.Cases.{said-of, if-b, else-b, if-ne, else-ne}
 use Rattle.change.specs.declared.Change.{Change}
 use Rattle.packet.specs.Packet.{packetStatus, dataOf, replied}
 use Rattle.occ.specs.Judge.{plainly, judgeOf}
@@ -22,15 +22,13 @@ use Rattle.occ.specs.declared.Judged.{Judged}
 use Rattle.session.specs.Session.{Carried, wellFormed, carriedOf}
 use Rattle.session.specs.laws.Session.{formed-next}
 use Rattle.session.specs.declared.Session.{Session}
-use Rattle.occ_call.specs.declared.Outcome.{Outcome}
-use Rattle.occ_call.specs.Occ.{OccResult, answered, kept, says, knownSender, refusalOf, occRefusal, carriedSays, occMade, toldOf, verdictSays, judgedSays, askedFor, askedOf, occRead, occFrom, occCall}
-
--- the two halves of a result
-abbrev Halves : Outcome → List ℕ → OccResult → Type 0
-Halves x y q = (x ≡ q .outcome) × (y ≡ q .reply)
-
-halves : (x : Outcome) (y : List ℕ) (q : OccResult) → record { outcome = x; reply = y } ≡ q → Halves x y q
-halves x y q e = (ap (λ (r : OccResult). r .outcome) e, ap (λ (r : OccResult). r .reply) e)
+use Rattle.occ_call.specs.Occ.{OccResult, answered, kept, says, knownSender, refusalOf, occRefusal, carriedSays, occMade, toldOf, verdictSays, judgedSays, askedFor, askedOf, occRead, occFrom, occCall, occLeft, occOn}
+use Rattle.wire.specs.Wire.{Bytes}
+use Rattle.image.specs.declared.Head.{Head}
+use Rattle.image.specs.Image.{imageLength, imageOf, headIn, journalIn, sessionAt}
+use Rattle.inplace.specs.declared.Told.{Told}
+use Rattle.inplace.specs.InPlace.{Stands, carriedIn}
+use Rattle.inplace.specs.laws.InPlace.{Parts, parts, as-read, stands}
 
 -- no refusal is due: the session is well formed, the sender known and both buffers are long enough
 due : (a b c d : Bool) → cond {A = ℕ} (not a) 1 (cond (not b) 2 (cond c 3 (cond d 4 0))) ≡ 0 → (a ≡ true) × (c ≡ false) × (d ≡ false)
@@ -46,56 +44,94 @@ met s f n sender command reply e is none =
     let m = due f (knownSender sender) (ltb reply 4096) (ltb command 4) (sym is ∙ none) in
     (formed-next s (sym e ∙ m .0), ltb-false command 4 (m .2))
 
--- ---- what a verdict that makes no change says
+-- ---- what a verdict says
 
 told : (s : Session) (seq kind : ℕ) (d : List ℕ) (t : Tables) (v : Verdict) → (tagOf the-type v ≡ 2 → ⊥)
-    → record { outcome = answered 0 s; reply = toldOf v (s .held) (s .worked) seq kind d } ≡ verdictSays s seq kind d t v
-unfolding verdictSays says
+    → says s (toldOf v (s .held) (s .worked) seq kind d) ≡ verdictSays s seq kind d t v
+unfolding verdictSays
 told s seq kind d t (Refuse status) h = refl
 told s seq kind d t Poll h = refl
 told s seq kind d t (Make ch) h = absurd (h refl)
 
--- the reply told of a verdict is told of what it is
-pub tells : (v w : Verdict) (held : Record) (worked : Worked) (seq kind : ℕ) (d y : List ℕ) → v ≡ w → y ≡ toldOf w held worked seq kind d → y ≡ toldOf v held worked seq kind d
-tells v w held worked seq kind d y e h = h ∙ sym (ap (λ (u : Verdict). toldOf u held worked seq kind d) e)
+pub tells : (held : Record) (worked : Worked) (seq kind : ℕ) (d : List ℕ) {v w : Verdict} {y : List ℕ} → v ≡ w → y ≡ toldOf w held worked seq kind d → y ≡ toldOf v held worked seq kind d
+tells held worked seq kind d = said-of (λ (u : Verdict). toldOf u held worked seq kind d)
 
--- ---- the whole call
+-- ---- a command that is due an answer: h is the head that stands in the lent bytes b
 
-module _ (s : Session) (sender : ℕ) (c d : List ℕ) (f : Bool) (n : ℕ) (e : f ≡ wellFormed s) (is : n ≡ refusalOf f sender (length c) (length d)) where
-  by-refusal : (x : Outcome) (y : List ℕ) → record { outcome = x; reply = y } ≡ occFrom n s sender c d → Halves x y (occCall s sender c d)
-  unfolding occCall occRefusal
-  by-refusal x y h =
-      halves x y _ (h ∙ ap (λ (k : ℕ). occFrom k s sender c d) (is ∙ ap (λ (b : Bool). refusalOf b sender (length c) (length d)) e))
+module _ (h : Head) (b : List ℕ) (here : Stands h b) (sender : ℕ) (c d : List ℕ) where
+  abbrev s : Session
+  s = sessionAt h (journalIn b)
 
-  pub call-refused : (x : Outcome) → x ≡ answered n s → (n ≡ 0 → ⊥) → Halves x d (occCall s sender c d)
-  unfolding occFrom kept
-  call-refused x h z = by-refusal x d (if-ne _ _ z (λ i. record { outcome = h i; reply = d }))
+  abbrev Hears : Told → List ℕ → List ℕ → Type 0
+  Hears t y z = Parts t y z (occLeft (occRead s sender c d))
 
-  module _ (none : n ≡ 0) (j : Judged) (asked : j ≡ askedOf (s .held) (s .worked) (s .next) sender c) where
-    by-verdict : (x : Outcome) (y : List ℕ) → record { outcome = x; reply = y } ≡ verdictSays s (getD c 0 0) (getD c 1 0) d (j .tables) (j .verdict)
-        → Halves x y (occCall s sender c d)
-    unfolding occFrom occRead judgedSays
-    by-verdict x y h = by-refusal x y (else-ne _ _ none (h ∙ ap (judgedSays s (getD c 0 0) (getD c 1 0) d) asked))
+  module _ (j : Judged) (asked : j ≡ askedOf (h .held) (h .worked) (h .next) sender c) where
+    by-verdict : (q : OccResult) → q ≡ verdictSays s (getD c 0 0) (getD c 1 0) d (j .tables) (j .verdict) → occLeft q ≡ occLeft (occRead s sender c d)
+    unfolding occRead judgedSays sessionAt
+    by-verdict q e = ap occLeft (e ∙ ap (judgedSays s (getD c 0 0) (getD c 1 0) d) asked)
 
-    pub call-told : (x : Outcome) (y : List ℕ) → (tagOf the-type (j .verdict) ≡ 2 → ⊥) → x ≡ answered 0 s
-        → y ≡ toldOf (j .verdict) (s .held) (s .worked) (getD c 0 0) (getD c 1 0) d → Halves x y (occCall s sender c d)
-    call-told x y h p q =
-        by-verdict x y ((λ i. record { outcome = p i; reply = q i }) ∙ told s (getD c 0 0) (getD c 1 0) d (j .tables) (j .verdict) h)
+    pub told-in : (t : Told) (z : List ℕ) → t ≡ record { answer = 0; beside = 0 } → (tagOf the-type (j .verdict) ≡ 2 → ⊥)
+        → z ≡ toldOf (j .verdict) (h .held) (h .worked) (getD c 0 0) (getD c 1 0) d → Hears t b z
+    unfolding occLeft says answered sessionAt
+    told-in t z p n q =
+        parts t b z _ ((λ i. record { told = p i; image = here .image i; reply = q i })
+        ∙ by-verdict _ (told s (getD c 0 0) (getD c 1 0) d (j .tables) (j .verdict) n))
 
-    module _ (ch : Change) (v : j .verdict ≡ Make ch) (k : Carried) (carried : k ≡ carriedOf s (record { change = ch; tables = j .tables })) where
-      by-carried : (x : Outcome) (y : List ℕ) → record { outcome = x; reply = y } ≡ carriedSays k s (getD c 0 0) (getD c 1 0) d → Halves x y (occCall s sender c d)
+    -- a change: y are the lent bytes after it
+    module _ (ch : Change) (v : j .verdict ≡ Make ch) (t : Told) (full : Bool) (y : List ℕ)
+        (room : full ≡ carriedOf s (record { change = ch; tables = j .tables }) .full) (left : y ≡ carriedIn b (carriedOf s (record { change = ch; tables = j .tables }))) where
+      abbrev after : Carried
+      after = carriedOf s (record { change = ch; tables = j .tables })
+
+      by-carried : (q : OccResult) → q ≡ carriedSays after s (getD c 0 0) (getD c 1 0) d → occLeft q ≡ occLeft (occRead s sender c d)
       unfolding verdictSays occMade
-      by-carried x y h =
-          by-verdict x y (h ∙ ap (λ (a : Carried). carriedSays a s (getD c 0 0) (getD c 1 0) d) carried
-          ∙ sym (ap (verdictSays s (getD c 0 0) (getD c 1 0) d (j .tables)) v))
+      by-carried q e = by-verdict q (e ∙ sym (ap (verdictSays s (getD c 0 0) (getD c 1 0) d (j .tables)) v))
 
-      pub call-full : (x : Outcome) → x ≡ answered 5 s → k .full ≡ true → Halves x d (occCall s sender c d)
-      unfolding carriedSays kept
-      call-full x h g = by-carried x d (if-b _ _ g (λ i. record { outcome = h i; reply = d }))
+      pub full-in : t ≡ record { answer = 5; beside = 0 } → full ≡ true → Hears t y d
+      unfolding occLeft kept answered carriedSays carriedIn
+      full-in p g =
+          let same = left ∙ sym (if-b b (imageOf (after .session)) (sym room ∙ g) refl) ∙ here .image in
+          parts t y d _ ((λ i. record { told = p i; image = same i; reply = d }) ∙ by-carried (kept 5 s d) (if-b _ _ (sym room ∙ g) refl))
 
-      pub call-done : (x : Outcome) (y : List ℕ) → x ≡ answered 0 (k .session) → y ≡ replied (getD c 0 0) (getD c 1 0) 0x00 [] d → k .full ≡ false → Halves x y (occCall s sender c d)
-      unfolding carriedSays says
-      call-done x y h p g = by-carried x y (else-b _ _ g (λ i. record { outcome = h i; reply = p i }))
+      pub done-in : t ≡ record { answer = 0; beside = 0 } → full ≡ false → (z : List ℕ) → z ≡ replied (getD c 0 0) (getD c 1 0) 0x00 [] d → Hears t y z
+      unfolding occLeft says answered carriedSays carriedIn
+      done-in p g z q =
+          let image = left ∙ sym (else-b b (imageOf (after .session)) (sym room ∙ g) refl) in
+          parts t y z _ ((λ i. record { told = p i; image = image i; reply = q i })
+          ∙ by-carried (says (after .session) (replied (getD c 0 0) (getD c 1 0) 0x00 [] d)) (else-b _ _ (sym room ∙ g) refl))
+
+-- ---- the whole call: f says whether the session is well formed, n is the refusal that is due
+
+module _ (b : List ℕ) (long : length b ≡ imageLength) (h : Head) (read : h ≡ headIn b) (sender : ℕ) (c d : List ℕ) (f : Bool) (n : ℕ)
+    (formed : f ≡ wellFormed (sessionAt h (journalIn b))) (is : n ≡ refusalOf f sender (length c) (length d)) where
+  -- no refusal is due
+  pub met-in : n ≡ 0 → (h .next ≤ 256) × (4 ≤ length c)
+  unfolding sessionAt
+  met-in none = met (sessionAt h (journalIn b)) f n sender (length c) (length d) formed is none
+
+  by-refusal : occLeft (occFrom n (sessionAt h (journalIn b)) sender c d) ≡ occOn b sender c d
+  unfolding occOn occCall occRefusal
+  by-refusal =
+      ap (λ (k : ℕ). occLeft (occFrom k (sessionAt h (journalIn b)) sender c d)) (is ∙ ap (λ (g : Bool). refusalOf g sender (length c) (length d)) formed)
+      ∙ ap (λ (x : Session). occLeft (occCall x sender c d)) (as-read b long h read)
+      ∙ else-ne _ _ long refl
+
+  pub refused-in : Bytes b → (t : Told) → t ≡ record { answer = n; beside = 0 } → (n ≡ 0 → ⊥) → Parts t b d (occOn b sender c d)
+  unfolding occFrom occLeft kept answered
+  refused-in bytes t p z =
+      parts t b d _ ((λ i. record { told = p i; image = stands b long h read bytes .image i; reply = d })
+      ∙ ap occLeft (if-ne (kept n (sessionAt h (journalIn b)) d) (occRead (sessionAt h (journalIn b)) sender c d) z refl) ∙ by-refusal)
+
+  pub heard-in : n ≡ 0 → (t : Told) (y z : List ℕ) → Parts t y z (occLeft (occRead (sessionAt h (journalIn b)) sender c d)) → Parts t y z (occOn b sender c d)
+  unfolding occFrom
+  heard-in none t y z q =
+      parts t y z _ ((λ i. record { told = q .0 i; image = q .1 .0 i; reply = q .1 .1 i })
+      ∙ ap occLeft (else-ne (kept n (sessionAt h (journalIn b)) d) (occRead (sessionAt h (journalIn b)) sender c d) none refl) ∙ by-refusal)
+
+-- bytes that are no image
+pub no-image : (b : List ℕ) → (length b ≡ imageLength → ⊥) → (sender : ℕ) (c d : List ℕ) (t : Told) → t ≡ record { answer = 1; beside = 0 } → Parts t b d (occOn b sender c d)
+unfolding occOn
+no-image b z sender c d t p = parts t b d _ (if-ne _ _ z (λ i. record { told = p i; image = b; reply = d }))
 
 -- ---- what a command asks for
 

@@ -16,7 +16,12 @@ use Rattle.occ.specs.declared.Verdict.the-variants.{Refuse, Poll, Make}
 use Rattle.occ.specs.declared.Judged.{Judged}
 use Rattle.session.specs.Session.{Carried, wellFormed, carriedOf}
 use Rattle.session.specs.declared.Session.{Session}
-use Rattle.occ_call.specs.declared.Outcome.{Outcome}
+use Rattle.image.specs.Image.{imageLength, imageOf, sessionOf}
+use Rattle.inplace.specs.InPlace.{Left, noImage}
+
+pub record Outcome : Type 0 where
+  pub answer : ℕ
+  pub session : Session
 
 -- answer and session, and the reply buffer as it is left
 pub record OccResult : Type 0 where
@@ -87,3 +92,11 @@ occFrom n s sender c d = cond (not (eqb n 0)) (kept n s d) (occRead s sender c d
 
 unfoldable pub occCall : Session → ℕ → List ℕ → List ℕ → OccResult
 occCall s sender c d = occFrom (occRefusal s sender (length c) (length d)) s sender c d
+
+-- ---- on a session that is lent as its image's bytes
+
+unfoldable pub occLeft : OccResult → Left
+occLeft q = record { told = record { answer = q .outcome .answer; beside = 0 }; image = imageOf (q .outcome .session); reply = q .reply }
+
+unfoldable pub occOn : List ℕ → ℕ → List ℕ → List ℕ → Left
+occOn b sender c d = cond (not (eqb (length b) imageLength)) (noImage b d) (occLeft (occCall (sessionOf b) sender c d))

@@ -1,29 +1,17 @@
-// The call `occ`: a command buffer from a sender, answered on a session. Refuse first, read, judge, carry out, reply last.
+// The call `occ`: a command buffer from a sender, answered on a lent session. Refuse first, read, judge, carry out, reply last.
 ghost use mathlib.Core.Path.{_≡_};
 ghost use Prim.Native.Nat.{_≤_};
 ghost use lib.ListN.{length};
-ghost use Rattle.occ_call.specs.Occ.{answered, knownSender, refusalOf, askedOf, toldOf, occCall};
+ghost use Rattle.occ_call.specs.Occ.{knownSender, refusalOf, askedOf, toldOf, occRead, occLeft, occOn};
+ghost use Rattle.image.specs.Image.{journalIn, sessionAt};
+ghost use Rattle.inplace.specs.InPlace.{Stands};
 use change::Edit;
+use image::Head;
+use inplace::Told;
 use occ::Judged;
 use occ::Verdict;
 use record::Record;
 use record::Worked;
-use session::Session;
-
-// What a call comes to; the reply stands in the lent buffer.
-pub struct Outcome {
-    pub answer: u8,
-    pub session: Session,
-}
-
-fn answer_with(n: u8, s: Session) -> Outcome
-    ensures { λ x. ⌜ x ≡ answered n s ⌝ }
-{
-    Outcome {
-        answer: n,
-        session: s,
-    }
-}
 
 // HTMGT or the BMC.
 fn known_sender(sender: u8) -> bool
@@ -78,39 +66,54 @@ fn tell(verdict: Verdict, held: Record, worked: Worked, seq: u8, kind: u8, reply
     }
 }
 
-// The session stands in this function and in those it hands it to, and no deeper: each frame that isn't inlined copies it.
-pub fn occ(s: Session, sender: u8, command: &[u8], reply: &mut [u8]) -> Outcome
-    ensures { λ x. ⌜ x ≡ occCall s sender (now (command .entry)) (now (reply .entry)) .outcome ⌝ }
-    ensures { λ _. ⌜ now (reply .exit) ≡ occCall s sender (now (command .entry)) (now (reply .entry)) .reply ⌝ }
+// A command that is due an answer: judged, carried out if it asks for a change, and replied to.
+fn hear(lent: &mut [u8], h: Head, sender: u8, command: &[u8], reply: &mut [u8]) -> Told
+    requires { ⌜ Stands h (now lent) × (h .next ≤ 256) × (4 ≤ length (now command)) ⌝ }
+    ensures { λ x. ⌜ x ≡ occLeft (occRead (sessionAt h (journalIn (now (lent .entry)))) sender (now (command .entry)) (now (reply .entry))) .told ⌝ }
+    ensures { λ _. ⌜ now (lent .exit) ≡ occLeft (occRead (sessionAt h (journalIn (now (lent .entry)))) sender (now (command .entry)) (now (reply .entry))) .image ⌝ }
+    ensures { λ _. ⌜ now (reply .exit) ≡ occLeft (occRead (sessionAt h (journalIn (now (lent .entry)))) sender (now (command .entry)) (now (reply .entry))) .reply ⌝ }
 {
-    let formed = session::well_formed(s);
-    let n = refusal(formed, sender, command.len(), reply.len());
-    if n != 0 {
-        return answer_with(n, s);
-    }
-    let held = s.held;
-    let worked = s.worked;
+    let held = h.held;
+    let worked = h.worked;
     let seq = command[0];
     let kind = command[1];
-    let asked = ask(held, worked, s.next, sender, command);
+    let asked = ask(held, worked, h.next, sender, command);
     let verdict = asked.verdict;
     let tables = asked.tables;
     let Verdict::Make(change) = verdict else {
         tell(verdict, held, worked, seq, kind, reply);
-        return answer_with(0, s);
+        return inplace::answer_with(0, 0);
     };
-    let carried = session::carry(
-        s,
+    let full = inplace::carry(
+        lent,
+        h,
         Edit {
             change: change,
             tables: tables,
         },
     );
-    let after = carried.session;
-    if carried.full {
-        return answer_with(5, s);
+    if full {
+        return inplace::answer_with(5, 0);
     }
     let nothing = [0u8; 1];
     packet::reply(reply, seq, kind, 0x00, &nothing[..0]);
-    answer_with(0, after)
+    inplace::answer_with(0, 0)
+}
+
+// The public call, on a session that is lent as its image's bytes.
+pub fn occ(lent: &mut [u8], sender: u8, command: &[u8], reply: &mut [u8]) -> Told
+    ensures { λ x. ⌜ x ≡ occOn (now (lent .entry)) sender (now (command .entry)) (now (reply .entry)) .told ⌝ }
+    ensures { λ _. ⌜ now (lent .exit) ≡ occOn (now (lent .entry)) sender (now (command .entry)) (now (reply .entry)) .image ⌝ }
+    ensures { λ _. ⌜ now (reply .exit) ≡ occOn (now (lent .entry)) sender (now (command .entry)) (now (reply .entry)) .reply ⌝ }
+{
+    if lent.len() != image::LENGTH {
+        return inplace::answer_with(1, 0);
+    }
+    let h = image::read_head(&*lent);
+    let formed = inplace::well_formed(&*lent, h);
+    let n = refusal(formed, sender, command.len(), reply.len());
+    if n != 0 {
+        return inplace::answer_with(n, 0);
+    }
+    hear(lent, h, sender, command, reply)
 }

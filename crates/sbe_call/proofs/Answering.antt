@@ -7,8 +7,8 @@ use native.Mathlib.Omega.{arith}
 use borrow.Author.Tests.{ltb-false}
 use lib.Dec.{ltb}
 use lib.ListN.{length}
-use Rattle.wire.specs.Wire.{pasted}
-use Rattle.wire.specs.laws.Cases.{if-b, else-b, if-ne, else-ne}
+use Rattle.wire.specs.Wire.{Bytes, pasted}
+use Rattle.wire.specs.laws.Cases.{said-of, if-b, else-b, if-ne, else-ne}
 use Rattle.change.specs.Change.{noTables}
 use Rattle.change.specs.declared.Change.{Change}
 use Rattle.sbe.specs.Mailbox.{requestVerdict, bellOf, responseBytes}
@@ -17,18 +17,15 @@ use Rattle.sbe.specs.declared.Verdict.the-variants.{Refuse, Make}
 use Rattle.session.specs.Session.{Carried, wellFormed, carriedOf}
 use Rattle.session.specs.laws.Session.{formed-next}
 use Rattle.session.specs.declared.Session.{Session}
-use Rattle.sbe_call.specs.declared.Rung.{Rung}
-use Rattle.sbe_call.specs.Sbe.{SbeResult, rung, kept, responds, refusalOf, sbeRefusal, carriedSays, sbeMade, toldOf, verdictSays, sbeFrom, sbeCall}
+use Rattle.sbe_call.specs.Sbe.{SbeResult, rung, kept, responds, refusalOf, sbeRefusal, carriedSays, sbeMade, toldOf, verdictSays, sbeRead, sbeFrom, sbeCall, sbeLeft, sbeOn}
+use Rattle.image.specs.declared.Head.{Head}
+use Rattle.image.specs.Image.{imageLength, imageOf, headIn, journalIn, sessionAt}
+use Rattle.inplace.specs.declared.Told.{Told}
+use Rattle.inplace.specs.InPlace.{Stands, carriedIn}
+use Rattle.inplace.specs.laws.InPlace.{Parts, parts, as-read, stands}
 use Rattle.sbe.proofs.Verdict.{the-type}
 use denote.Enum.Declared.{tagOf}
 use Rattle.change.specs.declared.Tables.{Tables}
-
--- the two halves of a result
-abbrev Halves : Rung → List ℕ → SbeResult → Type 0
-Halves x y q = (x ≡ q .outcome) × (y ≡ q .reply)
-
-halves : (x : Rung) (y : List ℕ) (q : SbeResult) → record { outcome = x; reply = y } ≡ q → Halves x y q
-halves x y q e = (ap (λ (r : SbeResult). r .outcome) e, ap (λ (r : SbeResult). r .reply) e)
 
 -- no refusal is due: the session is well formed and both buffers are long enough
 due : (b c d : Bool) → cond {A = ℕ} (not b) 1 (cond c 3 (cond d 4 0)) ≡ 0 → (b ≡ true) × (c ≡ false) × (d ≡ false)
@@ -43,50 +40,90 @@ met s f n request reply e is none =
     let m = due f (ltb reply 32) (ltb request 32) (sym is ∙ none) in
     (formed-next s (sym e ∙ m .0), ltb-false request 32 (m .2), ltb-false reply 32 (m .1))
 
--- what a verdict that makes no change says
+-- ---- what a verdict says
+
 told : (s : Session) (r d : List ℕ) (v : Verdict) → (tagOf the-type v ≡ 1 → ⊥) → record { outcome = rung 0 (bellOf r) s; reply = toldOf v r d } ≡ verdictSays s r d v
 unfolding verdictSays responds toldOf
 told s r d (Refuse p q) h = refl
 told s r d (Make ch) h = absurd (h refl)
 
--- the reply told of a verdict is told of what it is
-pub tells : (v w : Verdict) (r d y : List ℕ) → v ≡ w → y ≡ toldOf w r d → y ≡ toldOf v r d
-tells v w r d y e h = h ∙ sym (ap (λ (u : Verdict). toldOf u r d) e)
+pub tells : (r d : List ℕ) {v w : Verdict} {y : List ℕ} → v ≡ w → y ≡ toldOf w r d → y ≡ toldOf v r d
+tells r d = said-of (λ (u : Verdict). toldOf u r d)
 
--- ---- the whole call
+-- ---- a request that is due an answer: h is the head that stands in the lent bytes b
 
-module _ (s : Session) (r d : List ℕ) (f : Bool) (n : ℕ) (e : f ≡ wellFormed s) (is : n ≡ refusalOf f (length r) (length d)) where
-  by-refusal : (x : Rung) (y : List ℕ) → record { outcome = x; reply = y } ≡ sbeFrom n s r d → Halves x y (sbeCall s r d)
-  unfolding sbeCall sbeRefusal
-  by-refusal x y h = halves x y _ (h ∙ ap (λ (k : ℕ). sbeFrom k s r d) (is ∙ ap (λ (b : Bool). refusalOf b (length r) (length d)) e))
+module _ (h : Head) (b : List ℕ) (here : Stands h b) (r d : List ℕ) where
+  abbrev s : Session
+  s = sessionAt h (journalIn b)
 
-  pub call-refused : (x : Rung) → x ≡ rung n 0 s → (n ≡ 0 → ⊥) → Halves x d (sbeCall s r d)
-  unfolding sbeFrom kept
-  call-refused x h z = by-refusal x d (if-ne _ _ z (λ i. record { outcome = h i; reply = d }))
+  abbrev Hears : Told → List ℕ → List ℕ → Type 0
+  Hears t y z = Parts t y z (sbeLeft (sbeRead s r d))
 
-  module _ (none : n ≡ 0) (v : Verdict) (judged : v ≡ requestVerdict r) (bell : ℕ) (rings : bell ≡ bellOf r) where
-    by-verdict : (x : Rung) (y : List ℕ) → record { outcome = x; reply = y } ≡ verdictSays s r d v → Halves x y (sbeCall s r d)
-    unfolding sbeFrom
-    by-verdict x y h = by-refusal x y (else-ne _ _ none (h ∙ ap (verdictSays s r d) judged))
+  module _ (v : Verdict) (judged : v ≡ requestVerdict r) (bell : ℕ) (rings : bell ≡ bellOf r) where
+    by-verdict : (q : SbeResult) → q ≡ verdictSays s r d v → sbeLeft q ≡ sbeLeft (sbeRead s r d)
+    unfolding sbeRead
+    by-verdict q e = ap sbeLeft (e ∙ ap (verdictSays s r d) judged)
 
-    pub call-told : (x : Rung) (y : List ℕ) → (tagOf the-type v ≡ 1 → ⊥) → x ≡ rung 0 bell s → y ≡ toldOf v r d → Halves x y (sbeCall s r d)
-    call-told x y h p q =
-        let o = p ∙ ap (λ (k : ℕ). rung 0 k s) rings in
-        by-verdict x y ((λ i. record { outcome = o i; reply = q i }) ∙ told s r d v h)
+    pub told-in : (t : Told) (z : List ℕ) → t ≡ record { answer = 0; beside = bell } → (tagOf the-type v ≡ 1 → ⊥) → z ≡ toldOf v r d → Hears t b z
+    unfolding sbeLeft rung
+    told-in t z p n q =
+        let rung-as-asked = p ∙ (λ i. record { answer = 0; beside = rings i }) in
+        parts t b z _ ((λ i. record { told = rung-as-asked i; image = here .image i; reply = q i }) ∙ by-verdict _ (told s r d v n))
 
-    module _ (ch : Change) (makes : v ≡ Make ch) (t : Tables) (none-beside : t ≡ noTables) (k : Carried) (carried : k ≡ carriedOf s (record { change = ch; tables = t })) where
-      by-carried : (x : Rung) (y : List ℕ) → record { outcome = x; reply = y } ≡ carriedSays k s r d → Halves x y (sbeCall s r d)
+    -- a change: y are the lent bytes after it
+    module _ (ch : Change) (makes : v ≡ Make ch) (tables : Tables) (none-beside : tables ≡ noTables) (t : Told) (full : Bool) (y : List ℕ)
+        (room : full ≡ carriedOf s (record { change = ch; tables = tables }) .full) (left : y ≡ carriedIn b (carriedOf s (record { change = ch; tables = tables }))) where
+      abbrev after : Carried
+      after = carriedOf s (record { change = ch; tables = tables })
+
+      by-carried : (q : SbeResult) → q ≡ carriedSays after s r d → sbeLeft q ≡ sbeLeft (sbeRead s r d)
       unfolding verdictSays sbeMade
-      by-carried x y h =
-          by-verdict x y (h ∙ ap (λ (a : Carried). carriedSays a s r d) (carried ∙ ap (λ (u : Tables). carriedOf s (record { change = ch; tables = u })) none-beside)
-          ∙ sym (ap (verdictSays s r d) makes))
+      by-carried q e =
+          by-verdict q (e ∙ ap (λ (u : Tables). carriedSays (carriedOf s (record { change = ch; tables = u })) s r d) none-beside ∙ sym (ap (verdictSays s r d) makes))
 
-      pub call-full : (x : Rung) → x ≡ rung 5 0 s → k .full ≡ true → Halves x d (sbeCall s r d)
-      unfolding carriedSays kept
-      call-full x h g = by-carried x d (if-b _ _ g (λ i. record { outcome = h i; reply = d }))
+      pub full-in : t ≡ record { answer = 5; beside = 0 } → full ≡ true → Hears t y d
+      unfolding sbeLeft kept rung carriedSays carriedIn
+      full-in p g =
+          let same = left ∙ sym (if-b b (imageOf (after .session)) (sym room ∙ g) refl) ∙ here .image in
+          parts t y d _ ((λ i. record { told = p i; image = same i; reply = d }) ∙ by-carried (kept 5 s d) (if-b _ _ (sym room ∙ g) refl))
 
-      pub call-done : (x : Rung) (y : List ℕ) → x ≡ rung 0 bell (k .session) → y ≡ pasted 0 (responseBytes 0x00 0x00 r) d → k .full ≡ false → Halves x y (sbeCall s r d)
-      unfolding carriedSays responds
-      call-done x y h p g =
-          let o = h ∙ ap (λ (b : ℕ). rung 0 b (k .session)) rings in
-          by-carried x y (else-b _ _ g (λ i. record { outcome = o i; reply = p i }))
+      pub done-in : t ≡ record { answer = 0; beside = bell } → full ≡ false → (z : List ℕ) → z ≡ pasted 0 (responseBytes 0x00 0x00 r) d → Hears t y z
+      unfolding sbeLeft responds rung carriedSays carriedIn
+      done-in p g z q =
+          let rung-as-asked = p ∙ (λ i. record { answer = 0; beside = rings i }) in
+          let image = left ∙ sym (else-b b (imageOf (after .session)) (sym room ∙ g) refl) in
+          parts t y z _ ((λ i. record { told = rung-as-asked i; image = image i; reply = q i })
+          ∙ by-carried (responds (after .session) 0x00 0x00 r d) (else-b _ _ (sym room ∙ g) refl))
+
+-- ---- the whole call: f says whether the session is well formed, n is the refusal that is due
+
+module _ (b : List ℕ) (long : length b ≡ imageLength) (h : Head) (read : h ≡ headIn b) (r d : List ℕ) (f : Bool) (n : ℕ)
+    (formed : f ≡ wellFormed (sessionAt h (journalIn b))) (is : n ≡ refusalOf f (length r) (length d)) where
+  -- no refusal is due
+  pub met-in : n ≡ 0 → (h .next ≤ 256) × (32 ≤ length r) × (32 ≤ length d)
+  unfolding sessionAt
+  met-in none = met (sessionAt h (journalIn b)) f n (length r) (length d) formed is none
+
+  by-refusal : sbeLeft (sbeFrom n (sessionAt h (journalIn b)) r d) ≡ sbeOn b r d
+  unfolding sbeOn sbeCall sbeRefusal
+  by-refusal =
+      ap (λ (k : ℕ). sbeLeft (sbeFrom k (sessionAt h (journalIn b)) r d)) (is ∙ ap (λ (g : Bool). refusalOf g (length r) (length d)) formed)
+      ∙ ap (λ (x : Session). sbeLeft (sbeCall x r d)) (as-read b long h read)
+      ∙ else-ne _ _ long refl
+
+  pub refused-in : Bytes b → (t : Told) → t ≡ record { answer = n; beside = 0 } → (n ≡ 0 → ⊥) → Parts t b d (sbeOn b r d)
+  unfolding sbeFrom sbeLeft kept rung
+  refused-in bytes t p z =
+      parts t b d _ ((λ i. record { told = p i; image = stands b long h read bytes .image i; reply = d })
+      ∙ ap sbeLeft (if-ne (kept n (sessionAt h (journalIn b)) d) (sbeRead (sessionAt h (journalIn b)) r d) z refl) ∙ by-refusal)
+
+  pub heard-in : n ≡ 0 → (t : Told) (y z : List ℕ) → Parts t y z (sbeLeft (sbeRead (sessionAt h (journalIn b)) r d)) → Parts t y z (sbeOn b r d)
+  unfolding sbeFrom
+  heard-in none t y z q =
+      parts t y z _ ((λ i. record { told = q .0 i; image = q .1 .0 i; reply = q .1 .1 i })
+      ∙ ap sbeLeft (else-ne (kept n (sessionAt h (journalIn b)) d) (sbeRead (sessionAt h (journalIn b)) r d) none refl) ∙ by-refusal)
+
+-- bytes that are no image
+pub no-image : (b : List ℕ) → (length b ≡ imageLength → ⊥) → (r d : List ℕ) (t : Told) → t ≡ record { answer = 1; beside = 0 } → Parts t b d (sbeOn b r d)
+unfolding sbeOn
+no-image b z r d t p = parts t b d _ (if-ne _ _ z (λ i. record { told = p i; image = b; reply = d }))

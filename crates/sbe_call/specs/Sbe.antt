@@ -12,7 +12,13 @@ use Rattle.sbe.specs.declared.Verdict.{Verdict}
 use Rattle.sbe.specs.declared.Verdict.the-variants.{Refuse, Make}
 use Rattle.session.specs.Session.{Carried, wellFormed, carriedOf}
 use Rattle.session.specs.declared.Session.{Session}
-use Rattle.sbe_call.specs.declared.Rung.{Rung}
+use Rattle.image.specs.Image.{imageLength, imageOf, sessionOf}
+use Rattle.inplace.specs.InPlace.{Left, noImage}
+
+pub record Rung : Type 0 where
+  pub answer : ℕ
+  pub bell : ℕ
+  pub session : Session
 
 -- answer, doorbell and session, and the reply buffer as it is left
 pub record SbeResult : Type 0 where
@@ -53,8 +59,20 @@ unfoldable pub verdictSays : Session → List ℕ → List ℕ → Verdict → S
 verdictSays s r d (Refuse primary secondary) = responds s primary secondary r d
 verdictSays s r d (Make change) = sbeMade s change r d
 
+-- a request that is due an answer
+unfoldable pub sbeRead : Session → List ℕ → List ℕ → SbeResult
+sbeRead s r d = verdictSays s r d (requestVerdict r)
+
 unfoldable pub sbeFrom : ℕ → Session → List ℕ → List ℕ → SbeResult
-sbeFrom n s r d = cond (not (eqb n 0)) (kept n s d) (verdictSays s r d (requestVerdict r))
+sbeFrom n s r d = cond (not (eqb n 0)) (kept n s d) (sbeRead s r d)
 
 unfoldable pub sbeCall : Session → List ℕ → List ℕ → SbeResult
 sbeCall s r d = sbeFrom (sbeRefusal s (length r) (length d)) s r d
+
+-- ---- on a session that is lent as its image's bytes: the doorbell stands beside the answer
+
+unfoldable pub sbeLeft : SbeResult → Left
+sbeLeft q = record { told = record { answer = q .outcome .answer; beside = q .outcome .bell }; image = imageOf (q .outcome .session); reply = q .reply }
+
+unfoldable pub sbeOn : List ℕ → List ℕ → List ℕ → Left
+sbeOn b r d = cond (not (eqb (length b) imageLength)) (noImage b d) (sbeLeft (sbeCall (sessionOf b) r d))

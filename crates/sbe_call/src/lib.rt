@@ -1,28 +1,14 @@
-// The call `sbe`: a mailbox request, answered on a session. Refuse first, judge, carry out, respond and ring last.
+// The call `sbe`: a mailbox request, answered on a lent session. Refuse first, judge, carry out, respond and ring last.
 ghost use mathlib.Core.Path.{_≡_};
 ghost use Prim.Native.Nat.{_≤_};
 ghost use lib.ListN.{length};
-ghost use Rattle.sbe_call.specs.Sbe.{rung, refusalOf, toldOf, sbeCall};
+ghost use Rattle.sbe_call.specs.Sbe.{refusalOf, toldOf, sbeRead, sbeLeft, sbeOn};
+ghost use Rattle.image.specs.Image.{journalIn, sessionAt};
+ghost use Rattle.inplace.specs.InPlace.{Stands};
 use change::Edit;
+use image::Head;
+use inplace::Told;
 use sbe::Verdict;
-use session::Session;
-
-// What a call comes to; the response stands in the lent buffer.
-pub struct Rung {
-    pub answer: u8,
-    pub bell: u16,
-    pub session: Session,
-}
-
-fn ring(n: u8, bell: u16, s: Session) -> Rung
-    ensures { λ x. ⌜ x ≡ rung n bell s ⌝ }
-{
-    Rung {
-        answer: n,
-        bell: bell,
-        session: s,
-    }
-}
 
 // Answers 1, 3 and 4 in document 01's order, 0 where none is due.
 fn refusal(formed: bool, request: usize, reply: usize) -> u8
@@ -51,34 +37,49 @@ fn tell(verdict: Verdict, request: &[u8], reply: &mut [u8])
     }
 }
 
-// The session stands in this function and in those it hands it to, and no deeper: each frame that isn't inlined copies it.
-pub fn sbe(s: Session, request: &[u8], reply: &mut [u8]) -> Rung
-    ensures { λ x. ⌜ x ≡ sbeCall s (now (request .entry)) (now (reply .entry)) .outcome ⌝ }
-    ensures { λ _. ⌜ now (reply .exit) ≡ sbeCall s (now (request .entry)) (now (reply .entry)) .reply ⌝ }
+// A request that is due an answer: judged, carried out if it asks for a change, and responded to.
+fn hear(lent: &mut [u8], h: Head, request: &[u8], reply: &mut [u8]) -> Told
+    requires { ⌜ Stands h (now lent) × (h .next ≤ 256) × (32 ≤ length (now request)) × (32 ≤ length (now reply)) ⌝ }
+    ensures { λ x. ⌜ x ≡ sbeLeft (sbeRead (sessionAt h (journalIn (now (lent .entry)))) (now (request .entry)) (now (reply .entry))) .told ⌝ }
+    ensures { λ _. ⌜ now (lent .exit) ≡ sbeLeft (sbeRead (sessionAt h (journalIn (now (lent .entry)))) (now (request .entry)) (now (reply .entry))) .image ⌝ }
+    ensures { λ _. ⌜ now (reply .exit) ≡ sbeLeft (sbeRead (sessionAt h (journalIn (now (lent .entry)))) (now (request .entry)) (now (reply .entry))) .reply ⌝ }
 {
-    let formed = session::well_formed(s);
-    let n = refusal(formed, request.len(), reply.len());
-    if n != 0 {
-        return ring(n, 0, s);
-    }
     let verdict = sbe::judge(request);
     let bell = sbe::bell(request);
     let Verdict::Make(change) = verdict else {
         tell(verdict, request, reply);
-        return ring(0, bell, s);
+        return inplace::answer_with(0, bell);
     };
     let tables = change::no_tables();
-    let carried = session::carry(
-        s,
+    let full = inplace::carry(
+        lent,
+        h,
         Edit {
             change: change,
             tables: tables,
         },
     );
-    let after = carried.session;
-    if carried.full {
-        return ring(5, 0, s);
+    if full {
+        return inplace::answer_with(5, 0);
     }
     sbe::respond(reply, request, 0x00, 0x00);
-    ring(0, bell, after)
+    inplace::answer_with(0, bell)
+}
+
+// The public call, on a session that is lent as its image's bytes; the doorbell stands beside the answer.
+pub fn sbe(lent: &mut [u8], request: &[u8], reply: &mut [u8]) -> Told
+    ensures { λ x. ⌜ x ≡ sbeOn (now (lent .entry)) (now (request .entry)) (now (reply .entry)) .told ⌝ }
+    ensures { λ _. ⌜ now (lent .exit) ≡ sbeOn (now (lent .entry)) (now (request .entry)) (now (reply .entry)) .image ⌝ }
+    ensures { λ _. ⌜ now (reply .exit) ≡ sbeOn (now (lent .entry)) (now (request .entry)) (now (reply .entry)) .reply ⌝ }
+{
+    if lent.len() != image::LENGTH {
+        return inplace::answer_with(1, 0);
+    }
+    let h = image::read_head(&*lent);
+    let formed = inplace::well_formed(&*lent, h);
+    let n = refusal(formed, request.len(), reply.len());
+    if n != 0 {
+        return inplace::answer_with(n, 0);
+    }
+    hear(lent, h, request, reply)
 }

@@ -21,7 +21,7 @@ use Rattle.sbe.specs.declared.Verdict.the-variants.{Refuse, Make}
 use Rattle.session.specs.Session.{wellFormed, carriedOf}
 use Rattle.session.specs.laws.Session.{formed, none-due, carried-worked}
 use Rattle.session.specs.declared.Session.{Session}
-use Rattle.sbe_call.specs.Sbe.{SbeResult, rung, kept, responds, refusalOf, sbeRefusal, carriedSays, sbeMade, verdictSays, sbeFrom, sbeCall}
+use Rattle.sbe_call.specs.Sbe.{SbeResult, rung, kept, responds, refusalOf, sbeRefusal, carriedSays, sbeMade, verdictSays, sbeRead, sbeFrom, sbeCall}
 
 abbrev pub edit : Change → Edit
 edit ch = record { change = ch; tables = noTables }
@@ -43,7 +43,7 @@ module _ (s : Session) (r d : List ℕ) where
   came-verdict (Make ch) w e = came-carried ch w e
 
   pub came : Came (sbeCall s r d)
-  unfolding sbeCall sbeFrom sbeRefusal refusalOf
+  unfolding sbeCall sbeFrom sbeRead sbeRefusal refusalOf
   came =
       cond-cases Came (not (eqb (sbeRefusal s (length r) (length d)) 0))
       (λ f. refused _ (eqb-false _ 0 (not-true _ f)))

@@ -12,8 +12,7 @@ use Rattle.occ_call.specs.declared.Outcome.{Outcome}
 use Rattle.occ_call.specs.Occ.{occCall}
 use Rattle.sbe_call.specs.declared.Rung.{Rung}
 use Rattle.sbe_call.specs.Sbe.{sbeCall}
-use Rattle.undo_call.specs.declared.Undone.{Undone}
-use Rattle.undo_call.specs.Undo.{undoCall}
+use Rattle.undo_call.specs.Undo.{Undone, undoCall}
 use Rattle.bjargolsk.specs.Calls.{packed, Left, Replied, freshOn, undoAnswered, undoOn, occAnswered, occOn, sbeAnswered, sbeOn}
 
 -- what a call leaves, part by part

@@ -8,8 +8,7 @@ use Rattle.session.specs.Session.{freshSession}
 use Rattle.image.specs.Image.{imageOf, sessionOf}
 use Rattle.occ_call.specs.Occ as occ
 use Rattle.sbe_call.specs.Sbe as sbe
-use Rattle.undo_call.specs.declared.Undone.{Undone}
-use Rattle.undo_call.specs.Undo.{undoCall}
+use Rattle.undo_call.specs.Undo.{Undone, undoCall}
 
 -- the answer in the low 16 bits, the doorbell or the kind in the high 16
 unfoldable pub packed : ℕ → ℕ → ℕ

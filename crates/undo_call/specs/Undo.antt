@@ -1,7 +1,8 @@
 -- Document 01, "The journal" and "Session answers": what the call `undo` comes to, for every session.
 use Prim.Native.Nat.{ℕ, _-_}
 use mathlib.Core.Bool.{cond, not}
-use lib.ListN.{take, drop}
+use mathlib.Core.List.{List, []}
+use lib.ListN.{length, take, drop}
 use lib.Dec.{eqb}
 use Rattle.change.specs.Change.{kindOf, putOf}
 use Rattle.change.specs.declared.Tables.{Tables}
@@ -18,7 +19,14 @@ use Rattle.journal.specs.declared.Found.the-variants.{Good, Bad}
 use Rattle.journal.specs.declared.Got.{Got}
 use Rattle.session.specs.Session.{wellFormed, withHeld}
 use Rattle.session.specs.declared.Session.{Session}
-use Rattle.undo_call.specs.declared.Undone.{Undone}
+use Rattle.image.specs.Image.{imageLength, imageOf, sessionOf}
+use Rattle.inplace.specs.InPlace.{Left, noImage}
+
+-- answer, the kind taken back (0 when refused), and session
+pub record Undone : Type 0 where
+  pub answer : ℕ
+  pub kind : ℕ
+  pub session : Session
 
 -- refused: the session unchanged, kind 0
 unfoldable pub notUndone : ℕ → Session → Undone
@@ -54,9 +62,18 @@ undoneRead s (Whole count newest) = undoneAt s newest
 undoneRead s (Unknown at) = notUndone 1 s
 undoneRead s (Cut at) = notUndone 1 s
 
--- 1: session not well formed; 6: undo with an empty journal
+-- 6: undo with an empty journal
+unfoldable pub undoneNewest : Session → Undone
+undoneNewest s = cond (eqb (s .used) 0) (notUndone 6 s) (undoneRead s (readingOf (scan (take (s .used) (s .journal)))))
+
+-- 1: session not well formed
 unfoldable pub undoCall : Session → Undone
-undoCall s =
-    cond (not (wellFormed s)) (notUndone 1 s)
-    (cond (eqb (s .used) 0) (notUndone 6 s)
-    (undoneRead s (readingOf (scan (take (s .used) (s .journal))))))
+undoCall s = cond (not (wellFormed s)) (notUndone 1 s) (undoneNewest s)
+
+-- ---- on a session that is lent as its image's bytes: the kind stands beside the answer
+
+unfoldable pub undoLeft : Undone → Left
+undoLeft u = record { told = record { answer = u .answer; beside = u .kind }; image = imageOf (u .session); reply = [] }
+
+unfoldable pub undoOn : List ℕ → Left
+undoOn b = cond (not (eqb (length b) imageLength)) (noImage b []) (undoLeft (undoCall (sessionOf b)))

@@ -1,99 +1,91 @@
 // The call `undo`: the newest change is taken back. The record and all that is worked out from it; the next id stays.
+ghost use mathlib.Core.Bool.{true};
 ghost use mathlib.Core.Path.{_≡_};
 ghost use Prim.Native.Nat.{_≤_};
-ghost use Rattle.journal.specs.Add.{cutFrom};
-ghost use Rattle.undo_call.specs.Undo.{notUndone, undoneWith, undoCall};
+ghost use Rattle.session.specs.Session.{wellFormed};
+ghost use Rattle.image.specs.Image.{journalIn, sessionAt};
+ghost use Rattle.inplace.specs.InPlace.{Stands};
+ghost use Rattle.undo_call.specs.Undo.{undoneWith, undoneNewest, undoLeft, undoOn};
 use change::Edit;
 use entries::Reading;
+use image::Head;
+use inplace::Told;
 use journal::Found;
-use session::Session;
 
-// What a call comes to; the kind is 0 when refused.
-pub struct Undone {
-    pub answer: u8,
-    pub kind: u8,
-    pub session: Session,
-}
-
-fn refuse_with(n: u8, s: Session) -> Undone
-    ensures { λ x. ⌜ x ≡ notUndone n s ⌝ }
+// The change `e`, which holds what was before and whose entry starts at `at` of the journal, is put into the record, and the entry is zeroed.
+fn take_back(lent: &mut [u8], h: Head, at: usize, e: Edit) -> Told
+    requires { ⌜ Stands h (now lent) × (at ≤ h .used) × (h .used ≤ 2048) ⌝ }
+    ensures { λ x. ⌜ x ≡ undoLeft (undoneWith (sessionAt h (journalIn (now (lent .entry)))) at e) .told ⌝ }
+    ensures { λ _. ⌜ now (lent .exit) ≡ undoLeft (undoneWith (sessionAt h (journalIn (now (lent .entry)))) at e) .image ⌝ }
 {
-    Undone {
-        answer: n,
-        kind: 0,
-        session: s,
-    }
-}
-
-// The journal with the entry from `at` on zeroed.
-fn without_entry(j: [u8; 2048], at: usize, used: usize) -> [u8; 2048]
-    ensures { λ x. ⌜ x ≡ cutFrom at used j ⌝ }
-{
-    let mut x = j;
-    journal::cut(&mut x, at, used);
-    x
-}
-
-// The change `e`, which holds what was before and whose entry starts at `at`, is put into the record, and the entry is zeroed.
-fn take_back(s: Session, at: usize, e: Edit) -> Undone
-    requires { ⌜ at ≤ s .used ⌝ }
-    ensures { λ x. ⌜ x ≡ undoneWith s at e ⌝ }
-{
-    let held = s.held;
+    let held = h.held;
     let change = e.change;
     let put = change::put(held, e);
     let after = put.after;
     if !put.ok {
-        return refuse_with(7, s);
+        return inplace::answer_with(7, 0);
     }
-    if !formed::record_ok(after, s.next) {
-        return refuse_with(7, s);
+    if !formed::record_ok(after, h.next) {
+        return inplace::answer_with(7, 0);
     }
     let worked = record::work_out(after);
-    let j = s.journal;
-    let left = without_entry(j, at, s.used as usize);
-    Undone {
-        answer: 0,
-        kind: change::kind(change),
-        session: Session {
+    journal::cut(&mut lent[239..2287], at, h.used as usize);
+    image::write_head(
+        lent,
+        Head {
             held: after,
             worked: worked,
-            next: s.next,
-            journal: left,
+            next: h.next,
             used: at as u16,
         },
-    }
+    );
+    inplace::answer_with(0, change::kind(change) as u16)
 }
 
-// The session stands in this function and in those it hands it to, deeper only to be the answer's: each frame that isn't inlined copies it.
 // A well-formed session reads as entries with good values; what the two `else` answer can't come.
-pub fn undo(s: Session) -> Undone
-    ensures { λ x. ⌜ x ≡ undoCall s ⌝ }
+fn take_newest(lent: &mut [u8], h: Head) -> Told
+    requires { ⌜ Stands h (now lent) × (wellFormed (sessionAt h (journalIn (now lent))) ≡ true) ⌝ }
+    ensures { λ x. ⌜ x ≡ undoLeft (undoneNewest (sessionAt h (journalIn (now (lent .entry))))) .told ⌝ }
+    ensures { λ _. ⌜ now (lent .exit) ≡ undoLeft (undoneNewest (sessionAt h (journalIn (now (lent .entry))))) .image ⌝ }
 {
-    if !session::well_formed(s) {
-        return refuse_with(1, s);
-    }
-    let used = s.used as usize;
+    let used = h.used as usize;
     if used == 0 {
-        return refuse_with(6, s);
+        return inplace::answer_with(6, 0);
     }
-    let j = s.journal;
-    let reading = entries::read(&j[..used]);
+    let end = 239 + used;
+    let reading = entries::read(&lent[239..end]);
     let Reading::Whole { count: _, newest } = reading else {
-        return refuse_with(1, s);
+        return inplace::answer_with(1, 0);
     };
-    let got = journal::get(&j[newest..used]);
+    let start = 239 + newest;
+    let got = journal::get(&lent[start..end]);
     let found = got.found;
     let tables = got.tables;
     let Found::Good(change) = found else {
-        return refuse_with(1, s);
+        return inplace::answer_with(1, 0);
     };
     take_back(
-        s,
+        lent,
+        h,
         newest,
         Edit {
             change: change,
             tables: tables,
         },
     )
+}
+
+// The public call, on a session that is lent as its image's bytes; the kind stands beside the answer.
+pub fn undo(lent: &mut [u8]) -> Told
+    ensures { λ x. ⌜ x ≡ undoOn (now (lent .entry)) .told ⌝ }
+    ensures { λ _. ⌜ now (lent .exit) ≡ undoOn (now (lent .entry)) .image ⌝ }
+{
+    if lent.len() != image::LENGTH {
+        return inplace::answer_with(1, 0);
+    }
+    let h = image::read_head(&*lent);
+    if !inplace::well_formed(&*lent, h) {
+        return inplace::answer_with(1, 0);
+    }
+    take_newest(lent, h)
 }

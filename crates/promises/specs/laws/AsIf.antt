@@ -16,8 +16,7 @@ use Rattle.journal.specs.Bytes.{entryBytes}
 use Rattle.journal.specs.laws.Ends.{length-entry}
 use Rattle.session.specs.Session.{withHeld, madeOf, carriedOf}
 use Rattle.session.specs.declared.Session.{Session}
-use Rattle.undo_call.specs.Undo.{notUndone, undoCall}
-use Rattle.undo_call.specs.declared.Undone.{Undone}
+use Rattle.undo_call.specs.Undo.{Undone, notUndone, undoCall}
 use Rattle.promises.specs.Calls.{Call, said}
 use Rattle.promises.specs.History.{Deed, keeps, adds, strikes, deed, Mark, marked, left, logsMade, replay, Run, next-run, OfBytes}
 use Rattle.promises.specs.laws.ByHistory.{length-padded, journalOf, byHistory, Kept, Sane}

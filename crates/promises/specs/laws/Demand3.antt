@@ -26,8 +26,7 @@ use Rattle.session.specs.Session.{wellFormed, withHeld, madeOf, carriedOf}
 use Rattle.session.specs.declared.Session.{Session}
 use Rattle.occ_call.specs.Occ as occs
 use Rattle.sbe_call.specs.Sbe as sbes
-use Rattle.undo_call.specs.Undo.{notUndone, undoCall}
-use Rattle.undo_call.specs.declared.Undone.{Undone}
+use Rattle.undo_call.specs.Undo.{Undone, notUndone, undoCall}
 use Rattle.links.specs.Typed.{TypedRecord}
 use Rattle.links.specs.laws.Made.{Made}
 use Rattle.promises.specs.Calls.{Call, occ, sbe, undo, said}

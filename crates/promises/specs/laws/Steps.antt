@@ -27,8 +27,7 @@ use Rattle.journal.specs.declared.End.the-variants.{At, Full}
 use Rattle.journal.specs.declared.Found.the-variants.{Good}
 use Rattle.session.specs.Session.{withHeld, madeOf, carriedTo, carriedOf}
 use Rattle.session.specs.declared.Session.{Session}
-use Rattle.undo_call.specs.declared.Undone.{Undone}
-use Rattle.undo_call.specs.Undo.{notUndone, undone, undonePut, undoneWith, undoneFound, undoneGot, undoneAt, undoneRead, undoCall}
+use Rattle.undo_call.specs.Undo.{Undone, notUndone, undone, undonePut, undoneWith, undoneFound, undoneGot, undoneAt, undoneRead, undoCall}
 use Rattle.links.specs.laws.Made.{Made}
 use Rattle.links.specs.laws.Links.{Link, link, next-up}
 use Rattle.promises.specs.History.{replay}

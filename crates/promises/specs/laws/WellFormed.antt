@@ -25,8 +25,7 @@ use Rattle.occ_call.specs.laws.Came as occ-came
 use Rattle.sbe_call.specs.Sbe as sbes
 use Rattle.sbe_call.specs.laws.Came as sbe-came
 use Rattle.undo_call.specs.laws.Came as undo-came
-use Rattle.undo_call.specs.Undo.{notUndone, undone, undoCall}
-use Rattle.undo_call.specs.declared.Undone.{Undone}
+use Rattle.undo_call.specs.Undo.{Undone, notUndone, undone, undoCall}
 use Rattle.journal.specs.laws.Ends.{end-at, length-added, added-reads, added-unused}
 use Rattle.journal.specs.declared.End.{End}
 use Rattle.session.specs.Session.{wellFormed, withHeld, madeOf, carriedTo, carriedOf}

@@ -22,8 +22,7 @@ use Rattle.journal.specs.declared.Got.{Got}
 use Rattle.session.specs.Session.{wellFormed, withHeld}
 use Rattle.session.specs.laws.Session.{formed}
 use Rattle.session.specs.declared.Session.{Session}
-use Rattle.undo_call.specs.declared.Undone.{Undone}
-use Rattle.undo_call.specs.Undo.{notUndone, undone, undonePut, undoneWith, undoneFound, undoneGot, undoneAt, undoneRead, undoCall}
+use Rattle.undo_call.specs.Undo.{Undone, notUndone, undone, undonePut, undoneWith, undoneFound, undoneGot, undoneAt, undoneRead, undoneNewest, undoCall}
 
 module _ (s : Session) where
   abbrev pub newest : ℕ → Got
@@ -65,7 +64,7 @@ module _ (s : Session) where
   came-read w (Cut at) e = refuses 0
 
   pub came : Came (undoCall s)
-  unfolding undoCall
+  unfolding undoCall undoneNewest
   came =
       cond-cases Came (not (wellFormed s)) (λ f. refuses 0)
       (λ w. cond-cases Came (eqb (s .used) 0) (λ f. refuses 5)

@@ -10,7 +10,7 @@ use lib.Arith.{digits-div, digits-mod}
 use borrow.Author.Tests.{eqb-true}
 use lib.Dec.{lit<, eqb}
 use lib.ListN.{length, getD, take, drop, replicate, length-append, length-take, length-drop, take-append-drop, length-replicate}
-use lib.Seq.{length-take-le, take-at, drop-at, drop-drop, take-all, take-append-seam, drop-append-add}
+use lib.Seq.{length-take-le, take-take, take-at, drop-at, drop-drop, take-all, take-append-seam, drop-append-add}
 use Rattle.wire.specs.laws.Cases.{if-eq}
 use Rattle.wire.specs.Wire.{beOnto, beNat, toBE, pasted, allAre}
 use Rattle.wire.specs.Wire.{Bytes}
@@ -88,6 +88,13 @@ bytes-of (x ∷ xs) h = (h 0, bytes-of xs (λ i. h (suc i)))
 -- the part of lent bytes from a place to their end
 pub tail-part : (j : List ℕ) (at : ℕ) → take (length j - at) (drop at j) ≡ drop at j
 tail-part j at = take-all (length j - at) (drop at j) (simp length-drop (omega arith))
+
+-- a part of a part
+pub part-of-part : (m at n : ℕ) (l : List ℕ) → at + m ≤ n → take m (drop at (take n l)) ≡ take m (drop at l)
+part-of-part m zero n l h = take-take m n l (omega arith)
+part-of-part m (suc at) zero l h = let z : ⊥ = omega arith in absurd z
+part-of-part m (suc at) (suc n) [] h = refl
+part-of-part m (suc at) (suc n) (x ∷ l) h = part-of-part m at n l (omega arith)
 
 -- ---- bytes pasted into a buffer
 

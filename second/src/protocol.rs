@@ -358,3 +358,31 @@ pub fn for_each_line(
         each(&lines.take(), false)
     }
 }
+
+#[cfg(test)]
+mod tests {
+    use super::*;
+
+    fn number(line: &str, most: u64) -> Result<u64, Complaint> {
+        Scanner { line: line.as_bytes(), at: 0 }.number(most)
+    }
+
+    #[test]
+    fn numbers_up_to_what_64_bits_hold() {
+        let most = u64::MAX;
+        assert_eq!(number(" 18446744073709551615x", most), Ok(most));
+        assert_eq!(number("000018446744073709551615", most), Ok(most));
+        let over = |column: usize| Err(format!("? number over 18446744073709551615 at column {column}"));
+        assert_eq!(number("18446744073709551616", most), over(1));
+        assert_eq!(number("\t 99999999999999999999", most), over(3));
+        assert_eq!(number("0", 0), Ok(0));
+        assert_eq!(number("1", 0), Err("? number over 0 at column 1".to_string()));
+    }
+
+    #[test]
+    fn a_number_is_due_up_to_the_end_of_the_line() {
+        assert_eq!(number("", 9), Err("? number expected at column 1".to_string()));
+        assert_eq!(number("  \t", 9), Err("? number expected at column 4".to_string()));
+        assert_eq!(number("  a1", 9), Err("? number expected at column 3".to_string()));
+    }
+}

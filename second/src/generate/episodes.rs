@@ -76,8 +76,8 @@ impl Generator {
     /// Calls that are refused for another reason, or not at all, with each length of reply buffer.
     fn every_buffer(&mut self) {
         for length in BUFFER_LENGTHS {
-            self.line("fresh", &[]);
             self.buffer(length);
+            self.line("fresh", &[]);
             self.framed(0x10, 0x21, &[FORMAT_ROLE, 1]);
             self.framed(0x11, 0x00, &[0x10]);
             self.occ(0x20, &[1, 0, 0]);

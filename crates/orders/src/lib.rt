@@ -4,8 +4,8 @@ ghost use Prim.Native.Nat.{_≤_, _-_};
 ghost use lib.ListN.{length};
 ghost use Rattle.io.specs.Counts.{Counts};
 ghost use Rattle.wire.specs.Wire.{pasted};
-ghost use Rattle.text.specs.Text.{run};
-ghost use Rattle.orders.specs.Orders.{plainly, wrongAt, viewOf, wordOf, aloneOf, bytesBy, imageBy, ReadsAs, got, occOf, sbeOf, sendOf, loadOf, callOf, orderAt, remark, orderOf, lineLength, lineIn};
+ghost use Rattle.text.specs.Text.{hexRun};
+ghost use Rattle.orders.specs.Orders.{plainly, wrongAt, viewOf, wordOf, aloneOf, bytesBy, imageBy, ReadsAs, ordered, occOf, sbeOf, sendOf, loadOf, callOf, orderAt, remark, orderOf, lineLength, lineIn};
 use text::Fault;
 use text::Taken;
 
@@ -184,8 +184,8 @@ fn with_image(taken: Taken) -> Order
 // At most `room` bytes, put from `at` on.
 fn take(line: &[u8], from: usize, sent: &mut [u8], at: usize, room: usize) -> Taken
     requires { ⌜ (at ≤ 2) × (room ≤ 8193) × (8198 ≤ length (now sent)) ⌝ }
-    ensures { λ r. ⌜ ReadsAs (run (now (line .entry)) from room) (r .count) (r .fault) ⌝ }
-    ensures { λ _. ⌜ now (sent .exit) ≡ pasted at ((run (now (line .entry)) from room) .bytes) (now (sent .entry)) ⌝ }
+    ensures { λ r. ⌜ ReadsAs (hexRun (now (line .entry)) from room) (r .count) (r .fault) ⌝ }
+    ensures { λ _. ⌜ now (sent .exit) ≡ pasted at ((hexRun (now (line .entry)) from room) .bytes) (now (sent .entry)) ⌝ }
     ensures { λ r. ⌜ r .count ≤ room ⌝ }
 {
     let end = at + room;
@@ -195,7 +195,7 @@ fn take(line: &[u8], from: usize, sent: &mut [u8], at: usize, room: usize) -> Ta
 // The sender stands at 0, the command from 1 on.
 fn occ(line: &[u8], from: usize, sent: &mut [u8]) -> Order
     requires { ⌜ (length (now line) ≤ 32768) × (8198 ≤ length (now sent)) ⌝ }
-    ensures { λ r. ⌜ got r (now (sent .exit)) ≡ occOf (now (line .entry)) from (now (sent .entry)) ⌝ }
+    ensures { λ r. ⌜ ordered r (now (sent .exit)) ≡ occOf (now (line .entry)) from (now (sent .entry)) ⌝ }
     ensures { λ r. ⌜ r .count ≤ 8192 ⌝ }
 {
     let taken = take(line, from, sent, 0, 8193);
@@ -204,7 +204,7 @@ fn occ(line: &[u8], from: usize, sent: &mut [u8]) -> Order
 
 fn sbe(line: &[u8], from: usize, sent: &mut [u8]) -> Order
     requires { ⌜ (length (now line) ≤ 32768) × (8198 ≤ length (now sent)) ⌝ }
-    ensures { λ r. ⌜ got r (now (sent .exit)) ≡ sbeOf (now (line .entry)) from (now (sent .entry)) ⌝ }
+    ensures { λ r. ⌜ ordered r (now (sent .exit)) ≡ sbeOf (now (line .entry)) from (now (sent .entry)) ⌝ }
     ensures { λ r. ⌜ r .count ≤ 8192 ⌝ }
 {
     let taken = take(line, from, sent, 0, 8192);
@@ -214,7 +214,7 @@ fn sbe(line: &[u8], from: usize, sent: &mut [u8]) -> Order
 // The sender stands at 2, the type at 3, and the data from 4 on, where they stand in a packet.
 fn send(line: &[u8], from: usize, sent: &mut [u8]) -> Order
     requires { ⌜ (length (now line) ≤ 32768) × (8198 ≤ length (now sent)) ⌝ }
-    ensures { λ r. ⌜ got r (now (sent .exit)) ≡ sendOf (now (line .entry)) from (now (sent .entry)) ⌝ }
+    ensures { λ r. ⌜ ordered r (now (sent .exit)) ≡ sendOf (now (line .entry)) from (now (sent .entry)) ⌝ }
     ensures { λ r. ⌜ r .count ≤ 8192 ⌝ }
 {
     let taken = take(line, from, sent, 2, 8188);
@@ -223,7 +223,7 @@ fn send(line: &[u8], from: usize, sent: &mut [u8]) -> Order
 
 fn load(line: &[u8], from: usize, sent: &mut [u8]) -> Order
     requires { ⌜ 8198 ≤ length (now sent) ⌝ }
-    ensures { λ r. ⌜ got r (now (sent .exit)) ≡ loadOf (now (line .entry)) from (now (sent .entry)) ⌝ }
+    ensures { λ r. ⌜ ordered r (now (sent .exit)) ≡ loadOf (now (line .entry)) from (now (sent .entry)) ⌝ }
     ensures { λ r. ⌜ r .count ≤ 8192 ⌝ }
 {
     with_image(take(line, from, sent, 0, IMAGE))
@@ -231,7 +231,7 @@ fn load(line: &[u8], from: usize, sent: &mut [u8]) -> Order
 
 fn read_call(call: Call, line: &[u8], from: usize, sent: &mut [u8]) -> Order
     requires { ⌜ (length (now line) ≤ 32768) × (8198 ≤ length (now sent)) ⌝ }
-    ensures { λ r. ⌜ got r (now (sent .exit)) ≡ callOf call (now (line .entry)) from (now (sent .entry)) ⌝ }
+    ensures { λ r. ⌜ ordered r (now (sent .exit)) ≡ callOf call (now (line .entry)) from (now (sent .entry)) ⌝ }
     ensures { λ r. ⌜ r .count ≤ 8192 ⌝ }
 {
     match call {
@@ -249,7 +249,7 @@ fn read_call(call: Call, line: &[u8], from: usize, sent: &mut [u8]) -> Order
 // The line's word stands from `at` on.
 fn read_word(line: &[u8], at: usize, sent: &mut [u8]) -> Order
     requires { ⌜ (at ≤ length (now line)) × (length (now line) ≤ 32768) × (8198 ≤ length (now sent)) ⌝ }
-    ensures { λ r. ⌜ got r (now (sent .exit)) ≡ orderAt (now (line .entry)) at (now (sent .entry)) ⌝ }
+    ensures { λ r. ⌜ ordered r (now (sent .exit)) ≡ orderAt (now (line .entry)) at (now (sent .entry)) ⌝ }
     ensures { λ r. ⌜ r .count ≤ 8192 ⌝ }
 {
     let rest = &line[at..];
@@ -276,7 +276,7 @@ fn is_remark(line: &[u8], at: usize) -> bool
 
 fn read_line(line: &[u8], sent: &mut [u8]) -> Order
     requires { ⌜ 8198 ≤ length (now sent) ⌝ }
-    ensures { λ r. ⌜ got r (now (sent .exit)) ≡ orderOf (now (line .entry)) (now (sent .entry)) ⌝ }
+    ensures { λ r. ⌜ ordered r (now (sent .exit)) ≡ orderOf (now (line .entry)) (now (sent .entry)) ⌝ }
     ensures { λ r. ⌜ r .count ≤ 8192 ⌝ }
 {
     if MOST_LINE < line.len() {
@@ -306,7 +306,7 @@ fn line_len(s: &[u8]) -> usize
 
 // The order of a line without its line feed. A buffer that is too short for the longest command takes no order.
 pub fn read(s: &[u8], sent: &mut [u8]) -> Order
-    ensures { λ r. ⌜ (8198 ≤ length (now (sent .entry)) → got r (now (sent .exit)) ≡ orderOf (lineIn (now (s .entry))) (now (sent .entry))) ⌝ }
+    ensures { λ r. ⌜ (8198 ≤ length (now (sent .entry)) → ordered r (now (sent .exit)) ≡ orderOf (lineIn (now (s .entry))) (now (sent .entry))) ⌝ }
     ensures { λ r. ⌜ r .count ≤ 8192 ⌝ }
 {
     if sent.len() < ROOM {

@@ -4,7 +4,7 @@ ghost use mathlib.Core.Path.{_≡_};
 ghost use Prim.Native.Nat.{_≤_, _<_};
 ghost use lib.ListN.{length};
 ghost use Rattle.io.specs.Counts.{Counts};
-ghost use Rattle.text.specs.Text.{blank, inWord, other, leading, pastBlanks, digitOf, digitAt, run, Takes, sameText, sheet, putOn, putAll, hexDigit, hexOf, hexes, spaced, PutsDecimal};
+ghost use Rattle.text.specs.Text.{blank, inWord, other, leading, pastBlanks, digitOf, digitAt, hexRun, Takes, sameText, sheet, putOn, putAll, hexDigit, hexOf, hexes, spaced, PutsDecimal};
 
 // ---- reading
 
@@ -135,7 +135,7 @@ pub struct Taken {
 
 // Reads bytes of two hex digits each, blanks before, between and after them, from `from` to the end of `s`, into `out`.
 pub fn take_bytes(s: &[u8], from: usize, out: &mut [u8]) -> Taken
-    ensures { λ r. ⌜ Takes (run (now (s .entry)) from (length (now (out .entry)))) (now (out .entry)) (now (out .exit)) (r .count) (r .fault) ⌝ }
+    ensures { λ r. ⌜ Takes (hexRun (now (s .entry)) from (length (now (out .entry)))) (now (out .entry)) (now (out .exit)) (r .count) (r .fault) ⌝ }
     ensures { λ r. ⌜ Counts (r .count) (now (out .exit)) ⌝ }
 {
     let mut n = 0;

@@ -9,19 +9,24 @@ use lib.ListN.{length, take, drop, length-take, length-drop, take-append-drop}
 use lib.Seq.{drop-append-le, drop-drop}
 use Rattle.wire.specs.Wire.{pasted}
 use Rattle.wire.specs.Laws.{tail-part}
-use Rattle.wire.specs.Cases.{if-b, else-b, if-lt, else-lt, if-ne, else-ne}
+use Rattle.wire.specs.Cases.{if-b, else-b, if-lt, else-lt, if-le, else-le, if-ne, else-ne}
 use Rattle.text.specs.declared.Fault.{Fault}
 use Rattle.text.specs.declared.Fault.the-variants.{Nothing, Digit, Over}
+use Rattle.text.specs.declared.Number.{Number}
+use Rattle.text.specs.declared.Number.the-variants.{Missing, TooGreat, Is}
 use Rattle.text.specs.Text.{inWord, leading, pastBlanks, HexRun, hexRun, Takes}
+use Rattle.text.specs.Numbers.{numberAt}
 use Rattle.orders.specs.declared.Call.{Call}
 use Rattle.orders.specs.declared.Call.the-variants.{Load}
 use Rattle.orders.specs.declared.View.{View}
+use Rattle.orders.specs.declared.Buffer.{Buffer}
+use Rattle.orders.specs.declared.Buffer.the-variants.{Whole, Bytes}
 use Rattle.orders.specs.declared.Wrong.{Wrong}
-use Rattle.orders.specs.declared.Wrong.the-variants.{LongLine, MoreText, NoDigit, TooMany, NoImage}
+use Rattle.orders.specs.declared.Wrong.the-variants.{LongLine, MoreText, NoDigit, TooMany, NoImage, NoNumber, LongBuffer}
 use Rattle.orders.specs.declared.Word.{Word}
-use Rattle.orders.specs.declared.Word.the-variants.{Make, Look, Fail, Skip}
+use Rattle.orders.specs.declared.Word.the-variants.{Make, Look, Lend, Fail, Skip}
 use Rattle.orders.specs.declared.Order.{Order}
-use Rattle.orders.specs.Orders.{plainly, wrongAt, wordOf, aloneAt, aloneOf, bytesBy, imageBy, ReadsAs, Ordered, ordered, callOf, orderBy, wordLength, orderAt, remark, orderFrom, orderOf, lineLength, lineIn}
+use Rattle.orders.specs.Orders.{plainly, wrongAt, wordOf, aloneAt, aloneOf, bytesBy, imageBy, sizeBy, bufferAt, bufferOf, ReadsAs, Ordered, ordered, callOf, orderBy, wordLength, orderAt, remark, orderFrom, orderOf, lineLength, lineIn, orderIn}
 
 -- ---- by what follows
 
@@ -33,6 +38,30 @@ module _ (w : Word) (line : List ℕ) {place place′ : ℕ} {r : Order} (e : pl
   pub alone-only : length line ≤ place → r ≡ plainly w → r ≡ aloneAt w line place′
   unfolding aloneAt
   alone-only k h = else-lt _ _ k h ∙ ap (λ (n : ℕ). aloneAt w line n) e
+
+-- ---- by the number
+
+module _ (line : List ℕ) (column : ℕ) {x : Number} {r : Order} where
+  pub size-none : x ≡ Missing → r ≡ wrongAt NoNumber column → r ≡ sizeBy x line column
+  unfolding sizeBy
+  size-none e h = h ∙ sym (ap (λ (y : Number). sizeBy y line column) e)
+
+  pub size-over : x ≡ TooGreat → r ≡ wrongAt LongBuffer column → r ≡ sizeBy x line column
+  unfolding sizeBy
+  size-over e h = h ∙ sym (ap (λ (y : Number). sizeBy y line column) e)
+
+  pub size-is : {n past : ℕ} → x ≡ Is n past → r ≡ aloneOf (Lend (Bytes n)) line past → r ≡ sizeBy x line column
+  unfolding sizeBy
+  size-is e h = h ∙ sym (ap (λ (y : Number). sizeBy y line column) e)
+
+module _ (line : List ℕ) {place place′ : ℕ} {r : Order} (e : place ≡ place′) where
+  pub buffer-whole : length line ≤ place → r ≡ plainly (Lend Whole) → r ≡ bufferAt line place′
+  unfolding bufferAt
+  buffer-whole k h = if-le _ _ k h ∙ ap (λ (n : ℕ). bufferAt line n) e
+
+  pub buffer-size : {x : Number} → place < length line → x ≡ numberAt line place 8192 → r ≡ sizeBy x line (place + 1) → r ≡ bufferAt line place′
+  unfolding bufferAt
+  buffer-size k is h = else-le _ _ k (h ∙ ap (λ (y : Number). sizeBy y line (place + 1)) is) ∙ ap (λ (n : ℕ). bufferAt line n) e
 
 -- ---- by the fault
 
@@ -126,6 +155,10 @@ module _ (line : List ℕ) (at end : ℕ) (d : List ℕ) {w : Word} where
   unfolding orderBy
   order-look e h = kept d h ∙ sym (ap (λ (x : Word). orderBy x line at end d) e)
 
+  pub order-lend : {b : Buffer} {r : Order} → w ≡ Lend b → r ≡ bufferOf line end → ordered r d ≡ orderBy w line at end d
+  unfolding orderBy
+  order-lend e h = kept d h ∙ sym (ap (λ (x : Word). orderBy x line at end d) e)
+
   pub order-fail : {x : Wrong} {r : Order} → w ≡ Fail x → r ≡ wrongAt x (at + 1) → ordered r d ≡ orderBy w line at end d
   unfolding orderBy
   order-fail e h = kept d h ∙ sym (ap (λ (x : Word). orderBy x line at end d) e)
@@ -162,5 +195,11 @@ module _ (line d : List ℕ) where
     pub order-word : {g : Ordered} → remark line at ≡ false → g ≡ orderAt line at d → g ≡ orderOf line d
     order-word k e = order-from (else-b _ _ k e)
 
-pub line-as : (s d : List ℕ) {n : ℕ} {g : Ordered} → n ≡ lineLength s → g ≡ orderOf (take n s) d → g ≡ orderOf (lineIn s) d
-line-as s d e h = h ∙ ap (λ (m : ℕ). orderOf (take m s) d) e
+module _ (s d : List ℕ) where
+  pub line-short : {r : Order} → length d < 8198 → r ≡ plainly Skip → ordered r d ≡ orderIn s d
+  unfolding orderIn
+  line-short h e = if-lt _ _ h (kept d e)
+
+  pub line-as : {n : ℕ} {g : Ordered} → 8198 ≤ length d → n ≡ lineLength s → g ≡ orderOf (take n s) d → g ≡ orderIn s d
+  unfolding orderIn
+  line-as h e k = else-lt _ _ h (k ∙ ap (λ (m : ℕ). orderOf (take m s) d) e)

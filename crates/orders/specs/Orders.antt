@@ -1,4 +1,4 @@
--- docs/PROTOCOL.md, "Lines", "Bytes" and "Words": the order that a line gives. Text is a list of ASCII numbers.
+-- docs/PROTOCOL.md, "Lines", "Bytes", "Numbers" and "Words": the order that a line gives. Text is a list of ASCII numbers.
 use Prim.Native.Nat.{ℕ, _+_, _-_}
 use mathlib.Core.Bool.{Bool, true, cond, not}
 use mathlib.Core.Path.{_≡_}
@@ -8,14 +8,18 @@ use lib.ListN.{length, take, drop, getD}
 use Rattle.wire.specs.Wire.{pasted}
 use Rattle.text.specs.declared.Fault.{Fault}
 use Rattle.text.specs.declared.Fault.the-variants.{Nothing, Digit, Over}
+use Rattle.text.specs.declared.Number.{Number}
+use Rattle.text.specs.declared.Number.the-variants.{Missing, TooGreat, Is}
 use Rattle.text.specs.Text.{inWord, leading, pastBlanks, sameText, HexRun, hexRun}
+use Rattle.text.specs.Numbers.{numberAt}
 use Rattle.orders.specs.declared.Call.{Call}
 use Rattle.orders.specs.declared.Call.the-variants.{Occ, Sbe, Send, Load, Undo, Fresh}
 use Rattle.orders.specs.declared.View.the-variants.{Image, Show, Journal, Help}
+use Rattle.orders.specs.declared.Buffer.the-variants.{Whole, Bytes}
 use Rattle.orders.specs.declared.Wrong.{Wrong}
-use Rattle.orders.specs.declared.Wrong.the-variants.{LongLine, NoWord, MoreText, NoDigit, TooMany, NoImage}
+use Rattle.orders.specs.declared.Wrong.the-variants.{LongLine, NoWord, MoreText, NoDigit, TooMany, NoImage, NoNumber, LongBuffer}
 use Rattle.orders.specs.declared.Word.{Word}
-use Rattle.orders.specs.declared.Word.the-variants.{Make, Look, Fail, Skip}
+use Rattle.orders.specs.declared.Word.the-variants.{Make, Look, Lend, Fail, Skip}
 use Rattle.orders.specs.declared.Order.{Order}
 
 abbrev pub plainly : Word → Order
@@ -42,7 +46,8 @@ wordOf w =
     (cond (sameText w (108 ∷ 111 ∷ 97 ∷ 100 ∷ [])) (Make Load)
     (cond (sameText w (117 ∷ 110 ∷ 100 ∷ 111 ∷ [])) (Make Undo)
     (cond (sameText w (102 ∷ 114 ∷ 101 ∷ 115 ∷ 104 ∷ [])) (Make Fresh)
-    (viewOf w))))))
+    (cond (sameText w (98 ∷ 117 ∷ 102 ∷ 102 ∷ 101 ∷ 114 ∷ [])) (Lend Whole)
+    (viewOf w)))))))
 
 -- ---- what follows a word
 
@@ -52,6 +57,19 @@ aloneAt w line place = cond (ltb place (length line)) (wrongAt MoreText (place +
 
 abbrev pub aloneOf : Word → List ℕ → ℕ → Order
 aloneOf w line from = aloneAt w line (pastBlanks line from)
+
+-- what stands where the number is due, and "after it only blanks"
+unfoldable pub sizeBy : Number → List ℕ → ℕ → Order
+sizeBy Missing line column = wrongAt NoNumber column
+sizeBy TooGreat line column = wrongAt LongBuffer column
+sizeBy (Is n past) line column = aloneOf (Lend (Bytes n)) line past
+
+-- "at most 8,192"; "`buffer` alone"
+unfoldable pub bufferAt : List ℕ → ℕ → Order
+bufferAt line place = cond (leb (length line) place) (plainly (Lend Whole)) (sizeBy (numberAt line place 8192) line (place + 1))
+
+abbrev pub bufferOf : List ℕ → ℕ → Order
+bufferOf line from = bufferAt line (pastBlanks line from)
 
 -- n bytes were read, and then a fault; "due are .. the bytes SS and TT themselves", at the column `end` if the line ends first
 unfoldable pub bytesBy : Fault → Call → ℕ → ℕ → ℕ → Order
@@ -109,6 +127,7 @@ callOf Fresh line from d = ordered (aloneOf (Make Fresh) line from) d
 unfoldable pub orderBy : Word → List ℕ → ℕ → ℕ → List ℕ → Ordered
 orderBy (Make call) line at end d = callOf call line end d
 orderBy (Look view) line at end d = ordered (aloneOf (Look view) line end) d
+orderBy (Lend buffer) line at end d = ordered (bufferOf line end) d
 orderBy (Fail what) line at end d = ordered (wrongAt what (at + 1)) d
 orderBy Skip line at end d = ordered (plainly Skip) d
 
@@ -137,3 +156,7 @@ lineLength s =
 
 abbrev pub lineIn : List ℕ → List ℕ
 lineIn s = take (lineLength s) s
+
+-- what comes of a line and a buffer: one that is too short for the longest command takes no order
+unfoldable pub orderIn : List ℕ → List ℕ → Ordered
+orderIn s d = cond (ltb (length d) 8198) (ordered (plainly Skip) d) (orderOf (lineIn s) d)

@@ -86,7 +86,7 @@ pub fn same(a: &[u8], b: &[u8]) -> bool
 }
 
 // The number that a hex digit of either case stands for, 16 where it is none.
-pub fn digit(c: u8) -> u8
+fn digit(c: u8) -> u8
     ensures { λ r. ⌜ r ≡ digitOf c ⌝ }
     ensures { λ r. ⌜ r ≤ 16 ⌝ }
 {

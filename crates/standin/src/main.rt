@@ -115,6 +115,7 @@ fn carry_out(
 
 // ---- reply buffers
 
+// On its own, since the prover writes an array out where it is made.
 fn reply_buffer() -> [u8; orders::MOST_BUFFER] {
     [0u8; orders::MOST_BUFFER]
 }
@@ -139,6 +140,7 @@ fn lent(buffer: Buffer, call: Call) -> usize
     orders::MOST_BUFFER
 }
 
+// Lends the call its part of a reply buffer.
 fn call_with(
     s: Session,
     call: Call,

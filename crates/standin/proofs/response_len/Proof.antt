@@ -2,7 +2,6 @@
 use lib.Seq.{length-take-le}
 use mathlib.Core.Path.{sym}
 use native.Mathlib.Omega.{arith}
-use borrow.Author.Needs.{needs}
 use Rattle.standin.proofs.response_len.Statement.{statement}
 use Rattle.standin.proofs.response_len.Tie as tie
 

@@ -58,7 +58,7 @@ aloneAt w line place = cond (ltb place (length line)) (wrongAt MoreText (place +
 abbrev pub aloneOf : Word → List ℕ → ℕ → Order
 aloneOf w line from = aloneAt w line (pastBlanks line from)
 
--- what stands where the number is due, and "after it only blanks"
+-- what stands where the number is due, and then "only blanks may follow"
 unfoldable pub sizeBy : Number → List ℕ → ℕ → Order
 sizeBy Missing line column = wrongAt NoNumber column
 sizeBy TooGreat line column = wrongAt LongBuffer column

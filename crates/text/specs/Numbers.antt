@@ -11,7 +11,7 @@ use Rattle.text.specs.declared.Number.the-variants.{Missing, TooGreat, I
 unfoldable pub decimal : ℕ → Bool
 decimal c = leb (digitOf c) 9
 
--- what the digits at the front stand for, "any number" of them, after digits that stand for v
+-- what the digits at the front stand for, "as many as one likes", after digits that stand for v
 unfoldable pub valueFrom : ℕ → List ℕ → ℕ
 valueFrom v [] = v
 valueFrom v (x ∷ xs) = cond (decimal x) (valueFrom (v * 10 + digitOf x) xs) v
@@ -23,6 +23,6 @@ numberBy value past most = cond (ltb most value) TooGreat (Is value past)
 abbrev pub digitsAt : List ℕ → ℕ → ℕ → Number
 digitsAt s at most = numberBy (valueFrom 0 (drop at s)) (at + leading decimal (drop at s)) most
 
--- "one or more digits, no sign"
+-- "one or more of the digits", "no sign"
 unfoldable pub numberAt : List ℕ → ℕ → ℕ → Number
 numberAt s at most = cond (ltb 9 (digitAt s at)) Missing (digitsAt s at most)

@@ -11,6 +11,7 @@ pub const LONGEST_LINE: usize = 32768;
 pub const LONGEST_COMMAND: usize = 8192;
 /// A packet adds six bytes to the data.
 pub const LONGEST_SENT: usize = LONGEST_COMMAND - 6;
+pub const LONGEST_BUFFER: u64 = 8192;
 
 const HELP: &str = "\
 occ SS BYTES      an OCC command from sender SS (10 HTMGT, 20 BMC)
@@ -20,6 +21,7 @@ fresh             begin again with a fresh session
 image             the session as 2287 bytes
 load BYTES        go on with the session of such an image
 send SS TT DATA   as occ: a packet of type TT, framed for you
+buffer N          reply buffers of N bytes; alone: whole ones again
 show              the session for a person
 journal           the journal's entries
 help              these words
@@ -29,13 +31,22 @@ help              these words
 /// A line that was understood.
 #[derive(Debug, PartialEq, Eq)]
 pub enum Order {
-    Occ { sender: u8, command: Vec<u8> },
+    Occ {
+        sender: u8,
+        command: Vec<u8>,
+    },
     Sbe(Vec<u8>),
     Undo,
     Fresh,
     Image,
     Load(Vec<u8>),
-    Send { sender: u8, command_type: u8, data: Vec<u8> },
+    Send {
+        sender: u8,
+        command_type: u8,
+        data: Vec<u8>,
+    },
+    /// Reply buffers of that length; `None`: whole ones.
+    Buffer(Option<usize>),
     Show,
     Journal,
     Help,
@@ -92,6 +103,21 @@ impl Scanner<'_> {
     fn byte(&mut self) -> Result<u8, Complaint> {
         self.skip_blanks();
         Ok(self.digit()? << 4 | self.digit()?)
+    }
+
+    /// A decimal number, at most `most`: all digits up to the first byte that is none, however many they are.
+    fn number(&mut self, most: u64) -> Result<u64, Complaint> {
+        self.skip_blanks();
+        let column = self.column();
+        let mut value = Some(0u64); // `None` once it passes what 64 bits hold
+        while let Some(byte @ b'0'..=b'9') = self.peek() {
+            value = value.and_then(|value| value.checked_mul(10)?.checked_add(u64::from(byte - b'0')));
+            self.at += 1;
+        }
+        if self.column() == column {
+            return Err(format!("? number expected at column {column}"));
+        }
+        value.filter(|value| *value <= most).ok_or_else(|| format!("? number over {most} at column {column}"))
     }
 
     /// All bytes to the line's end; `over` words the complaint about one past the most.
@@ -152,6 +178,7 @@ fn parse_words(rest: &mut Scanner) -> Result<Order, Complaint> {
             data: rest.bytes(LONGEST_SENT, command_over)?,
         }),
         b"load" => parse_image(rest),
+        b"buffer" => parse_buffer(rest),
         b"undo" => rest.nothing_more(Order::Undo),
         b"fresh" => rest.nothing_more(Order::Fresh),
         b"image" => rest.nothing_more(Order::Image),
@@ -171,15 +198,25 @@ fn parse_image(rest: &mut Scanner) -> Result<Order, Complaint> {
     }
 }
 
-/// The session and the sequence number of the last `send`.
+fn parse_buffer(rest: &mut Scanner) -> Result<Order, Complaint> {
+    rest.skip_blanks();
+    if rest.peek().is_none() {
+        return Ok(Order::Buffer(None));
+    }
+    let length = rest.number(LONGEST_BUFFER)?;
+    rest.nothing_more(Order::Buffer(Some(length as usize)))
+}
+
+/// The session, the sequence number of the last `send`, and the length of reply buffers if they aren't whole.
 pub struct Program {
     pub session: Session,
     sequence: u8,
+    buffer: Option<usize>,
 }
 
 impl Default for Program {
     fn default() -> Self {
-        Program { session: Session::fresh(), sequence: 0 }
+        Program { session: Session::fresh(), sequence: 0, buffer: None }
     }
 }
 
@@ -207,6 +244,10 @@ impl Program {
             },
             Order::Fresh => self.go_on_with(Some(Session::fresh())),
             Order::Load(bytes) => self.go_on_with(image::read(&bytes)),
+            Order::Buffer(length) => {
+                self.buffer = length;
+                "ok\n".to_string()
+            }
             Order::Image => format!("image {}\n", hex(&image::write(&self.session))),
             Order::Show => show(&self.session),
             Order::Journal => journal_listing(&self.session) + ".\n",
@@ -225,7 +266,7 @@ impl Program {
     }
 
     fn occ(&mut self, sender: u8, command: &[u8]) -> String {
-        let mut reply = [0; OCC_REPLY_LENGTH];
+        let mut reply = vec![0; self.buffer.unwrap_or(OCC_REPLY_LENGTH)];
         let (answer, length) = self.session.occ(sender, command, &mut reply);
         match reply.get(..length) {
             Some(written) if answer == DONE => format!("{answer} {}\n", hex_spaced(written)),
@@ -234,10 +275,11 @@ impl Program {
     }
 
     fn sbe(&mut self, request: &[u8]) -> String {
-        let mut response = [0; SBE_REPLY_LENGTH];
-        match self.session.sbe(request, &mut response) {
-            (DONE, bell) => format!("{DONE} {} bell {bell:04X}\n", hex_spaced(&response)),
-            (answer, _) => format!("{answer}\n"),
+        let mut response = vec![0; self.buffer.unwrap_or(SBE_REPLY_LENGTH)];
+        let (answer, bell) = self.session.sbe(request, &mut response);
+        match response.get(..SBE_REPLY_LENGTH) {
+            Some(written) if answer == DONE => format!("{DONE} {} bell {bell:04X}\n", hex_spaced(written)),
+            _ => format!("{answer}\n"),
         }
     }
 }
@@ -314,5 +356,33 @@ pub fn for_each_line(
         Ok(())
     } else {
         each(&lines.take(), false)
+    }
+}
+
+#[cfg(test)]
+mod tests {
+    use super::*;
+
+    fn number(line: &str, most: u64) -> Result<u64, Complaint> {
+        Scanner { line: line.as_bytes(), at: 0 }.number(most)
+    }
+
+    #[test]
+    fn numbers_up_to_what_64_bits_hold() {
+        let most = u64::MAX;
+        assert_eq!(number(" 18446744073709551615x", most), Ok(most));
+        assert_eq!(number("000018446744073709551615", most), Ok(most));
+        let over = |column: usize| Err(format!("? number over 18446744073709551615 at column {column}"));
+        assert_eq!(number("18446744073709551616", most), over(1));
+        assert_eq!(number("\t 99999999999999999999", most), over(3));
+        assert_eq!(number("0", 0), Ok(0));
+        assert_eq!(number("1", 0), Err("? number over 0 at column 1".to_string()));
+    }
+
+    #[test]
+    fn a_number_is_due_up_to_the_end_of_the_line() {
+        assert_eq!(number("", 9), Err("? number expected at column 1".to_string()));
+        assert_eq!(number("  \t", 9), Err("? number expected at column 4".to_string()));
+        assert_eq!(number("  a1", 9), Err("? number expected at column 3".to_string()));
     }
 }

@@ -37,6 +37,8 @@ pub fn complaint(out: &mut [u8], what: Wrong, column: usize) -> usize
         Wrong::NoDigit => at_column(out, b"hex digit expected", column),
         Wrong::TooMany => at_column(out, b"command over 8192 bytes", column),
         Wrong::NoImage => line(out, b"? image must be 2287 bytes"),
+        Wrong::NoNumber => at_column(out, b"number expected", column),
+        Wrong::LongBuffer => at_column(out, b"number over 8192", column),
     }
 }
 
@@ -149,15 +151,25 @@ fn put_calls(out: &mut [u8]) -> usize {
     )
 }
 
+// The words for packets and for reply buffers.
+fn put_sends(out: &mut [u8], at: usize) -> usize {
+    let a = text::put(
+        out,
+        at,
+        b"send SS TT DATA   as occ: a packet of type TT, framed for you\n",
+    );
+    text::put(
+        out,
+        a,
+        b"buffer N          reply buffers of N bytes; alone: whole ones again\n",
+    )
+}
+
 pub fn help(out: &mut [u8]) -> usize
     ensures { λ r. ⌜ Counts r (now (out .exit)) ⌝ }
 {
     let calls = put_calls(out);
-    let a = text::put(
-        out,
-        calls,
-        b"send SS TT DATA   as occ: a packet of type TT, framed for you\n",
-    );
+    let a = put_sends(out, calls);
     let b = text::put(out, a, b"show              the session for a person\n");
     let c = text::put(out, b, b"journal           the journal's entries\n");
     let d = text::put(out, c, b"help              these words\n");

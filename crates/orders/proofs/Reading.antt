@@ -9,19 +9,24 @@ use lib.ListN.{length, take, drop, length-take, length-drop, take-append-drop}
 use lib.Seq.{drop-append-le, drop-drop}
 use Rattle.wire.specs.Wire.{pasted}
 use Rattle.wire.specs.laws.Wire.{tail-part}
-use Rattle.wire.specs.laws.Cases.{if-b, else-b, if-lt, else-lt, if-ne, else-ne}
+use Rattle.wire.specs.laws.Cases.{if-b, else-b, if-lt, else-lt, if-le, else-le, if-ne, else-ne}
 use Rattle.text.specs.declared.Fault.{Fault}
 use Rattle.text.specs.declared.Fault.the-variants.{Nothing, Digit, Over}
-use Rattle.text.specs.Text.{inWord, leading, pastBlanks, Run, run, Takes}
+use Rattle.text.specs.declared.Number.{Number}
+use Rattle.text.specs.declared.Number.the-variants.{Missing, TooGreat, Is}
+use Rattle.text.specs.Text.{inWord, leading, pastBlanks, HexRun, hexRun, Takes}
+use Rattle.text.specs.Numbers.{numberAt}
 use Rattle.orders.specs.declared.Call.{Call}
 use Rattle.orders.specs.declared.Call.the-variants.{Load}
 use Rattle.orders.specs.declared.View.{View}
+use Rattle.orders.specs.declared.Buffer.{Buffer}
+use Rattle.orders.specs.declared.Buffer.the-variants.{Whole, Bytes}
 use Rattle.orders.specs.declared.Wrong.{Wrong}
-use Rattle.orders.specs.declared.Wrong.the-variants.{LongLine, MoreText, NoDigit, TooMany, NoImage}
+use Rattle.orders.specs.declared.Wrong.the-variants.{LongLine, MoreText, NoDigit, TooMany, NoImage, NoNumber, LongBuffer}
 use Rattle.orders.specs.declared.Word.{Word}
-use Rattle.orders.specs.declared.Word.the-variants.{Make, Look, Fail, Skip}
+use Rattle.orders.specs.declared.Word.the-variants.{Make, Look, Lend, Fail, Skip}
 use Rattle.orders.specs.declared.Order.{Order}
-use Rattle.orders.specs.Orders.{plainly, wrongAt, wordOf, aloneAt, aloneOf, bytesBy, imageBy, ReadsAs, Got, got, callOf, orderBy, wordLength, orderAt, remark, orderFrom, orderOf, lineLength, lineIn}
+use Rattle.orders.specs.Orders.{plainly, wrongAt, wordOf, aloneAt, aloneOf, bytesBy, imageBy, sizeBy, bufferAt, bufferOf, ReadsAs, Ordered, ordered, callOf, orderBy, wordLength, orderAt, remark, orderFrom, orderOf, lineLength, orderIn}
 
 -- ---- by what follows
 
@@ -33,6 +38,30 @@ module _ (w : Word) (line : List ℕ) {place place′ : ℕ} {r : Order} (e : pl
   pub alone-only : length line ≤ place → r ≡ plainly w → r ≡ aloneAt w line place′
   unfolding aloneAt
   alone-only k h = else-lt _ _ k h ∙ ap (λ (n : ℕ). aloneAt w line n) e
+
+-- ---- by the number
+
+module _ (line : List ℕ) (column : ℕ) {x : Number} {r : Order} where
+  pub size-none : x ≡ Missing → r ≡ wrongAt NoNumber column → r ≡ sizeBy x line column
+  unfolding sizeBy
+  size-none e h = h ∙ sym (ap (λ (y : Number). sizeBy y line column) e)
+
+  pub size-over : x ≡ TooGreat → r ≡ wrongAt LongBuffer column → r ≡ sizeBy x line column
+  unfolding sizeBy
+  size-over e h = h ∙ sym (ap (λ (y : Number). sizeBy y line column) e)
+
+  pub size-is : {n past : ℕ} → x ≡ Is n past → r ≡ aloneOf (Lend (Bytes n)) line past → r ≡ sizeBy x line column
+  unfolding sizeBy
+  size-is e h = h ∙ sym (ap (λ (y : Number). sizeBy y line column) e)
+
+module _ (line : List ℕ) {place place′ : ℕ} {r : Order} (e : place ≡ place′) where
+  pub buffer-whole : length line ≤ place → r ≡ plainly (Lend Whole) → r ≡ bufferAt line place′
+  unfolding bufferAt
+  buffer-whole k h = if-le _ _ k h ∙ ap (λ (n : ℕ). bufferAt line n) e
+
+  pub buffer-size : {x : Number} → place < length line → x ≡ numberAt line place 8192 → r ≡ sizeBy x line (place + 1) → r ≡ bufferAt line place′
+  unfolding bufferAt
+  buffer-size k is h = else-le _ _ k (h ∙ ap (λ (y : Number). sizeBy y line (place + 1)) is) ∙ ap (λ (n : ℕ). bufferAt line n) e
 
 -- ---- by the fault
 
@@ -72,10 +101,10 @@ module _ (n : ℕ) {f : Fault} {r : Order} where
 
 -- ---- by the run
 
-reads-as : (line : List ℕ) (from : ℕ) {m room : ℕ} {d d′ : List ℕ} {n : ℕ} {f : Fault} → m ≡ room → Takes (run line from m) d d′ n f → ReadsAs (run line from room) n f
+reads-as : (line : List ℕ) (from : ℕ) {m room : ℕ} {d d′ : List ℕ} {n : ℕ} {f : Fault} → m ≡ room → Takes (hexRun line from m) d d′ n f → ReadsAs (hexRun line from room) n f
 reads-as line from e t = record {
-  count = t .count ∙ ap (λ (k : ℕ). length ((run line from k) .bytes)) e;
-  wrong = t .wrong ∙ ap (λ (k : ℕ). (run line from k) .fault) e;
+  count = t .count ∙ ap (λ (k : ℕ). length ((hexRun line from k) .bytes)) e;
+  wrong = t .wrong ∙ ap (λ (k : ℕ). (hexRun line from k) .fault) e;
 }
 
 -- a part of the buffer was lent, and holds the bytes at its front
@@ -89,21 +118,21 @@ part-pasted at room bs d {part} h k e =
     rw (e, add-sub-cancel-left, zero-add, append-assoc) (ap (λ (l : List ℕ). take at d ++ (bs ++ l)) rest)
 
 pub part-read : (line : List ℕ) (from at room : ℕ) (d : List ℕ) {m n : ℕ} {part : List ℕ} {f : Fault} → at + room ≤ length d → m ≡ room → n ≤ room
-    → Takes (run line from m) (take (at + room - at) (drop at d)) part n f
-    → ReadsAs (run line from room) n f × ((take at d ++ (part ++ drop (at + room - at) (drop at d)) ≡ pasted at ((run line from room) .bytes) d) × (n ≤ room))
+    → Takes (hexRun line from m) (take (at + room - at) (drop at d)) part n f
+    → ReadsAs (hexRun line from room) n f × ((take at d ++ (part ++ drop (at + room - at) (drop at d)) ≡ pasted at ((hexRun line from room) .bytes) d) × (n ≤ room))
 part-read line from at room d h e k t =
-    let reads : ReadsAs (run line from room) _ _ = reads-as line from e t in
-    let stands = t .stands ∙ ap (λ (x : ℕ). pasted 0 ((run line from x) .bytes) (take (at + room - at) (drop at d))) e in
-    (reads, (part-pasted at room ((run line from room) .bytes) d h (omega (arith, reads .count)) stands, k))
+    let reads : ReadsAs (hexRun line from room) _ _ = reads-as line from e t in
+    let stands = t .stands ∙ ap (λ (x : ℕ). pasted 0 ((hexRun line from x) .bytes) (take (at + room - at) (drop at d))) e in
+    (reads, (part-pasted at room ((hexRun line from room) .bytes) d h (omega (arith, reads .count)) stands, k))
 
-module _ {q : Run} {n : ℕ} {f : Fault} {r : Order} {d d′ : List ℕ} (h : ReadsAs q n f) (p : d′ ≡ d) where
-  pub bytes-as : (call : Call) (due end : ℕ) → r ≡ bytesBy f call n due end → got r d′ ≡ got (bytesBy (q .fault) call (length (q .bytes)) due end) d
+module _ {q : HexRun} {n : ℕ} {f : Fault} {r : Order} {d d′ : List ℕ} (h : ReadsAs q n f) (p : d′ ≡ d) where
+  pub bytes-as : (call : Call) (due end : ℕ) → r ≡ bytesBy f call n due end → ordered r d′ ≡ ordered (bytesBy (q .fault) call (length (q .bytes)) due end) d
   bytes-as call due end e =
       let o : r ≡ bytesBy (q .fault) call (length (q .bytes)) due end =
       e ∙ ap (λ (x : Fault). bytesBy x call n due end) (h .wrong) ∙ ap (λ (m : ℕ). bytesBy (q .fault) call m due end) (h .count) in
       rw (o, p)
 
-  pub image-as : r ≡ imageBy f n → got r d′ ≡ got (imageBy (q .fault) (length (q .bytes))) d
+  pub image-as : r ≡ imageBy f n → ordered r d′ ≡ ordered (imageBy (q .fault) (length (q .bytes))) d
   image-as e =
       let o : r ≡ imageBy (q .fault) (length (q .bytes)) = e ∙ ap (λ (x : Fault). imageBy x n) (h .wrong) ∙ ap (λ (m : ℕ). imageBy (q .fault) m) (h .count) in
       rw (o, p)
@@ -111,31 +140,35 @@ module _ {q : Run} {n : ℕ} {f : Fault} {r : Order} {d d′ : List ℕ} (h : Re
 -- ---- by the word
 
 -- the buffer is kept
-pub kept : (d : List ℕ) {r o : Order} → r ≡ o → got r d ≡ got o d
-kept d e = ap (λ (x : Order). got x d) e
+pub kept : (d : List ℕ) {r o : Order} → r ≡ o → ordered r d ≡ ordered o d
+kept d e = ap (λ (x : Order). ordered x d) e
 
-pub call-as : (line : List ℕ) (from : ℕ) (d : List ℕ) {c c′ : Call} {g : Got} → c ≡ c′ → g ≡ callOf c′ line from d → g ≡ callOf c line from d
+pub call-as : (line : List ℕ) (from : ℕ) (d : List ℕ) {c c′ : Call} {g : Ordered} → c ≡ c′ → g ≡ callOf c′ line from d → g ≡ callOf c line from d
 call-as line from d e h = h ∙ sym (ap (λ (x : Call). callOf x line from d) e)
 
 module _ (line : List ℕ) (at end : ℕ) (d : List ℕ) {w : Word} where
-  pub order-make : {c : Call} {g : Got} → w ≡ Make c → g ≡ callOf c line end d → g ≡ orderBy w line at end d
+  pub order-make : {c : Call} {g : Ordered} → w ≡ Make c → g ≡ callOf c line end d → g ≡ orderBy w line at end d
   unfolding orderBy
   order-make e h = h ∙ sym (ap (λ (x : Word). orderBy x line at end d) e)
 
-  pub order-look : {v : View} {r : Order} → w ≡ Look v → r ≡ aloneOf (Look v) line end → got r d ≡ orderBy w line at end d
+  pub order-look : {v : View} {r : Order} → w ≡ Look v → r ≡ aloneOf (Look v) line end → ordered r d ≡ orderBy w line at end d
   unfolding orderBy
   order-look e h = kept d h ∙ sym (ap (λ (x : Word). orderBy x line at end d) e)
 
-  pub order-fail : {x : Wrong} {r : Order} → w ≡ Fail x → r ≡ wrongAt x (at + 1) → got r d ≡ orderBy w line at end d
+  pub order-lend : {b : Buffer} {r : Order} → w ≡ Lend b → r ≡ bufferOf line end → ordered r d ≡ orderBy w line at end d
+  unfolding orderBy
+  order-lend e h = kept d h ∙ sym (ap (λ (x : Word). orderBy x line at end d) e)
+
+  pub order-fail : {x : Wrong} {r : Order} → w ≡ Fail x → r ≡ wrongAt x (at + 1) → ordered r d ≡ orderBy w line at end d
   unfolding orderBy
   order-fail e h = kept d h ∙ sym (ap (λ (x : Word). orderBy x line at end d) e)
 
-  pub order-skip : {r : Order} → w ≡ Skip → r ≡ plainly Skip → got r d ≡ orderBy w line at end d
+  pub order-skip : {r : Order} → w ≡ Skip → r ≡ plainly Skip → ordered r d ≡ orderBy w line at end d
   unfolding orderBy
   order-skip e h = kept d h ∙ sym (ap (λ (x : Word). orderBy x line at end d) e)
 
 -- the word was found in the part that starts at it
-pub order-at : (line : List ℕ) (at : ℕ) (d : List ℕ) {n : ℕ} {w : Word} {g : Got} → n ≡ leading inWord (take (length line - at) (drop at line))
+pub order-at : (line : List ℕ) (at : ℕ) (d : List ℕ) {n : ℕ} {w : Word} {g : Ordered} → n ≡ leading inWord (take (length line - at) (drop at line))
     → w ≡ wordOf (take n (take (length line - at) (drop at line))) → g ≡ orderBy w line at (at + n) d → g ≡ orderAt line at d
 unfolding orderAt
 order-at line at d {n} {w} en ew h =
@@ -147,20 +180,26 @@ order-at line at d {n} {w} en ew h =
 -- ---- by the line
 
 module _ (line d : List ℕ) where
-  pub order-long : {r : Order} → 32768 < length line → r ≡ wrongAt LongLine 32769 → got r d ≡ orderOf line d
+  pub order-long : {r : Order} → 32768 < length line → r ≡ wrongAt LongLine 32769 → ordered r d ≡ orderOf line d
   unfolding orderOf
   order-long h e = if-lt _ _ h (kept d e)
 
   module _ (h : length line ≤ 32768) {at : ℕ} (place : at ≡ pastBlanks line 0) where
-    order-from : {g : Got} → g ≡ orderFrom line d at → g ≡ orderOf line d
+    order-from : {g : Ordered} → g ≡ orderFrom line d at → g ≡ orderOf line d
     unfolding orderOf
     order-from e = else-lt _ _ h (e ∙ ap (λ (n : ℕ). orderFrom line d n) place)
 
-    pub order-remark : {r : Order} → remark line at ≡ true → r ≡ plainly Skip → got r d ≡ orderOf line d
+    pub order-remark : {r : Order} → remark line at ≡ true → r ≡ plainly Skip → ordered r d ≡ orderOf line d
     order-remark k e = order-from (if-b _ _ k (kept d e))
 
-    pub order-word : {g : Got} → remark line at ≡ false → g ≡ orderAt line at d → g ≡ orderOf line d
+    pub order-word : {g : Ordered} → remark line at ≡ false → g ≡ orderAt line at d → g ≡ orderOf line d
     order-word k e = order-from (else-b _ _ k e)
 
-pub line-as : (s d : List ℕ) {n : ℕ} {g : Got} → n ≡ lineLength s → g ≡ orderOf (take n s) d → g ≡ orderOf (lineIn s) d
-line-as s d e h = h ∙ ap (λ (m : ℕ). orderOf (take m s) d) e
+module _ (s d : List ℕ) where
+  pub line-short : {r : Order} → length d < 8198 → r ≡ plainly Skip → ordered r d ≡ orderIn s d
+  unfolding orderIn
+  line-short h e = if-lt _ _ h (kept d e)
+
+  pub line-as : {n : ℕ} {g : Ordered} → 8198 ≤ length d → n ≡ lineLength s → g ≡ orderOf (take n s) d → g ≡ orderIn s d
+  unfolding orderIn
+  line-as h e k = else-lt _ _ h (k ∙ ap (λ (m : ℕ). orderOf (take m s) d) e)

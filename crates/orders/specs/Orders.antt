@@ -1,4 +1,4 @@
--- docs/PROTOCOL.md, "Lines", "Bytes" and "Words": the order that a line gives. Text is a list of ASCII numbers.
+-- docs/PROTOCOL.md, "Lines", "Bytes", "Numbers" and "Words": the order that a line gives. Text is a list of ASCII numbers.
 use Prim.Native.Nat.{ℕ, _+_, _-_}
 use mathlib.Core.Bool.{Bool, true, cond, not}
 use mathlib.Core.Path.{_≡_}
@@ -8,14 +8,18 @@ use lib.ListN.{length, take, drop, getD}
 use Rattle.wire.specs.Wire.{pasted}
 use Rattle.text.specs.declared.Fault.{Fault}
 use Rattle.text.specs.declared.Fault.the-variants.{Nothing, Digit, Over}
-use Rattle.text.specs.Text.{inWord, leading, pastBlanks, sameText, Run, run}
+use Rattle.text.specs.declared.Number.{Number}
+use Rattle.text.specs.declared.Number.the-variants.{Missing, TooGreat, Is}
+use Rattle.text.specs.Text.{inWord, leading, pastBlanks, sameText, HexRun, hexRun}
+use Rattle.text.specs.Numbers.{numberAt}
 use Rattle.orders.specs.declared.Call.{Call}
 use Rattle.orders.specs.declared.Call.the-variants.{Occ, Sbe, Send, Load, Undo, Fresh}
 use Rattle.orders.specs.declared.View.the-variants.{Image, Show, Journal, Help}
+use Rattle.orders.specs.declared.Buffer.the-variants.{Whole, Bytes}
 use Rattle.orders.specs.declared.Wrong.{Wrong}
-use Rattle.orders.specs.declared.Wrong.the-variants.{LongLine, NoWord, MoreText, NoDigit, TooMany, NoImage}
+use Rattle.orders.specs.declared.Wrong.the-variants.{LongLine, NoWord, MoreText, NoDigit, TooMany, NoImage, NoNumber, LongBuffer}
 use Rattle.orders.specs.declared.Word.{Word}
-use Rattle.orders.specs.declared.Word.the-variants.{Make, Look, Fail, Skip}
+use Rattle.orders.specs.declared.Word.the-variants.{Make, Look, Lend, Fail, Skip}
 use Rattle.orders.specs.declared.Order.{Order}
 
 abbrev pub plainly : Word → Order
@@ -42,7 +46,8 @@ wordOf w =
     (cond (sameText w (108 ∷ 111 ∷ 97 ∷ 100 ∷ [])) (Make Load)
     (cond (sameText w (117 ∷ 110 ∷ 100 ∷ 111 ∷ [])) (Make Undo)
     (cond (sameText w (102 ∷ 114 ∷ 101 ∷ 115 ∷ 104 ∷ [])) (Make Fresh)
-    (viewOf w))))))
+    (cond (sameText w (98 ∷ 117 ∷ 102 ∷ 102 ∷ 101 ∷ 114 ∷ [])) (Lend Whole)
+    (viewOf w)))))))
 
 -- ---- what follows a word
 
@@ -52,6 +57,19 @@ aloneAt w line place = cond (ltb place (length line)) (wrongAt MoreText (place +
 
 abbrev pub aloneOf : Word → List ℕ → ℕ → Order
 aloneOf w line from = aloneAt w line (pastBlanks line from)
+
+-- what stands where the number is due, and then "only blanks may follow"
+unfoldable pub sizeBy : Number → List ℕ → ℕ → Order
+sizeBy Missing line column = wrongAt NoNumber column
+sizeBy TooGreat line column = wrongAt LongBuffer column
+sizeBy (Is n past) line column = aloneOf (Lend (Bytes n)) line past
+
+-- "at most 8,192"; "`buffer` alone"
+unfoldable pub bufferAt : List ℕ → ℕ → Order
+bufferAt line place = cond (leb (length line) place) (plainly (Lend Whole)) (sizeBy (numberAt line place 8192) line (place + 1))
+
+abbrev pub bufferOf : List ℕ → ℕ → Order
+bufferOf line from = bufferAt line (pastBlanks line from)
 
 -- n bytes were read, and then a fault; "due are .. the bytes SS and TT themselves", at the column `end` if the line ends first
 unfoldable pub bytesBy : Fault → Call → ℕ → ℕ → ℕ → Order
@@ -66,68 +84,69 @@ imageBy (Digit column) n = wrongAt NoDigit column
 imageBy (Over column) n = wrongAt NoImage 0
 
 -- a run of bytes as its count and fault
-pub record ReadsAs (q : Run) (n : ℕ) (f : Fault) : Type 0 where
+pub record ReadsAs (q : HexRun) (n : ℕ) (f : Fault) : Type 0 where
   pub count : n ≡ length (q .bytes)
   pub wrong : f ≡ q .fault
 
 -- an order, and the buffer with the bytes that it took
-pub record Got : Type 0 where
+pub record Ordered : Type 0 where
   pub order : Order
   pub sent : List ℕ
 
-abbrev pub got : Order → List ℕ → Got
-got o d = record { order = o; sent = d }
+abbrev pub ordered : Order → List ℕ → Ordered
+ordered o d = record { order = o; sent = d }
 
-abbrev pub bytesOf : Call → ℕ → Run → List ℕ → Order
+abbrev pub bytesOf : Call → ℕ → HexRun → List ℕ → Order
 bytesOf call due q line = bytesBy (q .fault) call (length (q .bytes)) due (length line + 1)
 
 -- "the most is 8,192 bytes for `occ` (SS not counted) and `sbe`, 8,186 bytes of DATA for `send`"; the data stand where they do in a packet
-unfoldable pub occOf : List ℕ → ℕ → List ℕ → Got
-occOf line from d = got (bytesOf Occ 1 (run line from 8193) line) (pasted 0 ((run line from 8193) .bytes) d)
+unfoldable pub occOf : List ℕ → ℕ → List ℕ → Ordered
+occOf line from d = ordered (bytesOf Occ 1 (hexRun line from 8193) line) (pasted 0 ((hexRun line from 8193) .bytes) d)
 
-unfoldable pub sbeOf : List ℕ → ℕ → List ℕ → Got
-sbeOf line from d = got (bytesOf Sbe 0 (run line from 8192) line) (pasted 0 ((run line from 8192) .bytes) d)
+unfoldable pub sbeOf : List ℕ → ℕ → List ℕ → Ordered
+sbeOf line from d = ordered (bytesOf Sbe 0 (hexRun line from 8192) line) (pasted 0 ((hexRun line from 8192) .bytes) d)
 
-unfoldable pub sendOf : List ℕ → ℕ → List ℕ → Got
-sendOf line from d = got (bytesOf Send 2 (run line from 8188) line) (pasted 2 ((run line from 8188) .bytes) d)
+unfoldable pub sendOf : List ℕ → ℕ → List ℕ → Ordered
+sendOf line from d = ordered (bytesOf Send 2 (hexRun line from 8188) line) (pasted 2 ((hexRun line from 8188) .bytes) d)
 
-unfoldable pub loadOf : List ℕ → ℕ → List ℕ → Got
+unfoldable pub loadOf : List ℕ → ℕ → List ℕ → Ordered
 loadOf line from d =
-    got (imageBy ((run line from 2287) .fault) (length ((run line from 2287) .bytes))) (pasted 0 ((run line from 2287) .bytes) d)
+    ordered (imageBy ((hexRun line from 2287) .fault) (length ((hexRun line from 2287) .bytes))) (pasted 0 ((hexRun line from 2287) .bytes) d)
 
-unfoldable pub callOf : Call → List ℕ → ℕ → List ℕ → Got
+unfoldable pub callOf : Call → List ℕ → ℕ → List ℕ → Ordered
 callOf Occ line from d = occOf line from d
 callOf Sbe line from d = sbeOf line from d
 callOf Send line from d = sendOf line from d
 callOf Load line from d = loadOf line from d
-callOf Undo line from d = got (aloneOf (Make Undo) line from) d
-callOf Fresh line from d = got (aloneOf (Make Fresh) line from) d
+callOf Undo line from d = ordered (aloneOf (Make Undo) line from) d
+callOf Fresh line from d = ordered (aloneOf (Make Fresh) line from) d
 
 -- ---- lines
 
 -- the word stands at `at`, and what follows it from `end` on
-unfoldable pub orderBy : Word → List ℕ → ℕ → ℕ → List ℕ → Got
+unfoldable pub orderBy : Word → List ℕ → ℕ → ℕ → List ℕ → Ordered
 orderBy (Make call) line at end d = callOf call line end d
-orderBy (Look view) line at end d = got (aloneOf (Look view) line end) d
-orderBy (Fail what) line at end d = got (wrongAt what (at + 1)) d
-orderBy Skip line at end d = got (plainly Skip) d
+orderBy (Look view) line at end d = ordered (aloneOf (Look view) line end) d
+orderBy (Lend buffer) line at end d = ordered (bufferOf line end) d
+orderBy (Fail what) line at end d = ordered (wrongAt what (at + 1)) d
+orderBy Skip line at end d = ordered (plainly Skip) d
 
 -- "all bytes up to the next blank or the line's end"
 abbrev pub wordLength : List ℕ → ℕ → ℕ
 wordLength line at = leading inWord (drop at line)
 
-unfoldable pub orderAt : List ℕ → ℕ → List ℕ → Got
+unfoldable pub orderAt : List ℕ → ℕ → List ℕ → Ordered
 orderAt line at d = orderBy (wordOf (take (wordLength line at) (drop at line))) line at (at + wordLength line at) d
 
 -- "a line of blanks only, or whose first byte that isn't blank is `#`"
 unfoldable pub remark : List ℕ → ℕ → Bool
 remark line at = cond (leb (length line) at) true (eqb (getD line at 0) 35)
 
-abbrev pub orderFrom : List ℕ → List ℕ → ℕ → Got
-orderFrom line d at = cond (remark line at) (got (plainly Skip) d) (orderAt line at d)
+abbrev pub orderFrom : List ℕ → List ℕ → ℕ → Ordered
+orderFrom line d at = cond (remark line at) (ordered (plainly Skip) d) (orderAt line at d)
 
-unfoldable pub orderOf : List ℕ → List ℕ → Got
-orderOf line d = cond (ltb 32768 (length line)) (got (wrongAt LongLine 32769) d) (orderFrom line d (pastBlanks line 0))
+unfoldable pub orderOf : List ℕ → List ℕ → Ordered
+orderOf line d = cond (ltb 32768 (length line)) (ordered (wrongAt LongLine 32769) d) (orderFrom line d (pastBlanks line 0))
 
 -- "one CR at the very end of a line belongs to the line end"
 unfoldable pub lineLength : List ℕ → ℕ
@@ -137,3 +156,7 @@ lineLength s =
 
 abbrev pub lineIn : List ℕ → List ℕ
 lineIn s = take (lineLength s) s
+
+-- what comes of a line and a buffer: one that is too short for the longest command takes no order
+unfoldable pub orderIn : List ℕ → List ℕ → Ordered
+orderIn s d = cond (ltb (length d) 8198) (ordered (plainly Skip) d) (orderOf (lineIn s) d)

@@ -4,9 +4,10 @@ ghost use Prim.Native.Nat.{_≤_, _-_};
 ghost use lib.ListN.{length};
 ghost use Rattle.io.specs.Counts.{Counts};
 ghost use Rattle.wire.specs.Wire.{pasted};
-ghost use Rattle.text.specs.Text.{run};
-ghost use Rattle.orders.specs.Orders.{plainly, wrongAt, viewOf, wordOf, aloneOf, bytesBy, imageBy, ReadsAs, got, occOf, sbeOf, sendOf, loadOf, callOf, orderAt, remark, orderOf, lineLength, lineIn};
+ghost use Rattle.text.specs.Text.{hexRun};
+ghost use Rattle.orders.specs.Orders.{plainly, wrongAt, viewOf, wordOf, aloneOf, bytesBy, imageBy, sizeBy, bufferOf, ReadsAs, ordered, occOf, sbeOf, sendOf, loadOf, callOf, orderAt, remark, orderOf, lineLength, orderIn};
 use text::Fault;
+use text::Number;
 use text::Taken;
 
 pub const MOST_LINE: usize = 32768;
@@ -16,6 +17,9 @@ pub const IMAGE: usize = 2287;
 
 // A buffer with room for the longest command, as it is read and as it is framed.
 pub const ROOM: usize = 8198;
+
+// The longest reply buffer that can be asked for.
+pub const MOST_BUFFER: usize = 8192;
 
 // What is made on a session.
 pub enum Call {
@@ -35,6 +39,12 @@ pub enum View {
     Help,
 }
 
+// The reply buffers that calls get: as long as the call needs, or of so many bytes.
+pub enum Buffer {
+    Whole,
+    Bytes(usize),
+}
+
 // What a line can have wrong.
 pub enum Wrong {
     LongLine,
@@ -43,11 +53,14 @@ pub enum Wrong {
     NoDigit,
     TooMany,
     NoImage,
+    NoNumber,
+    LongBuffer,
 }
 
 pub enum Word {
     Make(Call),
     Look(View),
+    Lend(Buffer),
     Fail(Wrong),
     Skip,
 }
@@ -122,6 +135,9 @@ fn word_of(word: &[u8]) -> Word
     if text::same(word, b"fresh") {
         return Word::Make(Call::Fresh);
     }
+    if text::same(word, b"buffer") {
+        return Word::Lend(Buffer::Whole);
+    }
     view_of(word)
 }
 
@@ -137,6 +153,31 @@ fn alone(word: Word, line: &[u8], from: usize) -> Order
         return wrong_at(Wrong::MoreText, place + 1);
     }
     plain(word)
+}
+
+// Blanks after a number, which is due at `column`.
+fn with_size(number: Number, line: &[u8], column: usize) -> Order
+    ensures { λ r. ⌜ r ≡ sizeBy number (now (line .entry)) column ⌝ }
+    ensures { λ r. ⌜ r .count ≡ 0 ⌝ }
+{
+    match number {
+        Number::Missing => wrong_at(Wrong::NoNumber, column),
+        Number::TooGreat => wrong_at(Wrong::LongBuffer, column),
+        Number::Is(n, past) => alone(Word::Lend(Buffer::Bytes(n as usize)), line, past),
+    }
+}
+
+// A number of bytes, or nothing for whole buffers.
+fn read_buffer(line: &[u8], from: usize) -> Order
+    ensures { λ r. ⌜ r ≡ bufferOf (now (line .entry)) from ⌝ }
+    ensures { λ r. ⌜ r .count ≡ 0 ⌝ }
+{
+    let place = text::past_blanks(line, from);
+    if line.len() <= place {
+        return plain(Word::Lend(Buffer::Whole));
+    }
+    let number = text::number_at(line, place, MOST_BUFFER as u64);
+    with_size(number, line, place + 1)
 }
 
 // Bytes, of which the first `due` must be there; `end` is the column past the line.
@@ -184,8 +225,8 @@ fn with_image(taken: Taken) -> Order
 // At most `room` bytes, put from `at` on.
 fn take(line: &[u8], from: usize, sent: &mut [u8], at: usize, room: usize) -> Taken
     requires { ⌜ (at ≤ 2) × (room ≤ 8193) × (8198 ≤ length (now sent)) ⌝ }
-    ensures { λ r. ⌜ ReadsAs (run (now (line .entry)) from room) (r .count) (r .fault) ⌝ }
-    ensures { λ _. ⌜ now (sent .exit) ≡ pasted at ((run (now (line .entry)) from room) .bytes) (now (sent .entry)) ⌝ }
+    ensures { λ r. ⌜ ReadsAs (hexRun (now (line .entry)) from room) (r .count) (r .fault) ⌝ }
+    ensures { λ _. ⌜ now (sent .exit) ≡ pasted at ((hexRun (now (line .entry)) from room) .bytes) (now (sent .entry)) ⌝ }
     ensures { λ r. ⌜ r .count ≤ room ⌝ }
 {
     let end = at + room;
@@ -195,7 +236,7 @@ fn take(line: &[u8], from: usize, sent: &mut [u8], at: usize, room: usize) -> Ta
 // The sender stands at 0, the command from 1 on.
 fn occ(line: &[u8], from: usize, sent: &mut [u8]) -> Order
     requires { ⌜ (length (now line) ≤ 32768) × (8198 ≤ length (now sent)) ⌝ }
-    ensures { λ r. ⌜ got r (now (sent .exit)) ≡ occOf (now (line .entry)) from (now (sent .entry)) ⌝ }
+    ensures { λ r. ⌜ ordered r (now (sent .exit)) ≡ occOf (now (line .entry)) from (now (sent .entry)) ⌝ }
     ensures { λ r. ⌜ r .count ≤ 8192 ⌝ }
 {
     let taken = take(line, from, sent, 0, 8193);
@@ -204,7 +245,7 @@ fn occ(line: &[u8], from: usize, sent: &mut [u8]) -> Order
 
 fn sbe(line: &[u8], from: usize, sent: &mut [u8]) -> Order
     requires { ⌜ (length (now line) ≤ 32768) × (8198 ≤ length (now sent)) ⌝ }
-    ensures { λ r. ⌜ got r (now (sent .exit)) ≡ sbeOf (now (line .entry)) from (now (sent .entry)) ⌝ }
+    ensures { λ r. ⌜ ordered r (now (sent .exit)) ≡ sbeOf (now (line .entry)) from (now (sent .entry)) ⌝ }
     ensures { λ r. ⌜ r .count ≤ 8192 ⌝ }
 {
     let taken = take(line, from, sent, 0, 8192);
@@ -214,7 +255,7 @@ fn sbe(line: &[u8], from: usize, sent: &mut [u8]) -> Order
 // The sender stands at 2, the type at 3, and the data from 4 on, where they stand in a packet.
 fn send(line: &[u8], from: usize, sent: &mut [u8]) -> Order
     requires { ⌜ (length (now line) ≤ 32768) × (8198 ≤ length (now sent)) ⌝ }
-    ensures { λ r. ⌜ got r (now (sent .exit)) ≡ sendOf (now (line .entry)) from (now (sent .entry)) ⌝ }
+    ensures { λ r. ⌜ ordered r (now (sent .exit)) ≡ sendOf (now (line .entry)) from (now (sent .entry)) ⌝ }
     ensures { λ r. ⌜ r .count ≤ 8192 ⌝ }
 {
     let taken = take(line, from, sent, 2, 8188);
@@ -223,7 +264,7 @@ fn send(line: &[u8], from: usize, sent: &mut [u8]) -> Order
 
 fn load(line: &[u8], from: usize, sent: &mut [u8]) -> Order
     requires { ⌜ 8198 ≤ length (now sent) ⌝ }
-    ensures { λ r. ⌜ got r (now (sent .exit)) ≡ loadOf (now (line .entry)) from (now (sent .entry)) ⌝ }
+    ensures { λ r. ⌜ ordered r (now (sent .exit)) ≡ loadOf (now (line .entry)) from (now (sent .entry)) ⌝ }
     ensures { λ r. ⌜ r .count ≤ 8192 ⌝ }
 {
     with_image(take(line, from, sent, 0, IMAGE))
@@ -231,7 +272,7 @@ fn load(line: &[u8], from: usize, sent: &mut [u8]) -> Order
 
 fn read_call(call: Call, line: &[u8], from: usize, sent: &mut [u8]) -> Order
     requires { ⌜ (length (now line) ≤ 32768) × (8198 ≤ length (now sent)) ⌝ }
-    ensures { λ r. ⌜ got r (now (sent .exit)) ≡ callOf call (now (line .entry)) from (now (sent .entry)) ⌝ }
+    ensures { λ r. ⌜ ordered r (now (sent .exit)) ≡ callOf call (now (line .entry)) from (now (sent .entry)) ⌝ }
     ensures { λ r. ⌜ r .count ≤ 8192 ⌝ }
 {
     match call {
@@ -249,7 +290,7 @@ fn read_call(call: Call, line: &[u8], from: usize, sent: &mut [u8]) -> Order
 // The line's word stands from `at` on.
 fn read_word(line: &[u8], at: usize, sent: &mut [u8]) -> Order
     requires { ⌜ (at ≤ length (now line)) × (length (now line) ≤ 32768) × (8198 ≤ length (now sent)) ⌝ }
-    ensures { λ r. ⌜ got r (now (sent .exit)) ≡ orderAt (now (line .entry)) at (now (sent .entry)) ⌝ }
+    ensures { λ r. ⌜ ordered r (now (sent .exit)) ≡ orderAt (now (line .entry)) at (now (sent .entry)) ⌝ }
     ensures { λ r. ⌜ r .count ≤ 8192 ⌝ }
 {
     let rest = &line[at..];
@@ -259,6 +300,7 @@ fn read_word(line: &[u8], at: usize, sent: &mut [u8]) -> Order
     match word {
         Word::Make(call) => read_call(call, line, end, sent),
         Word::Look(view) => alone(Word::Look(view), line, end),
+        Word::Lend(_) => read_buffer(line, end),
         Word::Fail(what) => wrong_at(what, at + 1),
         Word::Skip => plain(Word::Skip),
     }
@@ -276,7 +318,7 @@ fn is_remark(line: &[u8], at: usize) -> bool
 
 fn read_line(line: &[u8], sent: &mut [u8]) -> Order
     requires { ⌜ 8198 ≤ length (now sent) ⌝ }
-    ensures { λ r. ⌜ got r (now (sent .exit)) ≡ orderOf (now (line .entry)) (now (sent .entry)) ⌝ }
+    ensures { λ r. ⌜ ordered r (now (sent .exit)) ≡ orderOf (now (line .entry)) (now (sent .entry)) ⌝ }
     ensures { λ r. ⌜ r .count ≤ 8192 ⌝ }
 {
     if MOST_LINE < line.len() {
@@ -306,7 +348,7 @@ fn line_len(s: &[u8]) -> usize
 
 // The order of a line without its line feed. A buffer that is too short for the longest command takes no order.
 pub fn read(s: &[u8], sent: &mut [u8]) -> Order
-    ensures { λ r. ⌜ (8198 ≤ length (now (sent .entry)) → got r (now (sent .exit)) ≡ orderOf (lineIn (now (s .entry))) (now (sent .entry))) ⌝ }
+    ensures { λ r. ⌜ ordered r (now (sent .exit)) ≡ orderIn (now (s .entry)) (now (sent .entry)) ⌝ }
     ensures { λ r. ⌜ r .count ≤ 8192 ⌝ }
 {
     if sent.len() < ROOM {

@@ -4,6 +4,7 @@ ghost use lib.ListN.{length};
 ghost use Rattle.io.specs.Counts.{Counts};
 use libc::STDIN_FILENO;
 use libc::STDOUT_FILENO;
+use orders::Buffer;
 use orders::Call;
 use orders::Order;
 use orders::View;
@@ -19,11 +20,10 @@ fn tell(out: &[u8], n: usize)
 
 // ---- calls
 
-fn occ(s: Session, sender: u8, command: &[u8], out: &mut [u8]) -> Session {
-    let mut reply = io::buffer();
-    let done = occ_call::occ(s, sender, command, &mut reply);
+fn occ(s: Session, sender: u8, command: &[u8], reply: &mut [u8], out: &mut [u8]) -> Session {
+    let done = occ_call::occ(s, sender, command, reply);
     let after = done.session;
-    let n = answers::reply(out, done.answer, &reply);
+    let n = answers::reply(out, done.answer, reply);
     tell(out, n);
     after
 }
@@ -41,20 +41,30 @@ fn frame(p: &mut [u8], sequence: u8)
 }
 
 // The sender stands where the packet's length will.
-fn send(s: Session, packet: &mut [u8], sequence: u8, out: &mut [u8]) -> Session
+fn send(s: Session, packet: &mut [u8], sequence: u8, reply: &mut [u8], out: &mut [u8]) -> Session
     requires { ⌜ 6 ≤ length (now packet) ⌝ }
 {
     let sender = packet[2];
     frame(packet, sequence);
-    occ(s, sender, packet, out)
+    occ(s, sender, packet, reply, out)
 }
 
-fn sbe(s: Session, request: &[u8], out: &mut [u8]) -> Session {
-    let mut response = [0u8; 32];
-    let done = sbe_call::sbe(s, request, &mut response);
+// A response has 32 bytes; a longer buffer is kept past them.
+fn response_len(buffer: &[u8]) -> usize
+    ensures { λ r. ⌜ Counts r (now (buffer .entry)) ⌝ }
+{
+    if buffer.len() < 32 {
+        return buffer.len();
+    }
+    32
+}
+
+fn sbe(s: Session, request: &[u8], reply: &mut [u8], out: &mut [u8]) -> Session {
+    let done = sbe_call::sbe(s, request, reply);
     let after = done.session;
-    let n = answers::rung(out, done.answer, &response, done.bell);
-    tell(out, n);
+    let n = response_len(reply);
+    let end = answers::rung(out, done.answer, &reply[..n], done.bell);
+    tell(out, end);
     after
 }
 
@@ -88,18 +98,63 @@ fn carry_out(
     count: usize,
     sequence: u8,
     sent: &mut [u8],
+    reply: &mut [u8],
     out: &mut [u8],
 ) -> Session
     requires { ⌜ (count ≤ 8192) × (8198 ≤ length (now sent)) ⌝ }
 {
     match call {
-        Call::Occ => occ(s, sent[0], &sent[1..count + 1], out),
-        Call::Sbe => sbe(s, &sent[..count], out),
-        Call::Send => send(s, &mut sent[..count + 6], sequence, out),
+        Call::Occ => occ(s, sent[0], &sent[1..count + 1], reply, out),
+        Call::Sbe => sbe(s, &sent[..count], reply, out),
+        Call::Send => send(s, &mut sent[..count + 6], sequence, reply, out),
         Call::Load => load(sent, out),
         Call::Undo => undo(s, out),
         Call::Fresh => fresh(out),
     }
+}
+
+// ---- reply buffers
+
+// On its own, since the prover writes an array out where it is made.
+fn reply_buffer() -> [u8; orders::MOST_BUFFER] {
+    [0u8; orders::MOST_BUFFER]
+}
+
+// The bytes that a call's reply can take.
+fn whole(call: Call) -> usize
+    ensures { λ r. ⌜ r ≤ 8192 ⌝ }
+{
+    if let Call::Sbe = call { 32 } else { 4096 }
+}
+
+// The bytes of reply buffer that a call gets.
+fn lent(buffer: Buffer, call: Call) -> usize
+    ensures { λ r. ⌜ r ≤ 8192 ⌝ }
+{
+    let Buffer::Bytes(n) = buffer else {
+        return whole(call);
+    };
+    if n < orders::MOST_BUFFER {
+        return n;
+    }
+    orders::MOST_BUFFER
+}
+
+// Lends the call its part of a reply buffer.
+fn call_with(
+    s: Session,
+    call: Call,
+    count: usize,
+    sequence: u8,
+    buffer: Buffer,
+    sent: &mut [u8],
+    out: &mut [u8],
+) -> Session
+    requires { ⌜ (count ≤ 8192) × (8198 ≤ length (now sent)) ⌝ }
+{
+    let mut reply = reply_buffer();
+    let room = lent(buffer, call);
+    carry_out(s, call, count, sequence, sent, &mut reply[..room], out)
 }
 
 // ---- views
@@ -141,15 +196,26 @@ fn look(s: Session, view: View, out: &mut [u8]) -> usize
 
 // ---- lines
 
-fn obey(s: Session, order: Order, sequence: u8, sent: &mut [u8], out: &mut [u8]) -> Session
+fn obey(
+    s: Session,
+    order: Order,
+    sequence: u8,
+    buffer: Buffer,
+    sent: &mut [u8],
+    out: &mut [u8],
+) -> Session
     requires { ⌜ (order .count ≤ 8192) × (8198 ≤ length (now sent)) ⌝ }
 {
     let word = order.word;
     match word {
-        Word::Make(call) => carry_out(s, call, order.count, sequence, sent, out),
+        Word::Make(call) => call_with(s, call, order.count, sequence, buffer, sent, out),
         Word::Look(view) => {
             let n = look(s, view, out);
             tell(out, n);
+            s
+        }
+        Word::Lend(_) => {
+            tell_ok(out);
             s
         }
         Word::Fail(what) => {
@@ -171,10 +237,19 @@ fn next_sequence(word: Word, sequence: u8) -> u8 {
     sequence
 }
 
-// The session that the calls go to, and the sequence of the last packet sent.
+// The reply buffers that calls get from now on.
+fn next_buffer(word: Word, buffer: Buffer) -> Buffer {
+    if let Word::Lend(asked) = word {
+        return asked;
+    }
+    buffer
+}
+
+// The session that the calls go to, the sequence of the last packet sent, and the reply buffers that are lent.
 struct Bench {
     session: Session,
     sequence: u8,
+    buffer: Buffer,
 }
 
 fn answer(b: Bench, line: &[u8], sent: &mut [u8], out: &mut [u8]) -> Bench
@@ -183,11 +258,14 @@ fn answer(b: Bench, line: &[u8], sent: &mut [u8], out: &mut [u8]) -> Bench
     let order = orders::read(line, sent);
     let word = order.word;
     let sequence = next_sequence(word, b.sequence);
+    let held = b.buffer;
+    let buffer = next_buffer(word, held);
     let s = b.session;
-    let after = obey(s, order, sequence, sent, out);
+    let after = obey(s, order, sequence, buffer, sent, out);
     Bench {
         session: after,
         sequence: sequence,
+        buffer: buffer,
     }
 }
 
@@ -267,6 +345,7 @@ fn serve(piece: &mut [u8], line: &mut [u8], sent: &mut [u8], out: &mut [u8])
     let mut bench = Bench {
         session: start,
         sequence: 0,
+        buffer: Buffer::Whole,
     };
     let mut held = 0;
     let mut left = u64::MAX;

@@ -15,7 +15,7 @@ use Rattle.wire.specs.laws.Cases.{if-b, else-b, if-lt, else-lt, if-le, else-le,
 use Rattle.wire.proofs.Loops.{store-first, paste-none}
 use Rattle.text.specs.declared.Fault.{Fault}
 use Rattle.text.specs.declared.Fault.the-variants.{Nothing, Digit, Over}
-use Rattle.text.specs.Text.{blank, leading, digitOf, digitAt, Run, stopped, onto, high, low, readFrom, run, Takes, sameText, Sheet, sheet, putOn, putAll, hexDigit, hexOf, hexes, spaced}
+use Rattle.text.specs.Text.{blank, leading, digitOf, digitAt, HexRun, stopped, onto, high, low, hexFrom, hexRun, Takes, sameText, Sheet, sheet, putOn, putAll, hexDigit, hexOf, hexes, spaced}
 
 -- ---- tests of a call's answer: t is the answer, b what the contract says of it
 
@@ -60,75 +60,75 @@ unfolding digitAt
 there s i h = there-by s i (ltb i (length s)) refl h
 
 module _ (s : List ℕ) (at room column : ℕ) where
-  end : length s ≤ at → stopped Nothing ≡ readFrom high room column (drop at s)
-  unfolding readFrom
+  end : length s ≤ at → stopped Nothing ≡ hexFrom high room column (drop at s)
+  unfolding hexFrom
   end h = rw (drop-of-length-le s h)
 
   no-low-by : (h : ℕ) (t : Bool) → ltb at (length s) ≡ t → 15 < cond t (digitOf (getD s at 0)) 16
-      → stopped (Digit column) ≡ readFrom (low h) room column (drop at s)
-  unfolding readFrom
+      → stopped (Digit column) ≡ hexFrom (low h) room column (drop at s)
+  unfolding hexFrom
   no-low-by h true e b = let k : at < length s = ltb-true at (length s) e in rw (drop-cons s at 0) (if-lt _ _ b refl)
   no-low-by h false e b = rw (drop-of-length-le s (ltb-false at (length s) e))
 
-  no-low : (h : ℕ) → 15 < digitAt s at → stopped (Digit column) ≡ readFrom (low h) room column (drop at s)
+  no-low : (h : ℕ) → 15 < digitAt s at → stopped (Digit column) ≡ hexFrom (low h) room column (drop at s)
   unfolding digitAt
   no-low h b = no-low-by h (ltb at (length s)) refl b
 
   module _ (more : at < length s) where
     at-low : (h : ℕ) → digitOf (getD s at 0) ≤ 15
-        → onto (h * 16 + digitOf (getD s at 0)) (readFrom high (room - 1) (suc column) (drop (suc at) s)) ≡ readFrom (low h) room column (drop at s)
-    unfolding readFrom
+        → onto (h * 16 + digitOf (getD s at 0)) (hexFrom high (room - 1) (suc column) (drop (suc at) s)) ≡ hexFrom (low h) room column (drop at s)
+    unfolding hexFrom
     at-low h d = rw (drop-cons s at 0) (else-lt _ _ d refl)
 
-    at-blank : blank (getD s at 0) ≡ true → readFrom high room (suc column) (drop (suc at) s) ≡ readFrom high room column (drop at s)
-    unfolding readFrom
+    at-blank : blank (getD s at 0) ≡ true → hexFrom high room (suc column) (drop (suc at) s) ≡ hexFrom high room column (drop at s)
+    unfolding hexFrom
     at-blank e = rw (drop-cons s at 0) (if-b _ _ e refl)
 
     module _ (dense : blank (getD s at 0) ≡ false) where
-      over : room ≤ 0 → stopped (Over column) ≡ readFrom high room column (drop at s)
-      unfolding readFrom
+      over : room ≤ 0 → stopped (Over column) ≡ hexFrom high room column (drop at s)
+      unfolding hexFrom
       over r = rw (drop-cons s at 0) (else-b _ _ dense (if-le _ _ r refl))
 
-      no-high : 0 < room → 15 < digitOf (getD s at 0) → stopped (Digit column) ≡ readFrom high room column (drop at s)
-      unfolding readFrom
+      no-high : 0 < room → 15 < digitOf (getD s at 0) → stopped (Digit column) ≡ hexFrom high room column (drop at s)
+      unfolding hexFrom
       no-high r d = rw (drop-cons s at 0) (else-b _ _ dense (else-le _ _ r (if-lt _ _ d refl)))
 
       at-high : 0 < room → digitOf (getD s at 0) ≤ 15
-          → readFrom (low (digitOf (getD s at 0))) room (suc column) (drop (suc at) s) ≡ readFrom high room column (drop at s)
-      unfolding readFrom
+          → hexFrom (low (digitOf (getD s at 0))) room (suc column) (drop (suc at) s) ≡ hexFrom high room column (drop at s)
+      unfolding hexFrom
       at-high r d = rw (drop-cons s at 0) (else-b _ _ dense (else-le _ _ r (else-lt _ _ d refl)))
 
 -- ---- what is left to read, read now, gives the end
 
 -- q is to read yet and n bytes stand in d; q₀ was to read into d₀
-record Rest (n : ℕ) (d : List ℕ) (q q₀ : Run) (d₀ : List ℕ) : Type 0 where
+record Rest (n : ℕ) (d : List ℕ) (q q₀ : HexRun) (d₀ : List ℕ) : Type 0 where
   stands : pasted n (q .bytes) d ≡ pasted 0 (q₀ .bytes) d₀
   count : n + length (q .bytes) ≡ length (q₀ .bytes)
   wrong : q .fault ≡ q₀ .fault
 
-rest-as : {n : ℕ} {d d₀ : List ℕ} {q q′ q₀ : Run} → q′ ≡ q → Rest n d q q₀ d₀ → Rest n d q′ q₀ d₀
-rest-as {n} {d} {d₀} {q₀ = q₀} e l = subst (λ (x : Run). Rest n d x q₀ d₀) (sym e) l
+rest-as : {n : ℕ} {d d₀ : List ℕ} {q q′ q₀ : HexRun} → q′ ≡ q → Rest n d q q₀ d₀ → Rest n d q′ q₀ d₀
+rest-as {n} {d} {d₀} {q₀ = q₀} e l = subst (λ (x : HexRun). Rest n d x q₀ d₀) (sym e) l
 
-stop : {n : ℕ} {d d₀ : List ℕ} {q q₀ : Run} {f : Fault} → stopped f ≡ q → Rest n d q q₀ d₀ → Takes q₀ d₀ d n f
+stop : {n : ℕ} {d d₀ : List ℕ} {q q₀ : HexRun} {f : Fault} → stopped f ≡ q → Rest n d q q₀ d₀ → Takes q₀ d₀ d n f
 stop {n} {d} e l =
     let k = rest-as e l in
     record { stands = sym (paste-none n d) ∙ k .stands; count = omega (arith, k .count); wrong = k .wrong }
 
-store : {n b : ℕ} {d d₀ : List ℕ} {q q′ q₀ : Run} → n < length d → onto b q′ ≡ q → Rest n d q q₀ d₀ → Rest (n + 1) (set d n b) q′ q₀ d₀
+store : {n b : ℕ} {d d₀ : List ℕ} {q q′ q₀ : HexRun} → n < length d → onto b q′ ≡ q → Rest n d q q₀ d₀ → Rest (n + 1) (set d n b) q′ q₀ d₀
 store {n} {b} {d} {q′ = q′} h e l =
     let k = rest-as e l in
     record { stands = store-first n b (q′ .bytes) d h ∙ k .stands; count = omega (arith, k .count); wrong = k .wrong }
 
 -- s is to read yet from `at` on; the buffer has m bytes
-pub record Left (s : List ℕ) (at m n : ℕ) (d : List ℕ) (q₀ : Run) (d₀ : List ℕ) : Type 0 where
-  rest : Rest n d (run s at (m - n)) q₀ d₀
+pub record Left (s : List ℕ) (at m n : ℕ) (d : List ℕ) (q₀ : HexRun) (d₀ : List ℕ) : Type 0 where
+  rest : Rest n d (hexRun s at (m - n)) q₀ d₀
 
-pub left-all : (s : List ℕ) (from : ℕ) (d : List ℕ) → Left s from (length d) 0 d (run s from (length d)) d
+pub left-all : (s : List ℕ) (from : ℕ) (d : List ℕ) → Left s from (length d) 0 d (hexRun s from (length d)) d
 left-all s from d =
-    let e : run s from (length d - 0) ≡ run s from (length d) = rw sub-zero in
+    let e : hexRun s from (length d - 0) ≡ hexRun s from (length d) = rw sub-zero in
     record { rest = rest-as e (record { stands = refl; count = zero-add _; wrong = refl }) }
 
-module _ {s : List ℕ} {at m n : ℕ} {d : List ℕ} {q₀ : Run} {d₀ : List ℕ} (l : Left s at m n d q₀ d₀) where
+module _ {s : List ℕ} {at m n : ℕ} {d : List ℕ} {q₀ : HexRun} {d₀ : List ℕ} (l : Left s at m n d q₀ d₀) where
   pub left-end : length s ≤ at → Takes q₀ d₀ d n Nothing
   left-end h = stop (end s at (m - n) (at + 1) h) (l .rest)
 
@@ -159,7 +159,7 @@ module _ {s : List ℕ} {at m n : ℕ} {d : List ℕ} {q₀ : Run} {d₀ : List 
               let t = there s (suc at) (omega arith) in
               let less : m - (n + 1) ≡ m - n - 1 = omega arith in
               let eq : y ≡ digitOf (getD s (suc at) 0) = e ∙ t .1 in
-              let byte : onto (x * 16 + y) (run s (at + 1 + 1) (m - (n + 1))) ≡ run s at (m - n) =
+              let byte : onto (x * 16 + y) (hexRun s (at + 1 + 1) (m - (n + 1))) ≡ hexRun s at (m - n) =
               rw (less, hx, eq, add-one (at + 1 + 1), add-one (at + 1), add-one at)
               (at-low s (suc at) (m - n) (suc (suc at)) (t .0) (digitOf (getD s at 0)) (omega arith)
               ∙ at-high s at (m - n) (suc at) more dense (omega arith) (omega arith)) in

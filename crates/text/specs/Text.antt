@@ -55,14 +55,14 @@ unfoldable pub digitAt : List ℕ → ℕ → ℕ
 digitAt s at = cond (ltb at (length s)) (digitOf (getD s at 0)) 16
 
 -- the bytes read, and what then was wrong
-pub record Run : Type 0 where
+pub record HexRun : Type 0 where
   pub bytes : List ℕ
   pub fault : Fault
 
-abbrev pub stopped : Fault → Run
+abbrev pub stopped : Fault → HexRun
 stopped f = record { bytes = []; fault = f }
 
-abbrev pub onto : ℕ → Run → Run
+abbrev pub onto : ℕ → HexRun → HexRun
 onto b q = record { bytes = b ∷ q .bytes; fault = q .fault }
 
 -- which digit of a byte is due; the low one after the high one's number
@@ -71,24 +71,24 @@ pub data Due : Type 0 where
   low : ℕ → Due
 
 -- "They are read from left to right and the first thing that is wrong is answered": `room` bytes more are taken
-unfoldable pub readFrom : Due → ℕ → ℕ → List ℕ → Run
-readFrom high room column [] = stopped Nothing
-readFrom (low h) room column [] = stopped (Digit column)
-readFrom high room column (x ∷ xs) =
-    cond (blank x) (readFrom high room (suc column) xs)
+unfoldable pub hexFrom : Due → ℕ → ℕ → List ℕ → HexRun
+hexFrom high room column [] = stopped Nothing
+hexFrom (low h) room column [] = stopped (Digit column)
+hexFrom high room column (x ∷ xs) =
+    cond (blank x) (hexFrom high room (suc column) xs)
     (cond (leb room 0) (stopped (Over column))
     (cond (ltb 15 (digitOf x)) (stopped (Digit column))
-    (readFrom (low (digitOf x)) room (suc column) xs)))
-readFrom (low h) room column (x ∷ xs) =
+    (hexFrom (low (digitOf x)) room (suc column) xs)))
+hexFrom (low h) room column (x ∷ xs) =
     cond (ltb 15 (digitOf x)) (stopped (Digit column))
-    (onto (h * 16 + digitOf x) (readFrom high (room - 1) (suc column) xs))
+    (onto (h * 16 + digitOf x) (hexFrom high (room - 1) (suc column) xs))
 
 -- what a line holds from `from` on, for a buffer of `room` bytes
-abbrev pub run : List ℕ → ℕ → ℕ → Run
-run s from room = readFrom high room (from + 1) (drop from s)
+abbrev pub hexRun : List ℕ → ℕ → ℕ → HexRun
+hexRun s from room = hexFrom high room (from + 1) (drop from s)
 
 -- the bytes stand at the front of a buffer, n of them, and the rest is kept
-pub record Takes (q : Run) (d d′ : List ℕ) (n : ℕ) (f : Fault) : Type 0 where
+pub record Takes (q : HexRun) (d d′ : List ℕ) (n : ℕ) (f : Fault) : Type 0 where
   pub stands : d′ ≡ pasted 0 (q .bytes) d
   pub count : n ≡ length (q .bytes)
   pub wrong : f ≡ q .fault

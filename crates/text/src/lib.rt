@@ -1,10 +1,12 @@
-// Text of lines: reading words and bytes in hex, and putting text into a lent buffer. Each `put` writes from `at` on and gives the place
+// Text of lines: reading words, bytes in hex and decimal numbers, and putting text into a lent buffer. Each `put` writes from `at` on and gives the place
 // past it; what doesn't fit is left out whole, so no buffer is too short to lend.
 ghost use mathlib.Core.Path.{_≡_};
-ghost use Prim.Native.Nat.{_≤_, _<_};
+ghost use Prim.Native.Nat.{_+_, _*_, _≤_, _<_};
+ghost use lib.Dec.{leb};
 ghost use lib.ListN.{length};
 ghost use Rattle.io.specs.Counts.{Counts};
-ghost use Rattle.text.specs.Text.{blank, inWord, other, leading, pastBlanks, digitOf, digitAt, run, Takes, sameText, sheet, putOn, putAll, hexDigit, hexOf, hexes, spaced, PutsDecimal};
+ghost use Rattle.text.specs.Text.{blank, inWord, other, leading, pastBlanks, digitOf, digitAt, hexRun, Takes, sameText, sheet, putOn, putAll, hexDigit, hexOf, hexes, spaced, PutsDecimal};
+ghost use Rattle.text.specs.Numbers.{digitsAt, numberAt};
 
 // ---- reading
 
@@ -84,7 +86,7 @@ pub fn same(a: &[u8], b: &[u8]) -> bool
 }
 
 // The number that a hex digit of either case stands for, 16 where it is none.
-pub fn digit(c: u8) -> u8
+fn digit(c: u8) -> u8
     ensures { λ r. ⌜ r ≡ digitOf c ⌝ }
     ensures { λ r. ⌜ r ≤ 16 ⌝ }
 {
@@ -135,7 +137,7 @@ pub struct Taken {
 
 // Reads bytes of two hex digits each, blanks before, between and after them, from `from` to the end of `s`, into `out`.
 pub fn take_bytes(s: &[u8], from: usize, out: &mut [u8]) -> Taken
-    ensures { λ r. ⌜ Takes (run (now (s .entry)) from (length (now (out .entry)))) (now (out .entry)) (now (out .exit)) (r .count) (r .fault) ⌝ }
+    ensures { λ r. ⌜ Takes (hexRun (now (s .entry)) from (length (now (out .entry)))) (now (out .entry)) (now (out .exit)) (r .count) (r .fault) ⌝ }
     ensures { λ r. ⌜ Counts (r .count) (now (out .exit)) ⌝ }
 {
     let mut n = 0;
@@ -174,6 +176,53 @@ pub fn take_bytes(s: &[u8], from: usize, out: &mut [u8]) -> Taken
         count: n,
         fault: Fault::Nothing,
     }
+}
+
+// What stands where a number is due: none, one over the most that is taken, or one and the place past its digits.
+pub enum Number {
+    Missing,
+    TooGreat,
+    Is(u64, usize),
+}
+
+// Whether a number with one digit more is at most `most`.
+fn fits(value: u64, digit: u8, most: u64) -> bool
+    ensures { λ r. ⌜ r ≡ leb (value * 10 + digit) most ⌝ }
+{
+    if most / 10 < value {
+        return false;
+    }
+    digit as u64 <= most - value * 10
+}
+
+// Reads the digits from `at` on. The first one that makes the number too great ends it: digits more make no number less.
+fn read_digits(s: &[u8], at: usize, most: u64) -> Number
+    ensures { λ r. ⌜ r ≡ digitsAt (now (s .entry)) at most ⌝ }
+{
+    let mut value: u64 = 0;
+    let mut i = at;
+    while i < s.len() {
+        let next = digit(s[i]);
+        if 9 < next {
+            return Number::Is(value, i);
+        }
+        if !fits(value, next, most) {
+            return Number::TooGreat;
+        }
+        value = value * 10 + next as u64;
+        i += 1;
+    }
+    Number::Is(value, i)
+}
+
+// The decimal number at a place, at most `most`.
+pub fn number_at(s: &[u8], at: usize, most: u64) -> Number
+    ensures { λ r. ⌜ r ≡ numberAt (now (s .entry)) at most ⌝ }
+{
+    if 9 < digit_at(s, at) {
+        return Number::Missing;
+    }
+    read_digits(s, at, most)
 }
 
 // ---- writing

@@ -2,6 +2,7 @@
 
 use super::commands::About;
 use super::{commands, damage, malformed, requests, scene, Generator};
+use crate::protocol::LONGEST_BUFFER;
 use crate::record::*;
 use crate::session::Session;
 use std::io::Write;
@@ -10,6 +11,9 @@ use std::io::Write;
 /// caps, thermal, throttles.
 const ENTRY_LENGTHS: [usize; CHANGES] = [2, 10, 5, 25, 3, 3, 3, 4, 8, 11, 164];
 const CHANGES: usize = 11;
+
+/// Reply buffers at the bounds of SBE and OCC calls and of `buffer`.
+const BUFFER_LENGTHS: [usize; 6] = [0, 31, 32, 4095, 4096, 8192];
 
 impl Generator {
     /// Each sort of damage and of malformed line once, so that no file lacks any.
@@ -40,6 +44,7 @@ impl Generator {
             self.write_to(output)?;
         }
         self.every_fault();
+        self.every_buffer();
         for length in [4090, 4091] {
             self.framed(0x10, 0xEE, &vec![0xFF; length]);
         }
@@ -66,6 +71,38 @@ impl Generator {
             (0..6).for_each(|length| self.occ(0x10, &packet[..length]));
             self.occ(0x30, &packet[..3]);
         }
+    }
+
+    /// Calls that are refused for another reason, or not at all, with each length of reply buffer.
+    fn every_buffer(&mut self) {
+        for length in BUFFER_LENGTHS {
+            self.buffer(length);
+            self.line("fresh", &[]);
+            self.framed(0x10, 0x21, &[FORMAT_ROLE, 1]);
+            self.framed(0x11, 0x00, &[0x10]);
+            self.occ(0x20, &[1, 0, 0]);
+            self.sbe_right(1);
+            self.line("sbe", &[&[0; 31]]);
+            self.undo();
+            self.whole_buffers();
+        }
+    }
+
+    /// A few calls with reply buffers of another length, then whole ones again, so that little else is lost.
+    fn other_buffers(&mut self) {
+        let any = self.random.between(0, LONGEST_BUFFER as usize);
+        let bound = self.random.pick(&BUFFER_LENGTHS);
+        let length = if self.random.one_in(8) { any } else { bound };
+        self.buffer(length);
+        for _ in 0..self.random.between(1, 3) {
+            match self.random.below(6) {
+                0 | 1 => self.right(About::Poll),
+                2 => self.nearly_right(),
+                3 | 4 => self.sbe(),
+                _ => self.undo(),
+            }
+        }
+        self.whole_buffers();
     }
 
     pub fn episode(&mut self) {
@@ -119,6 +156,9 @@ impl Generator {
         }
         if self.random.one_in(if self.small { 80 } else { 20 }) {
             self.look();
+        }
+        if self.random.one_in(60) {
+            self.other_buffers();
         }
     }
 
@@ -359,6 +399,9 @@ impl Generator {
         self.right(About::Poll);
         self.undo();
         self.sbe();
+        if self.random.one_in(12) {
+            self.other_buffers();
+        }
         if self.session().well_formed() {
             self.steps(3, 15);
             self.undos(6);

@@ -53,6 +53,29 @@ const SHORT: &[&str] = &[
     "load 00 11 22",
     "load 0 0",
     "load q",
+    "buffers",
+    "buffer4096",
+    "Buffer 32",
+    "buffer x",
+    "buffer \t-1",
+    "buffer +1",
+    "buffer #",
+    "buffer /1",
+    "buffer :1",
+    "buffer 12x",
+    "buffer 0x20",
+    "buffer 12 x",
+    "buffer 1 2",
+    "buffer 8,192",
+    "buffer 8193",
+    "buffer  \t 0008193 ",
+    "buffer 8193x",
+    "buffer 9999 x",
+    "buffer 65568",
+    "buffer 4294967328",
+    "buffer 18446744073709551615",
+    "buffer 18446744073709551648 x",
+    "buffer 340282366920938463463374607431768211488",
 ];
 
 /// Comments, blank lines and words with blanks around: all fine.
@@ -93,7 +116,7 @@ pub fn odd(random: &mut Random) -> Vec<u8> {
     line
 }
 
-const LONG_COUNT: usize = 20;
+const LONG_COUNT: usize = 22;
 
 /// Numbers that a small file can do without.
 pub const MORE_OF_THE_SAME: [usize; 6] = [0, 1, 5, 6, 7, 10];
@@ -138,6 +161,8 @@ pub fn long(random: &mut Random, number: usize) -> Vec<u8> {
         16 => repeated("load ", "00", IMAGE_LENGTH - 1, ""),
         17 => repeated("load ", "00", IMAGE_LENGTH, " 00"),
         18 => repeated("load ", "00", IMAGE_LENGTH, " z"),
-        _ => repeated("load", " 00", IMAGE_LENGTH - 1, " 0z"),
+        19 => repeated("load", " 00", IMAGE_LENGTH - 1, " 0z"),
+        20 => padded("buffer ", b'9', LONGEST_LINE),
+        _ => repeated("buffer ", "0", LONGEST_LINE - 11, "4096"),
     }
 }

@@ -171,6 +171,18 @@ impl Generator {
         self.occ(sender, &packet);
     }
 
+    /// Reply buffers of that length from now on, with zeros before the number now and then.
+    fn buffer(&mut self, length: usize) {
+        let zeros = if self.random.one_in(6) { self.random.between(1, 30) } else { 0 };
+        let line =
+            spelling::number_line(&mut self.random, "buffer", &format!("{}{length}", "0".repeat(zeros)));
+        self.emit(&line);
+    }
+
+    fn whole_buffers(&mut self) {
+        self.line("buffer", &[]);
+    }
+
     fn load(&mut self, image: &[u8]) {
         self.line("load", &[image]);
     }

@@ -44,6 +44,19 @@ pub fn bytes(random: &mut Random, line: &mut Vec<u8>, bytes: &[u8], style: Style
     }
 }
 
+/// A word and a number, with more blanks than needed now and then.
+pub fn number_line(random: &mut Random, word: &str, number: &str) -> Vec<u8> {
+    let mut line = Vec::new();
+    let most = if random.one_in(4) { 3 } else { 0 };
+    blanks(random, &mut line, most);
+    line.extend(word.as_bytes());
+    line.push(random.pick(b"     \t"));
+    blanks(random, &mut line, most);
+    line.extend(number.as_bytes());
+    blanks(random, &mut line, most);
+    line
+}
+
 /// A word and bytes in the given style, with blanks around now and then.
 pub fn line(random: &mut Random, word: &str, parts: &[&[u8]], style: Style) -> Vec<u8> {
     let mut line = Vec::new();

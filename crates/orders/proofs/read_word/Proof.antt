@@ -1,5 +1,5 @@
 -- `orders::read_word` meets its contract: the word was found in the part that starts at it. Assumes nothing.
-use Rattle.orders.proofs.Reading.{order-at, order-make, order-look, order-fail, order-skip}
+use Rattle.orders.proofs.Reading.{order-at, order-make, order-look, order-lend, order-fail, order-skip}
 use borrow.Author.Needs.{needs}
 use Rattle.orders.proofs.read_word.Statement.{statement}
 use Rattle.orders.proofs.read_word.Tie as tie
@@ -37,6 +37,12 @@ enum-known-word-2 c = search needs
 alone-requires : tie.Need-alone-requires
 alone-requires c κs = search needs
 
+enum-told : tie.Need-enum-told
+enum-told c = search needs
+
+read-buffer-requires : tie.Need-read-buffer-requires
+read-buffer-requires c κs = search needs
+
 enum-known-word-3 : tie.Need-enum-known-word-3
 enum-known-word-3 c = search needs
 
@@ -46,8 +52,8 @@ add-wrong-at c = search needs
 wrong-at-requires : tie.Need-wrong-at-requires
 wrong-at-requires c κs = search needs
 
-enum-told : tie.Need-enum-told
-enum-told c = search needs
+enum-told-2 : tie.Need-enum-told-2
+enum-told-2 c = search needs
 
 plain-requires : tie.Need-plain-requires
 plain-requires c κs = search needs
@@ -62,10 +68,13 @@ returns-2 : tie.Need-returns-2
 returns-2 c = (order-at _ _ _ (c .before .before .before .before .before .before .word-len .ensures .0) (c .before .before .before .before .word-of .ensures) (order-look _ _ _ _ (c .before .before .word2 .given .1) (c .alone .ensures .0)), search needs)
 
 returns-3 : tie.Need-returns-3
-returns-3 c = (order-at _ _ _ (c .before .before .before .before .before .before .word-len .ensures .0) (c .before .before .before .before .word-of .ensures) (order-fail _ _ _ _ (c .before .before .word3 .given .1) (c .wrong-at .ensures .0)), search needs)
+returns-3 c = (order-at _ _ _ (c .before .before .before .before .before .word-len .ensures .0) (c .before .before .before .word-of .ensures) (order-lend _ _ _ _ (c .before .enum-told .given .1) (c .read-buffer .ensures .0)), search needs)
 
 returns-4 : tie.Need-returns-4
-returns-4 c = (order-at _ _ _ (c .before .before .before .before .before .word-len .ensures .0) (c .before .before .before .word-of .ensures) (order-skip _ _ _ _ (c .before .enum-told .given .1) (c .plain .ensures .0)), search needs)
+returns-4 c = (order-at _ _ _ (c .before .before .before .before .before .before .word-len .ensures .0) (c .before .before .before .before .word-of .ensures) (order-fail _ _ _ _ (c .before .before .word3 .given .1) (c .wrong-at .ensures .0)), search needs)
+
+returns-5 : tie.Need-returns-5
+returns-5 c = (order-at _ _ _ (c .before .before .before .before .before .word-len .ensures .0) (c .before .before .before .word-of .ensures) (order-skip _ _ _ _ (c .before .enum-told2 .given .1) (c .plain .ensures .0)), search needs)
 
 pub read-word-spec : {M : Type 1} → statement M
 read-word-spec =
@@ -82,13 +91,16 @@ read-word-spec =
     read-call-requires
     enum-known-word-2
     alone-requires
+    enum-told
+    read-buffer-requires
     enum-known-word-3
     add-wrong-at
     wrong-at-requires
-    enum-told
+    enum-told-2
     plain-requires
     same-length
     returns
     returns-2
     returns-3
-    returns-4)
+    returns-4
+    returns-5)

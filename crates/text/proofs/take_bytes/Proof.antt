@@ -1,5 +1,5 @@
 -- `text::take_bytes` meets its contract: what is left to read, read now, gives the end. Assumes nothing.
-use Rattle.text.specs.Text.{run}
+use Rattle.text.specs.Text.{hexRun}
 use Rattle.text.proofs.Turns.{Left, left-all, left-end, left-blank, left-over, left-no-high, left-no-low, left-byte}
 use Prim.Native.Nat.{_≤_, _-_}
 use lib.ListN.{length}
@@ -11,7 +11,7 @@ use Rattle.text.proofs.take_bytes.Statement.{statement}
 use Rattle.text.proofs.take_bytes.Tie as tie
 
 abbrev Inv-loop : tie.InvT-loop
-Inv-loop s from out₀ n₀ at₀ out n at = (n ≤ length out₀) × (length out ≡ length out₀) × Left s at (length out₀) n out (run s from (length out₀)) out₀
+Inv-loop s from out₀ n₀ at₀ out n at = (n ≤ length out₀) × (length out ≡ length out₀) × Left s at (length out₀) n out (hexRun s from (length out₀)) out₀
 
 abbrev μ-loop : tie.MeasureT-loop
 μ-loop s from out₀ n₀ at₀ out n at = length s - at

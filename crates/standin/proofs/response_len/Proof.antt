@@ -1,0 +1,15 @@
+-- `standin::response_len` meets its contract: the buffer has that many. Assumes nothing.
+use lib.Seq.{length-take-le}
+use mathlib.Core.Path.{sym}
+use native.Mathlib.Omega.{arith}
+use Rattle.standin.proofs.response_len.Statement.{statement}
+use Rattle.standin.proofs.response_len.Tie as tie
+
+returns : tie.Need-returns
+returns c = (omega arith, sym (length-take-le _ _ (omega arith)))
+
+returns-2 : tie.Need-returns-2
+returns-2 c = (omega arith, sym (length-take-le 32 (c .before .args .buffer .now) (omega arith)))
+
+pub response-len-spec : {M : Type 1} → statement M
+response-len-spec = tie.close (tie.spec returns returns-2)

@@ -1,82 +1,34 @@
--- What a call on a lent image leaves, from what it calls. Assumes nothing.
+-- What making bytes fresh leaves. Assumes nothing.
+use mathlib.Core.Path.{_≡_, refl, sym, ap, _∙_}
+use mathlib.Core.List.{List, []}
 use Prim.Native.Nat.{ℕ}
-use mathlib.Core.Path.{_≡_, sym, ap, _∙_}
-use mathlib.Core.List.{List}
 use lib.ListN.{length}
 use Rattle.wire.specs.laws.Cases.{if-ne, else-ne}
 use Rattle.session.specs.Session.{freshSession}
 use Rattle.session.specs.declared.Session.{Session}
-use Rattle.image.specs.Image.{imageOf, sessionOf, readFrom}
-use Rattle.image.specs.laws.Image.{read-whole}
-use Rattle.occ_call.specs.declared.Outcome.{Outcome}
-use Rattle.occ_call.specs.Occ.{occCall}
-use Rattle.sbe_call.specs.declared.Rung.{Rung}
-use Rattle.sbe_call.specs.Sbe.{sbeCall}
-use Rattle.undo_call.specs.Undo.{Undone, undoCall}
-use Rattle.bjargolsk.specs.Calls.{packed, Left, Replied, freshOn, undoAnswered, undoOn, occAnswered, occOn, sbeAnswered, sbeOn}
+use Rattle.image.specs.Image.{imageLength, imageOf, writtenTo}
+use Rattle.inplace.specs.declared.Told.{Told}
+use Rattle.inplace.specs.InPlace.{Left, noImage}
+use Rattle.bjargolsk.specs.Calls.{packed, freshOn}
 
--- what a call leaves, part by part
+-- a session written into bytes of an image's length
+written : (b : List ℕ) (s : Session) → length b ≡ imageLength → writtenTo b s ≡ imageOf s
+unfolding writtenTo
+written b s long = sym (else-ne b (imageOf s) long refl)
+
 abbrev Leaves : ℕ → List ℕ → Left → Type 0
-Leaves x b q = (x ≡ q .result) × (b ≡ q .image)
+Leaves x y q = (x ≡ packed (q .told)) × (y ≡ q .image)
 
-leaves : (x : ℕ) (b : List ℕ) (q : Left) → record { result = x; image = b } ≡ q → Leaves x b q
-leaves x b q e = (ap (λ (p : Left). p .result) e, ap (λ (p : Left). p .image) e)
+left-by : (x : ℕ) (t : Told) (y : List ℕ) (q : Left) → x ≡ packed t → record { told = t; image = y; reply = [] } ≡ q → Leaves x y q
+left-by x t y q p e = (p ∙ ap (λ (l : Left). packed (l .told)) e, ap (λ (l : Left). l .image) e)
 
-abbrev Replies : ℕ → List ℕ → List ℕ → Replied → Type 0
-Replies x b d q = (x ≡ q .result) × ((b ≡ q .image) × (d ≡ q .reply))
+module _ (b : List ℕ) (x : ℕ) (t : Told) (p : x ≡ packed t) where
+  pub fresh-kept : (length b ≡ imageLength → ⊥) → t ≡ record { answer = 1; beside = 0 } → Leaves x b (freshOn b)
+  unfolding freshOn
+  fresh-kept z e = left-by x t b _ p ((λ i. record { told = e i; image = b; reply = [] }) ∙ if-ne (noImage b []) _ z refl)
 
-replies : (x : ℕ) (b d : List ℕ) (q : Replied) → record { result = x; image = b; reply = d } ≡ q → Replies x b d q
-replies x b d q e = (ap (λ (p : Replied). p .result) e, (ap (λ (p : Replied). p .image) e, ap (λ (p : Replied). p .reply) e))
-
-module _ (b : List ℕ) (x : ℕ) where
-  -- ---- no image
-
-  module _ (other : length b ≡ 2287 → ⊥) (one : x ≡ packed 1 0) where
-    pub fresh-kept : Leaves x b (freshOn b)
-    unfolding freshOn
-    fresh-kept = leaves x b _ (if-ne _ _ other (λ i. record { result = one i; image = b }))
-
-    pub undo-kept : Leaves x b (undoOn b)
-    unfolding undoOn
-    undo-kept = leaves x b _ (if-ne _ _ other (λ i. record { result = one i; image = b }))
-
-    pub occ-kept : (sender : ℕ) (c d : List ℕ) → Replies x b d (occOn b sender c d)
-    unfolding occOn
-    occ-kept sender c d = replies x b d _ (if-ne _ _ other (λ i. record { result = one i; image = b; reply = d }))
-
-    pub sbe-kept : (r d : List ℕ) → Replies x b d (sbeOn b r d)
-    unfolding sbeOn
-    sbe-kept r d = replies x b d _ (if-ne _ _ other (λ i. record { result = one i; image = b; reply = d }))
-
-  -- ---- an image: s is what was read, y what was written
-
-  module _ (long : length b ≡ 2287) (y : List ℕ) where
-    pub fresh-left : (s : Session) → s ≡ freshSession → (length b ≡ 2287 → y ≡ imageOf s) → x ≡ packed 0 0 → Leaves x y (freshOn b)
-    unfolding freshOn
-    fresh-left s e w p =
-        let image = w long ∙ ap imageOf e in leaves x y _ (else-ne _ _ long (λ i. record { result = p i; image = image i }))
-
-    module _ (s : Session) (is : s ≡ readFrom b) where
-      as-read : s ≡ sessionOf b
-      as-read = is ∙ sym (read-whole b long)
-
-      pub undo-left : (u : Undone) → u ≡ undoCall s → (length b ≡ 2287 → y ≡ imageOf (u .session)) → x ≡ packed (u .answer) (u .kind) → Leaves x y (undoOn b)
-      unfolding undoOn undoAnswered
-      undo-left u e w p =
-          leaves x y _ (else-ne _ _ long ((λ i. record { result = p i; image = w long i }) ∙ ap undoAnswered (e ∙ ap undoCall as-read)))
-
-      pub occ-left : (sender : ℕ) (c d z : List ℕ) (o : Outcome) → o ≡ occCall s sender c d .outcome → z ≡ occCall s sender c d .reply
-          → (length b ≡ 2287 → y ≡ imageOf (o .session)) → x ≡ packed (o .answer) 0 → Replies x y z (occOn b sender c d)
-      unfolding occOn occAnswered
-      occ-left sender c d z o e r w p =
-          replies x y z _ (else-ne _ _ long ((λ i. record { result = p i; image = w long i; reply = z })
-          ∙ (λ i. record { result = packed (e i .answer) 0; image = imageOf (e i .session); reply = r i })
-          ∙ ap (λ (t : Session). occAnswered (occCall t sender c d)) as-read))
-
-      pub sbe-left : (r d z : List ℕ) (o : Rung) → o ≡ sbeCall s r d .outcome → z ≡ sbeCall s r d .reply
-          → (length b ≡ 2287 → y ≡ imageOf (o .session)) → x ≡ packed (o .answer) (o .bell) → Replies x y z (sbeOn b r d)
-      unfolding sbeOn sbeAnswered
-      sbe-left r d z o e f w p =
-          replies x y z _ (else-ne _ _ long ((λ i. record { result = p i; image = w long i; reply = z })
-          ∙ (λ i. record { result = packed (e i .answer) (e i .bell); image = imageOf (e i .session); reply = f i })
-          ∙ ap (λ (t : Session). sbeAnswered (sbeCall t r d)) as-read))
+  pub fresh-left : length b ≡ imageLength → t ≡ record { answer = 0; beside = 0 } → (s : Session) (y : List ℕ) → s ≡ freshSession → y ≡ writtenTo b s → Leaves x y (freshOn b)
+  unfolding freshOn
+  fresh-left long e s y f w =
+      let image = w ∙ written b s long ∙ ap imageOf f in
+      left-by x t y _ p ((λ i. record { told = e i; image = image i; reply = [] }) ∙ else-ne (noImage b []) _ long refl)

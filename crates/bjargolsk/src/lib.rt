@@ -1,25 +1,29 @@
-// The calls for C: a session is lent as its image of 2,287 bytes and updated in place. A result has the answer in its low 16 bits.
+// The calls for C: those of `occ_call`, `sbe_call` and `undo_call` under C names. A result has the answer in its low 16 bits and what stands
+// beside it in the high 16.
 ghost use mathlib.Core.Path.{_≡_};
-ghost use Rattle.bjargolsk.specs.Calls.{packed, freshOn, undoOn, occOn, sbeOn};
+ghost use Rattle.occ_call.specs.Occ.{occOn};
+ghost use Rattle.sbe_call.specs.Sbe.{sbeOn};
+ghost use Rattle.undo_call.specs.Undo.{undoOn};
+ghost use Rattle.bjargolsk.specs.Calls.{packed, freshOn};
+use inplace::Told;
 
-// The answer, and the doorbell or the kind above it.
-fn pack(answer: u8, high: u16) -> u32
-    ensures { λ x. ⌜ x ≡ packed answer high ⌝ }
+fn pack(t: Told) -> u32
+    ensures { λ x. ⌜ x ≡ packed t ⌝ }
 {
-    (high as u32) * 65536 + (answer as u32)
+    (t.beside as u32) * 65536 + (t.answer as u32)
 }
 
-// The fresh session.
+// The fresh session; bytes of another length than an image's are answered by 1 and kept.
 #[no_mangle]
 pub extern "C" fn bjargolsk_fresh(lent: &mut [u8]) -> u32
-    ensures { λ x. ⌜ x ≡ freshOn (now (lent .entry)) .result ⌝ }
+    ensures { λ x. ⌜ x ≡ packed (freshOn (now (lent .entry)) .told) ⌝ }
     ensures { λ _. ⌜ now (lent .exit) ≡ freshOn (now (lent .entry)) .image ⌝ }
 {
-    if lent.len() != 2287 {
-        return pack(1, 0);
+    if lent.len() != image::LENGTH {
+        return pack(inplace::answer_with(1, 0));
     }
     image::write(session::fresh(), lent);
-    pack(0, 0)
+    pack(inplace::answer_with(0, 0))
 }
 
 // A command buffer from a sender, answered; the high 16 bits are 0.
@@ -30,49 +34,28 @@ pub extern "C" fn bjargolsk_occ(
     command: &[u8],
     reply: &mut [u8],
 ) -> u32
-    ensures { λ x. ⌜ x ≡ occOn (now (lent .entry)) sender (now (command .entry)) (now (reply .entry)) .result ⌝ }
+    ensures { λ x. ⌜ x ≡ packed (occOn (now (lent .entry)) sender (now (command .entry)) (now (reply .entry)) .told) ⌝ }
     ensures { λ _. ⌜ now (lent .exit) ≡ occOn (now (lent .entry)) sender (now (command .entry)) (now (reply .entry)) .image ⌝ }
     ensures { λ _. ⌜ now (reply .exit) ≡ occOn (now (lent .entry)) sender (now (command .entry)) (now (reply .entry)) .reply ⌝ }
 {
-    if lent.len() != 2287 {
-        return pack(1, 0);
-    }
-    let s = image::read(&*lent);
-    let said = occ_call::occ(s, sender, command, reply);
-    let after = said.session;
-    image::write(after, lent);
-    pack(said.answer, 0)
+    pack(occ_call::occ(lent, sender, command, reply))
 }
 
 // A mailbox request, answered; the high 16 bits are the doorbell.
 #[no_mangle]
 pub extern "C" fn bjargolsk_sbe(lent: &mut [u8], request: &[u8], reply: &mut [u8]) -> u32
-    ensures { λ x. ⌜ x ≡ sbeOn (now (lent .entry)) (now (request .entry)) (now (reply .entry)) .result ⌝ }
+    ensures { λ x. ⌜ x ≡ packed (sbeOn (now (lent .entry)) (now (request .entry)) (now (reply .entry)) .told) ⌝ }
     ensures { λ _. ⌜ now (lent .exit) ≡ sbeOn (now (lent .entry)) (now (request .entry)) (now (reply .entry)) .image ⌝ }
     ensures { λ _. ⌜ now (reply .exit) ≡ sbeOn (now (lent .entry)) (now (request .entry)) (now (reply .entry)) .reply ⌝ }
 {
-    if lent.len() != 2287 {
-        return pack(1, 0);
-    }
-    let s = image::read(&*lent);
-    let said = sbe_call::sbe(s, request, reply);
-    let after = said.session;
-    image::write(after, lent);
-    pack(said.answer, said.bell)
+    pack(sbe_call::sbe(lent, request, reply))
 }
 
 // The newest change taken back; the high 16 bits are its kind.
 #[no_mangle]
 pub extern "C" fn bjargolsk_undo(lent: &mut [u8]) -> u32
-    ensures { λ x. ⌜ x ≡ undoOn (now (lent .entry)) .result ⌝ }
+    ensures { λ x. ⌜ x ≡ packed (undoOn (now (lent .entry)) .told) ⌝ }
     ensures { λ _. ⌜ now (lent .exit) ≡ undoOn (now (lent .entry)) .image ⌝ }
 {
-    if lent.len() != 2287 {
-        return pack(1, 0);
-    }
-    let s = image::read(&*lent);
-    let said = undo_call::undo(s);
-    let restored = said.session;
-    image::write(restored, lent);
-    pack(said.answer, said.kind as u16)
+    pack(undo_call::undo(lent))
 }

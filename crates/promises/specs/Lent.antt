@@ -2,7 +2,10 @@
 use Prim.Native.Nat.{ℕ}
 use mathlib.Core.List.{List, [], _∷_}
 use Rattle.image.specs.Image.{imageOf}
-use Rattle.bjargolsk.specs.Calls.{packed, undoOn, occOn, sbeOn}
+use Rattle.occ_call.specs.Occ.{occOn}
+use Rattle.sbe_call.specs.Sbe.{sbeOn}
+use Rattle.undo_call.specs.Undo.{undoOn}
+use Rattle.bjargolsk.specs.Calls.{packed}
 use Rattle.promises.specs.Calls.{Call, occ, sbe, undo, Said}
 
 pub record Lent : Type 0 where
@@ -12,15 +15,18 @@ pub record Lent : Type 0 where
 
 -- what the contracts of the C functions say (a call without a reply buffer leaves none)
 unfoldable pub lent : List ℕ → Call → Lent
-lent b (occ sender c d) = record { result = occOn b sender c d .result; image = occOn b sender c d .image; reply = occOn b sender c d .reply }
-lent b (sbe r d) = record { result = sbeOn b r d .result; image = sbeOn b r d .image; reply = sbeOn b r d .reply }
-lent b undo = record { result = undoOn b .result; image = undoOn b .image; reply = [] }
+lent b (occ sender c d) = record { result = packed (occOn b sender c d .told); image = occOn b sender c d .image; reply = occOn b sender c d .reply }
+lent b (sbe r d) = record { result = packed (sbeOn b r d .told); image = sbeOn b r d .image; reply = sbeOn b r d .reply }
+lent b undo = record { result = packed (undoOn b .told); image = undoOn b .image; reply = undoOn b .reply }
 
 -- the same of a call on a session: the answer below, doorbell or kind above, the session as its image
+unfoldable pub beside : Call → Said → ℕ
+beside (occ sender c d) x = 0
+beside (sbe r d) x = x .bell
+beside undo x = x .kind
+
 unfoldable pub carriedOver : Call → Said → Lent
-carriedOver (occ sender c d) x = record { result = packed (x .answer) 0; image = imageOf (x .session); reply = x .reply }
-carriedOver (sbe r d) x = record { result = packed (x .answer) (x .bell); image = imageOf (x .session); reply = x .reply }
-carriedOver undo x = record { result = packed (x .answer) (x .kind); image = imageOf (x .session); reply = [] }
+carriedOver c x = record { result = packed (record { answer = x .answer; beside = beside c x }); image = imageOf (x .session); reply = x .reply }
 
 unfoldable pub lentRun : List ℕ → List Call → List ℕ
 lentRun b [] = b

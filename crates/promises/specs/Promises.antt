@@ -39,7 +39,7 @@ use Rattle.promises.specs.laws.WellFormed.{occ-formed, sbe-formed, undo-
 use Rattle.promises.specs.Later.{Wish, AsIf}
 use Rattle.promises.specs.laws.NoTrace.{trace-free, no-log-no-trace, later-alike}
 use Rattle.promises.specs.NoTrace.{withNext, after, tried}
-use Rattle.image.specs.Image.{imageOf}
+use Rattle.image.specs.Image.{imageLength, imageOf}
 use Rattle.bjargolsk.specs.Calls.{freshOn}
 use Rattle.promises.specs.laws.Lent.{fresh-image, lent-run, lent-next}
 use Rattle.promises.specs.Lent.{lent, carriedOver, lentRun}
@@ -132,7 +132,7 @@ no-id-twice cs b = ids-in-order freshRecord cs (start freshSession) b fresh-star
 
 -- ---- the same for C: an image made fresh, and any calls on it; it stays the image of the session, and each call's result and reply are the session's
 
-pub same-on-images : (b : List ℕ) → length b ≡ 2287 → (cs : List Call) → AllOfBytes cs
+pub same-on-images : (b : List ℕ) → length b ≡ imageLength → (cs : List Call) → AllOfBytes cs
     → (lentRun (freshOn b .image) cs ≡ imageOf (after cs .session)) × ((c : Call) → lent (imageOf (after cs .session)) c ≡ carriedOver c (said (after cs .session) c))
 unfolding start
 same-on-images b long cs bs = (

@@ -4,8 +4,14 @@ use borrow.Author.Needs.{needs}
 use Rattle.bjargolsk.proofs.pack.Statement.{statement}
 use Rattle.bjargolsk.proofs.pack.Tie as tie
 
+cast-result : tie.Need-cast-result
+cast-result c = search needs
+
 mul-result : tie.Need-mul-result
 mul-result c = search needs
+
+cast-result-2 : tie.Need-cast-result-2
+cast-result-2 c = search needs
 
 add-result : tie.Need-add-result
 add-result c = search needs
@@ -15,4 +21,4 @@ unfolding packed
 returns c = refl
 
 pub pack-spec : {M : Type 1} → statement M
-pack-spec = tie.close (tie.spec mul-result add-result returns)
+pack-spec = tie.close (tie.spec cast-result mul-result cast-result-2 add-result returns)

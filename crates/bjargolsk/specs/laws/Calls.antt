@@ -1,9 +1,8 @@
--- Calls on lent images are calls on sessions: a refusal leaves the bytes as they were, and the next call finds the session that the
--- last one returned. Assumes nothing.
+-- Calls on lent images are calls on sessions: a refusal leaves the bytes as they were. Assumes nothing.
 use Prim.Native.Nat.{ℕ, _*_, _+_, _%_}
 use mathlib.Core.Bool.{not}
 use mathlib.Core.Path.{_≡_, refl, ap, _∙_}
-use mathlib.Core.List.{List}
+use mathlib.Core.List.{List, []}
 use borrow.Author.Tests.{eqb-true, not-false}
 use lib.Arith.{digits-mod}
 use lib.Dec.{lit<, eqb}
@@ -11,46 +10,50 @@ use lib.ListN.{length}
 use Rattle.wire.specs.laws.Cases.{cond-cases}
 use Rattle.wire.specs.Wire.{Bytes}
 use Rattle.session.specs.declared.Session.{Session}
-use Rattle.image.specs.Image.{imageOf, sessionOf}
+use Rattle.image.specs.Image.{imageLength, imageOf, sessionOf}
 use Rattle.image.specs.laws.Image.{image-session}
+use Rattle.inplace.specs.InPlace.{Left}
+use Rattle.occ_call.specs.Occ.{occLeft, occOn}
 use Rattle.occ_call.specs.laws.Came as occ
+use Rattle.sbe_call.specs.Sbe.{sbeLeft, sbeOn}
 use Rattle.sbe_call.specs.laws.Came as sbe
+use Rattle.undo_call.specs.Undo.{undoLeft, undoOn}
 use Rattle.undo_call.specs.laws.Came as undo
-use Rattle.bjargolsk.specs.Calls.{packed, answerIn, Left, Replied, undoAnswered, undoOn, occAnswered, occOn, sbeAnswered, sbeOn}
+use Rattle.bjargolsk.specs.Calls.{packed, answerIn}
 
 -- a call that answered 0 has answer 0 in its result
-answered-zero : (n high : ℕ) → n ≡ 0 → answerIn (packed n high) ≡ 0
+answered-zero : (n high : ℕ) → n ≡ 0 → answerIn (packed (record { answer = n; beside = high })) ≡ 0
 unfolding answerIn packed
 answered-zero n high e = ap (λ (k : ℕ). (high * 65536 + k) % 65536) e ∙ digits-mod high (lit< tt)
 
 module _ (b : List ℕ) (bytes : Bytes b) where
   -- the image of the session that was read is the bytes that it was read from
-  same-image : (s : Session) → length b ≡ 2287 → s ≡ sessionOf b → imageOf s ≡ b
+  same-image : (s : Session) → length b ≡ imageLength → s ≡ sessionOf b → imageOf s ≡ b
   same-image s long e = ap imageOf e ∙ image-session b bytes long
 
-  abbrev Kept : Replied → List ℕ → Type 0
-  Kept q d = (answerIn (q .result) ≡ 0 → ⊥) → (q .image ≡ b) × (q .reply ≡ d)
+  abbrev Kept : Left → List ℕ → Type 0
+  Kept q d = (answerIn (packed (q .told)) ≡ 0 → ⊥) → (q .image ≡ b) × (q .reply ≡ d)
 
   pub occ-refused : (sender : ℕ) (c d : List ℕ) → Kept (occOn b sender c d) d
-  unfolding occOn occAnswered
+  unfolding occOn occLeft
   occ-refused sender c d =
-      cond-cases (λ (q : Replied). Kept q d) (not (eqb (length b) 2287)) (λ e h. (refl, refl))
+      cond-cases (λ (q : Left). Kept q d) (not (eqb (length b) imageLength)) (λ e h. (refl, refl))
       (λ e h.
       let k = occ.refusal-keeps (sessionOf b) sender c d _ (occ.came (sessionOf b) sender c d) (λ z. h (answered-zero _ 0 z)) in
-      (same-image _ (eqb-true (length b) 2287 (not-false _ e)) (k .0), k .1))
+      (same-image _ (eqb-true (length b) imageLength (not-false _ e)) (k .0), k .1))
 
   pub sbe-refused : (r d : List ℕ) → Kept (sbeOn b r d) d
-  unfolding sbeOn sbeAnswered
+  unfolding sbeOn sbeLeft
   sbe-refused r d =
-      cond-cases (λ (q : Replied). Kept q d) (not (eqb (length b) 2287)) (λ e h. (refl, refl))
+      cond-cases (λ (q : Left). Kept q d) (not (eqb (length b) imageLength)) (λ e h. (refl, refl))
       (λ e h.
       let k = sbe.refusal-keeps (sessionOf b) r d _ (sbe.came (sessionOf b) r d) (λ z. h (answered-zero _ _ z)) in
-      (same-image _ (eqb-true (length b) 2287 (not-false _ e)) (k .0), k .1))
+      (same-image _ (eqb-true (length b) imageLength (not-false _ e)) (k .0), k .1))
 
-  pub undo-refused : (answerIn (undoOn b .result) ≡ 0 → ⊥) → undoOn b .image ≡ b
-  unfolding undoOn undoAnswered
+  pub undo-refused : Kept (undoOn b) []
+  unfolding undoOn undoLeft
   undo-refused =
-      cond-cases (λ (q : Left). (answerIn (q .result) ≡ 0 → ⊥) → q .image ≡ b) (not (eqb (length b) 2287)) (λ e h. refl)
+      cond-cases (λ (q : Left). Kept q []) (not (eqb (length b) imageLength)) (λ e h. (refl, refl))
       (λ e h.
       let k = undo.refusal-keeps (sessionOf b) _ (undo.came (sessionOf b)) (λ z. h (answered-zero _ _ z)) in
-      same-image _ (eqb-true (length b) 2287 (not-false _ e)) (k .0))
+      (same-image _ (eqb-true (length b) imageLength (not-false _ e)) (k .0), refl))

@@ -15,20 +15,21 @@ use Rattle.session.specs.Session.{freshSession, withHeld}
 use Rattle.session.specs.declared.Session.{Session}
 use Rattle.occ_call.specs.Occ as occs
 use Rattle.sbe_call.specs.Sbe as sbes
-use Rattle.undo_call.specs.Undo.{undoCall}
-use Rattle.image.specs.Image.{imageOf, sessionOf}
+use Rattle.undo_call.specs.Undo.{undoCall, undoLeft, undoOn}
+use Rattle.image.specs.Image.{imageLength, imageOf, sessionOf}
 use Rattle.image.specs.laws.Image.{Typed, session-image, length-image}
-use Rattle.bjargolsk.specs.Calls.{Replied, Left, freshOn, undoAnswered, undoOn, occAnswered, occOn, sbeAnswered, sbeOn}
+use Rattle.inplace.specs.InPlace.{Left}
+use Rattle.bjargolsk.specs.Calls.{packed, freshOn}
 use Rattle.promises.specs.Calls.{Call, occ, sbe, undo, Said, said}
 use Rattle.promises.specs.History.{left, logsMade, replay, Run, next-run, run, AllOfBytes}
 use Rattle.promises.specs.laws.ByHistory.{length-padded, journalOf, byHistory, Sane}
 use Rattle.promises.specs.laws.Demand3.{Inv, next-inv}
-use Rattle.promises.specs.Lent.{Lent, lent, carriedOver, lentRun}
+use Rattle.promises.specs.Lent.{Lent, lent, beside, carriedOver, lentRun}
 
 -- ---- a call on an image
 
 -- an image of any bytes made fresh
-pub fresh-image : (b : List ℕ) → length b ≡ 2287 → freshOn b .image ≡ imageOf freshSession
+pub fresh-image : (b : List ℕ) → length b ≡ imageLength → freshOn b .image ≡ imageOf freshSession
 unfolding freshOn
 fresh-image b long = sym (ap (λ (q : Left). q .image) (else-ne _ _ long refl))
 
@@ -38,29 +39,32 @@ module _ (s : Session) (t : Typed s) where
   abbrev b : List ℕ
   b = imageOf s
 
-  long : length b ≡ 2287
+  long : length b ≡ imageLength
   long = length-image s (t .session)
 
   back : sessionOf b ≡ s
   back = session-image s t
 
-  occ-on : (sender : ℕ) (c d : List ℕ) → occOn b sender c d ≡ occAnswered (occs.occCall s sender c d)
-  unfolding occOn
-  occ-on sender c d = sym (else-ne _ _ long refl) ∙ ap (λ (x : Session). occAnswered (occs.occCall x sender c d)) back
+  occ-on : (sender : ℕ) (c d : List ℕ) → occs.occOn b sender c d ≡ occs.occLeft (occs.occCall s sender c d)
+  unfolding occs.occOn
+  occ-on sender c d = sym (else-ne _ _ long refl) ∙ ap (λ (x : Session). occs.occLeft (occs.occCall x sender c d)) back
 
-  sbe-on : (r d : List ℕ) → sbeOn b r d ≡ sbeAnswered (sbes.sbeCall s r d)
-  unfolding sbeOn
-  sbe-on r d = sym (else-ne _ _ long refl) ∙ ap (λ (x : Session). sbeAnswered (sbes.sbeCall x r d)) back
+  sbe-on : (r d : List ℕ) → sbes.sbeOn b r d ≡ sbes.sbeLeft (sbes.sbeCall s r d)
+  unfolding sbes.sbeOn
+  sbe-on r d = sym (else-ne _ _ long refl) ∙ ap (λ (x : Session). sbes.sbeLeft (sbes.sbeCall x r d)) back
 
-  undo-on : undoOn b ≡ undoAnswered (undoCall s)
+  undo-on : undoOn b ≡ undoLeft (undoCall s)
   unfolding undoOn
-  undo-on = sym (else-ne _ _ long refl) ∙ ap (λ (x : Session). undoAnswered (undoCall x)) back
+  undo-on = sym (else-ne _ _ long refl) ∙ ap (λ (x : Session). undoLeft (undoCall x)) back
+
+  abbrev as-lent : Left → Lent
+  as-lent q = record { result = packed (q .told); image = q .image; reply = q .reply }
 
   pub lent-said : (c : Call) → lent b c ≡ carriedOver c (said s c)
-  unfolding lent carriedOver said occAnswered sbeAnswered undoAnswered
-  lent-said (occ sender c d) = ap (λ (q : Replied). record { result = q .result; image = q .image; reply = q .reply }) (occ-on sender c d)
-  lent-said (sbe r d) = ap (λ (q : Replied). record { result = q .result; image = q .image; reply = q .reply }) (sbe-on r d)
-  lent-said undo = ap (λ (q : Left). record { result = q .result; image = q .image; reply = [] }) undo-on
+  unfolding lent carriedOver beside said occs.occLeft sbes.sbeLeft undoLeft
+  lent-said (occ sender c d) = ap as-lent (occ-on sender c d)
+  lent-said (sbe r d) = ap as-lent (sbe-on r d)
+  lent-said undo = ap as-lent undo-on
 
 -- ---- every session of a history has what the types say
 
@@ -85,12 +89,9 @@ module _ (base : Record) where
   run-typed : (p : Run) → Inv base p → Typed (p .session)
   run-typed p v = subst Typed (sym (v .is)) (history-typed (left (p .marks)) (logsMade (p .marks)) (v .sane))
 
-  -- the image after a call is the image of the session after it
   image-after : (c : Call) (x : Said) → carriedOver c x .image ≡ imageOf (x .session)
   unfolding carriedOver
-  image-after (occ sender c d) x = refl
-  image-after (sbe r d) x = refl
-  image-after undo x = refl
+  image-after c x = refl
 
   pub lent-run : (cs : List Call) (p : Run) → AllOfBytes cs → Inv base p → lentRun (imageOf (p .session)) cs ≡ imageOf (run p cs .session)
   unfolding lentRun run next-run

@@ -127,7 +127,7 @@ module _ (s : Session) (formed : wellFormed s ≡ true) (ok : recordOk (s .held)
     sbe-verdict (Granted ch) e = sbe-makes ch e
 
     sbe-follows : SbeFollows (deed s (sbe r d)) (sbes.sbeCall s r d)
-    unfolding deed sbes.sbeCall sbes.sbeFrom sbes.kept sbes.rung
+    unfolding deed sbes.sbeCall sbes.sbeFrom sbes.sbeRead sbes.kept sbes.rung
     sbe-follows =
         by-both SbeFollows (not (eqb (sbes.sbeRefusal s (length r) (length d)) 0)) (λ f. stays _ (sbe-fair (length r) (length d)))
         (λ f. sbe-verdict (mailbox.requestVerdict r) refl)

@@ -205,7 +205,7 @@ module _ (k : ℕ) (low : 1 ≤ k) (s t : Session) (tw : Twins k s t) (from-k : 
     sbe-refusal = ap (λ (b : Bool). sbes.refusalOf b (length r) (length d)) (formed-t ∙ sym formed-s)
 
     sbe-from : SbeHeard (sbes.sbeFrom m s r d) (cond (not (eqb m 0)) keeps (sbeVerdict s (mailbox.requestVerdict r))) (sbes.sbeFrom m t r d) (cond (not (eqb m 0)) keeps (sbeVerdict t (mailbox.requestVerdict r)))
-    unfolding sbes.sbeFrom sbes.kept sbes.rung shiftedDeed
+    unfolding sbes.sbeFrom sbes.sbeRead sbes.kept sbes.rung shiftedDeed
     sbe-from = go (not (eqb m 0))
       where
         go : (b : Bool) → SbeHeard (cond b (sbes.kept m s d) (sbes.verdictSays s r d (mailbox.requestVerdict r))) (cond b keeps (sbeVerdict s (mailbox.requestVerdict r)))

@@ -27,7 +27,7 @@ use Rattle.journal.specs.declared.End.the-variants.{At, Full}
 use Rattle.journal.specs.declared.Found.the-variants.{Good}
 use Rattle.session.specs.Session.{withHeld, madeOf, carriedTo, carriedOf}
 use Rattle.session.specs.declared.Session.{Session}
-use Rattle.undo_call.specs.Undo.{Undone, notUndone, undone, undonePut, undoneWith, undoneFound, undoneGot, undoneAt, undoneRead, undoCall}
+use Rattle.undo_call.specs.Undo.{Undone, notUndone, undone, undonePut, undoneWith, undoneFound, undoneGot, undoneAt, undoneRead, undoneNewest, undoCall}
 use Rattle.links.specs.laws.Made.{Made}
 use Rattle.links.specs.laws.Links.{Link, link, next-up}
 use Rattle.promises.specs.History.{replay}
@@ -198,7 +198,7 @@ module _ (base : Record) (e : Edit) (es : List Edit) (n : ℕ) where
     used-some z = omega (arith, all-used, some-bytes, z)
 
     pub undo-history : undoCall s ≡ record { answer = 0; kind = kindOf (inverseOf (replay base es) e .change); session = byHistory base es n }
-    unfolding undoCall
+    unfolding undoCall undoneNewest
     undo-history = sym (else-b _ _ (ap not (history-formed base (e ∷ es) n g)) (else-eq _ _ {m = s .used} {n = 0} used-some (sym read-is)))
 
     pub undone-sane : Sane base es n
@@ -207,7 +207,7 @@ module _ (base : Record) (e : Edit) (es : List Edit) (n : ℕ) where
 
 -- an empty history has nothing to undo
 pub undo-nothing : (base : Record) (n : ℕ) → Sane base [] n → undoCall (byHistory base [] n) ≡ notUndone 6 (byHistory base [] n)
-unfolding undoCall byHistory withHeld journalOf
+unfolding undoCall undoneNewest byHistory withHeld journalOf
 undo-nothing base n g =
     let s = byHistory base [] n in
     let rest = undoneRead s (readingOf (scan (take (s .used) (s .journal)))) in

@@ -1,4 +1,4 @@
-//! Big-endian reading of bytes, and hex.
+//! Big-endian reading and writing of bytes, and hex.
 
 /// Takes numbers off the front of some bytes; `None` when they run out.
 pub struct Reader<'a> {
@@ -35,6 +35,28 @@ impl<'a> Reader<'a> {
     pub fn is_empty(&self) -> bool {
         self.rest.is_empty()
     }
+}
+
+/// Puts bytes one after the other into a buffer that has room for them.
+pub struct Writer<'a> {
+    rest: &'a mut [u8],
+}
+
+impl<'a> Writer<'a> {
+    pub fn new(buffer: &'a mut [u8]) -> Self {
+        Writer { rest: buffer }
+    }
+
+    pub fn put(&mut self, bytes: &[u8]) {
+        let (place, rest) = std::mem::take(&mut self.rest).split_at_mut(bytes.len());
+        place.copy_from_slice(bytes);
+        self.rest = rest;
+    }
+}
+
+/// Looks at every byte, so that many are looked at together.
+pub fn all_zero(bytes: &[u8]) -> bool {
+    bytes.iter().fold(0, |seen, byte| seen | byte) == 0
 }
 
 const DIGITS: &[u8; 16] = b"0123456789ABCDEF";

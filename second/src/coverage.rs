@@ -138,33 +138,32 @@ fn undo_sort(session: &Session) -> String {
     if !session.well_formed() {
         return "of a damaged session".to_string();
     }
-    let used = session.used_journal().unwrap_or(&[]);
-    let found = crate::journal::entries(used).unwrap_or_default();
-    let Some(newest) = found.last() else {
+    let newest = session.journal.survey().newest.and_then(|offset| session.journal.read(offset));
+    let Some(newest) = newest else {
         return "of an empty journal".to_string();
     };
     let pending = session.record.pending();
-    let why = match Change::read(newest.kind, newest.body) {
-        Some(Change::Clear { .. }) if pending == 4 => " (4 pend)",
-        Some(Change::Clear { place, .. }) if usize::from(place) > pending => " (place too high)",
-        Some(Change::Clear { log, .. }) if u16::from(log.id) >= session.next_id => " (id not below next)",
-        Some(Change::Clear { log, .. }) if session.record.place_of(log.id).is_some() => " (id twice)",
-        Some(Change::Reset { log_made: 1, .. }) if pending == 0 => " (log made, none pends)",
-        Some(Change::Reset { log_made: 1, .. }) => " (log made)",
+    let why = match newest {
+        Change::Clear { .. } if pending == 4 => " (4 pend)",
+        Change::Clear { place, .. } if usize::from(place) > pending => " (place too high)",
+        Change::Clear { log, .. } if u16::from(log.id) >= session.next_id => " (id not below next)",
+        Change::Clear { log, .. } if session.record.place_of(log.id).is_some() => " (id twice)",
+        Change::Reset { log_made: 1, .. } if pending == 0 => " (log made, none pends)",
+        Change::Reset { log_made: 1, .. } => " (log made)",
         _ => "",
     };
-    format!("kind {:02X}{why}", newest.kind)
+    format!("kind {:02X}{why}", newest.kind())
 }
 
 /// Changes that took the last of the room, and refusals for want of one byte.
 fn count_room(counts: &mut Counts, before: &Session, after: &Session, number: &str, what: &str) {
-    if number == "0" && after.used == 2048 && before.used < 2048 {
-        let kind = before.journal.len().checked_sub(before.room()).and_then(|at| after.journal.get(at));
+    if number == "0" && after.journal.room() == 0 && before.journal.room() > 0 {
+        let kind = after.journal.bytes.get(usize::from(before.journal.used));
         add(counts, format!("room used up by kind {:02X}", kind.unwrap_or(&0)));
     }
-    let one_short = [1, 2, 3, 4, 7, 9, 10, 24, 163].contains(&before.room());
+    let one_short = [1, 2, 3, 4, 7, 9, 10, 24, 163].contains(&before.journal.room());
     if number == "5" && one_short {
-        add(counts, format!("answer 5 with room {}: {what}", before.room()));
+        add(counts, format!("answer 5 with room {}: {what}", before.journal.room()));
     }
 }
 

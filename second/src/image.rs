@@ -1,49 +1,71 @@
 //! The image of a session: its fields in order, big-endian, no padding. Both ways lose nothing.
 
-use crate::bytes::Reader;
-use crate::journal::{read_area, read_caps, read_sets};
+use crate::bytes::{Reader, Writer};
+use crate::journal::*;
 use crate::record::*;
 use crate::session::Session;
 
-pub const IMAGE_LENGTH: usize = 2287;
+/// All before the journal's bytes.
+const HEAD_LENGTH: usize = 239;
+pub const IMAGE_LENGTH: usize = HEAD_LENGTH + JOURNAL_LENGTH;
 
 pub fn write(session: &Session) -> Vec<u8> {
-    let mut bytes = Vec::with_capacity(IMAGE_LENGTH);
-    write_record(&mut bytes, &session.record);
-    let worked = &session.worked_out;
-    bytes.extend(worked.limit.to_be_bytes());
-    bytes.extend([worked.observation, worked.active, worked.wanted]);
-    bytes.extend(session.next_id.to_be_bytes());
-    bytes.extend(session.used.to_be_bytes());
-    bytes.extend(session.journal);
+    let mut bytes = vec![0; IMAGE_LENGTH];
+    let (head, journal) = bytes.split_at_mut(HEAD_LENGTH);
+    write_head(head, session);
+    journal.copy_from_slice(&session.journal.bytes);
     bytes
 }
 
-fn write_record(bytes: &mut Vec<u8>, record: &Record) {
-    bytes.extend([record.state, record.role]);
-    let caps = &record.caps;
-    for value in [caps.minimum, caps.maximum, caps.oversubscription, record.throttles.presence] {
-        bytes.extend(value.to_be_bytes());
+fn write_head<B>(head: &mut [u8], session: &Session<B>) {
+    let mut head = Writer::new(head);
+    write_record(&mut head, &session.record);
+    let worked = &session.worked_out;
+    head.put(&worked.limit.to_be_bytes());
+    head.put(&[worked.observation, worked.active, worked.wanted]);
+    head.put(&session.next_id.to_be_bytes());
+    head.put(&session.journal.used.to_be_bytes());
+}
+
+fn write_record(head: &mut Writer, record: &Record) {
+    head.put(&[record.state, record.role]);
+    write_caps(head, &record.caps);
+    write_throttles(head, &record.throttles);
+    head.put(&record.user_cap.to_be_bytes());
+    head.put(&record.thermal);
+    head.put(&[record.role_received, record.caps_received]);
+    head.put(&[record.throttles_received, record.thermal_received]);
+    for log in &record.logs {
+        head.put(&[log.id, log.reason]);
     }
-    bytes.extend(record.throttles.sets.iter().flatten());
-    bytes.extend(record.user_cap.to_be_bytes());
-    bytes.extend(record.thermal);
-    bytes.extend([record.role_received, record.caps_received]);
-    bytes.extend([record.throttles_received, record.thermal_received]);
-    bytes.extend(record.logs.iter().flat_map(|log| [log.id, log.reason]));
-    bytes.extend(record.mask.to_be_bytes());
-    bytes.push(record.running);
-    bytes.extend(record.time.to_be_bytes());
-    for area in [&record.ffdc, &record.pass] {
-        bytes.extend(area.address.to_be_bytes());
-        bytes.extend(area.size.to_be_bytes());
-    }
+    head.put(&record.mask.to_be_bytes());
+    head.put(&[record.running]);
+    head.put(&record.time.to_be_bytes());
+    write_area(head, &record.ffdc);
+    write_area(head, &record.pass);
 }
 
 /// `None` if the number of bytes isn't the image's.
 pub fn read(bytes: &[u8]) -> Option<Session> {
-    let mut rest = Reader::new(bytes);
-    let session = Session {
+    let (head, journal) = bytes.split_at_checked(HEAD_LENGTH)?;
+    read_head(head, journal.try_into().ok()?)
+}
+
+/// Makes a call on an image in place: the journal stays where it is, all before it is written back. `None` as above.
+pub fn call<R>(bytes: &mut [u8], make: impl FnOnce(&mut Session<&mut [u8]>) -> R) -> Option<R> {
+    let (head, journal) = bytes.split_at_mut_checked(HEAD_LENGTH)?;
+    if journal.len() != JOURNAL_LENGTH {
+        return None;
+    }
+    let mut session = read_head(head, journal)?;
+    let result = make(&mut session);
+    write_head(head, &session);
+    Some(result)
+}
+
+fn read_head<B>(head: &[u8], journal: B) -> Option<Session<B>> {
+    let mut rest = Reader::new(head);
+    Some(Session {
         record: read_record(&mut rest)?,
         worked_out: WorkedOut {
             limit: rest.u16()?,
@@ -52,10 +74,8 @@ pub fn read(bytes: &[u8]) -> Option<Session> {
             wanted: rest.u8()?,
         },
         next_id: rest.u16()?,
-        used: rest.u16()?,
-        journal: rest.array()?,
-    };
-    rest.is_empty().then_some(session)
+        journal: Store { used: rest.u16()?, bytes: journal },
+    })
 }
 
 fn read_record(rest: &mut Reader) -> Option<Record> {

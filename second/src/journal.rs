@@ -1,6 +1,6 @@
 //! The journal: entries of a kind and a body that holds what was before.
 
-use crate::bytes::{hex, Reader};
+use crate::bytes::{all_zero, hex, Reader, Writer};
 use crate::record::*;
 
 pub const JOURNAL_LENGTH: usize = 2048;
@@ -29,19 +29,30 @@ pub struct Entry<'a> {
     pub body: &'a [u8],
 }
 
-/// The entries, or the offset of the first that has an unknown kind or a cut body.
-pub fn entries(bytes: &[u8]) -> Result<Vec<Entry<'_>>, usize> {
-    let mut found = Vec::new();
-    let mut offset = 0;
-    let mut rest = bytes;
-    while let Some((kind, after)) = rest.split_first() {
-        let length = body_length(*kind).ok_or(offset)?;
-        let (body, next) = after.split_at_checked(length).ok_or(offset)?;
-        found.push(Entry { offset, kind: *kind, body });
-        offset += 1 + length;
-        rest = next;
+/// The entries, one after the other; at last, if so, the offset of one that has an unknown kind or a cut body.
+pub struct Entries<'a> {
+    offset: usize,
+    rest: &'a [u8],
+}
+
+pub fn entries(bytes: &[u8]) -> Entries<'_> {
+    Entries { offset: 0, rest: bytes }
+}
+
+impl<'a> Iterator for Entries<'a> {
+    type Item = Result<Entry<'a>, usize>;
+
+    fn next(&mut self) -> Option<Self::Item> {
+        let (kind, after) = self.rest.split_first()?;
+        let offset = self.offset;
+        let Some((body, rest)) = body_length(*kind).and_then(|length| after.split_at_checked(length)) else {
+            self.rest = &[]; // nothing can be read behind it
+            return Some(Err(offset));
+        };
+        self.offset += 1 + body.len();
+        self.rest = rest;
+        Some(Ok(Entry { offset, kind: *kind, body }))
     }
-    Ok(found)
 }
 
 /// The lister: judges kinds and lengths, not values.
@@ -49,7 +60,7 @@ pub fn list(bytes: &[u8]) -> String {
     if bytes.len() > JOURNAL_LENGTH {
         return "too long\n".to_string();
     }
-    match entries(bytes) {
+    match entries(bytes).collect::<Result<Vec<Entry>, usize>>() {
         Err(offset) => format!("damaged at {offset}\n"),
         Ok(found) => {
             let mut text = format!("journal {}\n", found.len());
@@ -57,6 +68,101 @@ pub fn list(bytes: &[u8]) -> String {
                 text.push_str(&format!("{:02X} {}\n", entry.kind, hex(entry.body)));
             }
             text
+        }
+    }
+}
+
+/// The bytes of a store: the session's own, or a part of an image that was lent.
+pub trait Bytes: AsRef<[u8]> + AsMut<[u8]> {}
+impl<T: AsRef<[u8]> + AsMut<[u8]>> Bytes for T {}
+
+/// Entries at the front, zeros behind them.
+#[derive(Clone, PartialEq, Eq, Debug)]
+pub struct Store<B = [u8; JOURNAL_LENGTH]> {
+    pub used: u16,
+    pub bytes: B,
+}
+
+/// What one pass over a store finds.
+#[derive(Default)]
+pub struct Survey {
+    /// The used length is over the store's.
+    pub too_long: bool,
+    pub damaged: bool,
+    pub wrong_body: bool,
+    pub rest_not_zero: bool,
+    /// The offset of the newest entry.
+    pub newest: Option<usize>,
+}
+
+impl Store {
+    pub fn empty() -> Self {
+        Store { used: 0, bytes: [0; JOURNAL_LENGTH] }
+    }
+}
+
+impl<B: Bytes> Store<B> {
+    /// `None` if the used length is over the store's.
+    pub fn used_bytes(&self) -> Option<&[u8]> {
+        self.bytes.as_ref().get(..usize::from(self.used))
+    }
+
+    fn unused_bytes(&self) -> &[u8] {
+        self.bytes.as_ref().get(usize::from(self.used)..).unwrap_or(&[])
+    }
+
+    pub fn room(&self) -> usize {
+        self.unused_bytes().len()
+    }
+
+    pub fn survey(&self) -> Survey {
+        let Some(used) = self.used_bytes() else {
+            return Survey { too_long: true, ..Survey::default() };
+        };
+        let mut found = Survey { rest_not_zero: !all_zero(self.unused_bytes()), ..Survey::default() };
+        for entry in entries(used) {
+            match entry {
+                Ok(entry) => {
+                    found.wrong_body |= !body_fits(entry.kind, entry.body);
+                    found.newest = Some(entry.offset);
+                }
+                Err(_) => found.damaged = true,
+            }
+        }
+        found
+    }
+
+    /// The entry that stands there.
+    pub fn read(&self, offset: usize) -> Option<Change> {
+        let (kind, body) = self.used_bytes()?.get(offset..)?.split_first()?;
+        Change::read(*kind, body)
+    }
+
+    /// The room for an entry of that length, behind the others; it counts as used from now on. `None` if there isn't any.
+    fn room_for(&mut self, length: usize) -> Option<&mut [u8]> {
+        let start = usize::from(self.used);
+        let place = self.bytes.as_mut().get_mut(start..start + length)?;
+        self.used += length as u16;
+        Some(place)
+    }
+
+    /// Adds an entry, if there is room.
+    pub fn push(&mut self, change: &Change) -> bool {
+        let place = self.room_for(1 + change.body_length());
+        place.map(|place| change.write(&mut Writer::new(place))).is_some()
+    }
+
+    /// Adds bytes, whatever they are, if there is room.
+    pub fn push_bytes(&mut self, bytes: &[u8]) -> bool {
+        self.room_for(bytes.len()).map(|place| place.copy_from_slice(bytes)).is_some()
+    }
+
+    /// Zeroes what is used from there on.
+    pub fn cut(&mut self, offset: usize) {
+        let used = usize::from(self.used);
+        if let Some(entry) = self.bytes.as_mut().get_mut(offset..used) {
+            entry.fill(0);
+            self.used = offset as u16;
         }
     }
 }
@@ -87,9 +193,7 @@ pub fn read_caps(body: &mut Reader) -> Option<Caps> {
 
 pub fn read_sets(body: &mut Reader) -> Option<[ThrottleSet; PAIRS]> {
     let mut sets = [[0; 10]; PAIRS];
-    for set in &mut sets {
-        *set = body.array()?;
-    }
+    sets.as_flattened_mut().copy_from_slice(&body.array::<{ 10 * PAIRS }>()?);
     Some(sets)
 }
 
@@ -97,42 +201,50 @@ pub fn read_area(body: &mut Reader) -> Option<Area> {
     Some(Area { address: body.u64()?, size: body.u32()? })
 }
 
-fn push_caps(bytes: &mut Vec<u8>, caps: &Caps) {
+pub fn write_caps(bytes: &mut Writer, caps: &Caps) {
     for value in [caps.minimum, caps.maximum, caps.oversubscription] {
-        bytes.extend(value.to_be_bytes());
+        bytes.put(&value.to_be_bytes());
     }
 }
 
-fn push_area(bytes: &mut Vec<u8>, area: &Area) {
-    bytes.extend(area.address.to_be_bytes());
-    bytes.extend(area.size.to_be_bytes());
+pub fn write_throttles(bytes: &mut Writer, throttles: &Throttles) {
+    bytes.put(&throttles.presence.to_be_bytes());
+    bytes.put(throttles.sets.as_flattened());
+}
+
+pub fn write_area(bytes: &mut Writer, area: &Area) {
+    bytes.put(&area.address.to_be_bytes());
+    bytes.put(&area.size.to_be_bytes());
+}
+
+/// A body of the kind's length has values that a well-formed record could hold.
+fn body_fits(kind: u8, body: &[u8]) -> bool {
+    match (kind, body) {
+        (0x02, [state]) => state_fits(*state), // the shortest, and so the most at a time
+        _ => Change::read(kind, body).is_some_and(|change| change.fits()),
+    }
 }
 
 impl Change {
-    /// `None` if the kind is unknown or the body hasn't the kind's length.
+    /// `None` if the kind is unknown or the body is shorter than the kind's.
     pub fn read(kind: u8, body: &[u8]) -> Option<Change> {
-        let mut rest = Reader::new(body);
-        let change = Change::read_body(kind, &mut rest)?;
-        rest.is_empty().then_some(change)
-    }
-
-    fn read_body(kind: u8, body: &mut Reader) -> Option<Change> {
+        let mut body = Reader::new(body);
         Some(match kind {
-            0x01 => Change::Clear { place: body.u8()?, log: read_log(body)? },
+            0x01 => Change::Clear { place: body.u8()?, log: read_log(&mut body)? },
             0x02 => Change::State(body.u8()?),
             0x03 => Change::Role { received: body.u8()?, role: body.u8()? },
-            0x04 => Change::Caps { received: body.u8()?, caps: read_caps(body)? },
+            0x04 => Change::Caps { received: body.u8()?, caps: read_caps(&mut body)? },
             0x05 => Change::UserCap(body.u16()?),
             0x06 => Change::Thermal { received: body.u8()?, thermal: body.array()? },
             0x07 => {
                 let received = body.u8()?;
-                let throttles = Throttles { presence: body.u16()?, sets: read_sets(body)? };
+                let throttles = Throttles { presence: body.u16()?, sets: read_sets(&mut body)? };
                 Change::Throttles { received, throttles }
             }
             0x08 => Change::Reset { state: body.u8()?, log_made: body.u8()? },
             0x09 => Change::Mask(body.u32()?),
             0x0A => Change::Deadman { running: body.u8()?, time: body.u64()? },
-            0x0B => Change::Areas { ffdc: read_area(body)?, pass: read_area(body)? },
+            0x0B => Change::Areas { ffdc: read_area(&mut body)?, pass: read_area(&mut body)? },
             _ => return None,
         })
     }
@@ -153,43 +265,45 @@ impl Change {
         }
     }
 
-    /// The whole entry: kind, then body.
-    pub fn entry(&self) -> Vec<u8> {
-        let mut bytes = vec![self.kind()];
+    fn body_length(&self) -> usize {
+        body_length(self.kind()).unwrap_or(0)
+    }
+
+    /// Writes the whole entry: kind, then body.
+    fn write(&self, entry: &mut Writer) {
+        entry.put(&[self.kind()]);
         match self {
-            Change::Clear { place, log } => bytes.extend([*place, log.id, log.reason]),
-            Change::State(state) => bytes.push(*state),
-            Change::Role { received, role } => bytes.extend([*received, *role]),
+            Change::Clear { place, log } => entry.put(&[*place, log.id, log.reason]),
+            Change::State(state) => entry.put(&[*state]),
+            Change::Role { received, role } => entry.put(&[*received, *role]),
             Change::Caps { received, caps } => {
-                bytes.push(*received);
-                push_caps(&mut bytes, caps);
+                entry.put(&[*received]);
+                write_caps(entry, caps);
             }
-            Change::UserCap(cap) => bytes.extend(cap.to_be_bytes()),
+            Change::UserCap(cap) => entry.put(&cap.to_be_bytes()),
             Change::Thermal { received, thermal } => {
-                bytes.push(*received);
-                bytes.extend(thermal);
+                entry.put(&[*received]);
+                entry.put(thermal);
             }
             Change::Throttles { received, throttles } => {
-                bytes.push(*received);
-                bytes.extend(throttles.presence.to_be_bytes());
-                bytes.extend(throttles.sets.iter().flatten());
+                entry.put(&[*received]);
+                write_throttles(entry, throttles);
             }
-            Change::Reset { state, log_made } => bytes.extend([*state, *log_made]),
-            Change::Mask(mask) => bytes.extend(mask.to_be_bytes()),
+            Change::Reset { state, log_made } => entry.put(&[*state, *log_made]),
+            Change::Mask(mask) => entry.put(&mask.to_be_bytes()),
             Change::Deadman { running, time } => {
-                bytes.push(*running);
-                bytes.extend(time.to_be_bytes());
+                entry.put(&[*running]);
+                entry.put(&time.to_be_bytes());
             }
             Change::Areas { ffdc, pass } => {
-                push_area(&mut bytes, ffdc);
-                push_area(&mut bytes, pass);
+                write_area(entry, ffdc);
+                write_area(entry, pass);
             }
         }
-        bytes
     }
 
     /// Values that a well-formed record could hold.
-    pub fn fits(&self) -> bool {
+    fn fits(&self) -> bool {
         match self {
             Change::Clear { place, log } => usize::from(*place) < LOG_PLACES && log_fits(log),
             Change::State(state) => state_fits(*state),

@@ -3,7 +3,7 @@
 use crate::bytes::Reader;
 use crate::journal::{read_caps, Change};
 use crate::record::*;
-use crate::session::{Accepted, Session};
+use crate::session::{Accepted, Standing};
 
 pub const HTMGT: u8 = 0x10;
 pub const BMC: u8 = 0x20;
@@ -26,9 +26,10 @@ pub const RESET_PREP: u8 = 0x25;
 pub const VERSION: u8 = 0x10;
 
 /// What a good command does.
+#[allow(clippy::large_enum_variant)] // one is made for a call, and a box would cost more than the move
 pub enum Effect {
     Poll,
-    Change(Box<Accepted>),
+    Change(Accepted),
 }
 
 type Judged = Result<Effect, u8>;
@@ -57,7 +58,7 @@ fn read_packet(command: &[u8]) -> Result<(u8, &[u8]), u8> {
 }
 
 /// Every status of the table, in its order.
-pub fn judge(session: &Session, sender: u8, command: &[u8]) -> Judged {
+pub fn judge(session: &Standing, sender: u8, command: &[u8]) -> Judged {
     let (command_type, data) = read_packet(command)?;
     if sender == BMC && command_type != POLL && command_type != USER_CAP {
         return Err(INVALID_COMMAND);
@@ -73,8 +74,8 @@ pub fn judge(session: &Session, sender: u8, command: &[u8]) -> Judged {
     }
 }
 
-fn change(session: &Session, before: Change, record: Record) -> Judged {
-    Ok(Effect::Change(Box::new(Accepted { before, record, next_id: session.next_id })))
+fn change(session: &Standing, before: Change, record: Record) -> Judged {
+    Ok(Effect::Change(Accepted { before, record, next_id: session.next_id }))
 }
 
 fn need(held: bool, status: u8) -> Result<(), u8> {
@@ -96,16 +97,16 @@ fn poll(data: &[u8]) -> Judged {
     Ok(Effect::Poll)
 }
 
-fn clear_log(session: &Session, data: &[u8]) -> Judged {
+fn clear_log(session: &Standing, data: &[u8]) -> Judged {
     let [id] = exactly(data)?;
-    let mut record = session.record;
+    let mut record = *session.record;
     let place = record.place_of(id).ok_or(INVALID_DATA)?;
     let log = record.logs[place];
     record.remove_log(place);
     change(session, Change::Clear { place: place as u8, log }, record)
 }
 
-fn set_state(session: &Session, data: &[u8]) -> Judged {
+fn set_state(session: &Standing, data: &[u8]) -> Judged {
     let [version, state, reserved] = exactly(data)?;
     need(version == 0 && state_fits(state) && reserved == 0, INVALID_DATA)?;
     let ready = match state {
@@ -115,10 +116,10 @@ fn set_state(session: &Session, data: &[u8]) -> Judged {
     };
     need(ready, STATE_PROHIBITS)?;
     let before = Change::State(session.record.state);
-    change(session, before, Record { state, ..session.record })
+    change(session, before, Record { state, ..*session.record })
 }
 
-fn configuration(session: &Session, data: &[u8]) -> Judged {
+fn configuration(session: &Standing, data: &[u8]) -> Judged {
     match *data.first().ok_or(INVALID_LENGTH)? {
         FORMAT_ROLE => role(session, data),
         FORMAT_CAPS => caps(session, data),
@@ -128,18 +129,18 @@ fn configuration(session: &Session, data: &[u8]) -> Judged {
     }
 }
 
-fn role(session: &Session, data: &[u8]) -> Judged {
+fn role(session: &Standing, data: &[u8]) -> Judged {
     let [_, role] = exactly(data)?;
-    let now = &session.record;
+    let now = session.record;
     need(role <= MASTER, INVALID_DATA)?;
     need(now.state == STANDBY, STATE_PROHIBITS)?;
     let before = Change::Role { received: now.role_received, role: now.role };
     change(session, before, Record { role, role_received: 1, ..*now })
 }
 
-fn caps(session: &Session, data: &[u8]) -> Judged {
+fn caps(session: &Standing, data: &[u8]) -> Judged {
     let [_, version, values @ ..] = exactly::<8>(data)?;
-    let now = &session.record;
+    let now = session.record;
     let caps = read_caps(&mut Reader::new(&values)).ok_or(INVALID_LENGTH)?;
     need(version == VERSION && caps.minimum <= caps.maximum, INVALID_DATA)?;
     need(now.is_master(), STATE_PROHIBITS)?;
@@ -157,7 +158,7 @@ fn counted_sets(data: &[u8], set_length: usize) -> Result<&[u8], u8> {
     Ok(sets)
 }
 
-fn throttles(session: &Session, data: &[u8]) -> Judged {
+fn throttles(session: &Standing, data: &[u8]) -> Judged {
     let mut table = Throttles::default();
     for sent in counted_sets(data, 12)?.chunks_exact(12) {
         let mut set = Reader::new(sent);
@@ -169,12 +170,12 @@ fn throttles(session: &Session, data: &[u8]) -> Judged {
         table.presence |= 1 << pair;
         table.sets[usize::from(pair)] = values;
     }
-    let now = &session.record;
+    let now = session.record;
     let before = Change::Throttles { received: now.throttles_received, throttles: now.throttles };
     change(session, before, Record { throttles: table, throttles_received: 1, ..*now })
 }
 
-fn thermal(session: &Session, data: &[u8]) -> Judged {
+fn thermal(session: &Standing, data: &[u8]) -> Judged {
     let mut table = FRESH_THERMAL;
     let mut seen = [false; 3];
     for set in counted_sets(data, 4)?.chunks_exact(4) {
@@ -184,24 +185,24 @@ fn thermal(session: &Session, data: &[u8]) -> Judged {
         seen[fru] = true;
         table[3 * fru..3 * fru + 3].copy_from_slice(&set[1..]);
     }
-    let now = &session.record;
+    let now = session.record;
     let before = Change::Thermal { received: now.thermal_received, thermal: now.thermal };
     change(session, before, Record { thermal: table, thermal_received: 1, ..*now })
 }
 
-fn user_cap(session: &Session, data: &[u8]) -> Judged {
+fn user_cap(session: &Standing, data: &[u8]) -> Judged {
     let user_cap = u16::from_be_bytes(exactly(data)?);
-    let now = &session.record;
+    let now = session.record;
     let within = (now.caps.minimum..=now.caps.maximum).contains(&user_cap);
     need(user_cap == 0 || (now.has_caps() && within), INVALID_DATA)?;
     need(now.is_master(), STATE_PROHIBITS)?;
     change(session, Change::UserCap(now.user_cap), Record { user_cap, ..*now })
 }
 
-fn reset_prep(session: &Session, data: &[u8]) -> Judged {
+fn reset_prep(session: &Standing, data: &[u8]) -> Judged {
     let [version, reason] = exactly(data)?;
     need(version == 0 && reason <= 2, INVALID_DATA)?;
-    let now = &session.record;
+    let now = session.record;
     let mut record = Record { state: STANDBY, ..*now };
     let mut next_id = session.next_id;
     let due = reason == 1 || (reason == 2 && now.is_master());
@@ -211,48 +212,79 @@ fn reset_prep(session: &Session, data: &[u8]) -> Judged {
         next_id += 1;
     }
     let before = Change::Reset { state: now.state, log_made: u8::from(due) };
-    Ok(Effect::Change(Box::new(Accepted { before, record, next_id })))
+    Ok(Effect::Change(Accepted { before, record, next_id }))
+}
+
+/// A reply's data: at most a poll's, 40 bytes and a block of 20.
+pub struct Data {
+    bytes: [u8; 60],
+    length: usize,
+}
+
+impl Data {
+    pub fn none() -> Self {
+        Data { bytes: [0; 60], length: 0 }
+    }
+
+    /// The one data byte of an error reply.
+    pub fn log_id(id: u8) -> Self {
+        let mut data = Data::none();
+        data.add(&[id]);
+        data
+    }
+
+    fn add(&mut self, bytes: &[u8]) {
+        self.bytes[self.length..self.length + bytes.len()].copy_from_slice(bytes);
+        self.length += bytes.len();
+    }
+
+    pub fn bytes(&self) -> &[u8] {
+        &self.bytes[..self.length]
+    }
 }
 
 /// Poll data: 40 bytes, and the CAPS block for a master with caps received.
-pub fn poll_data(session: &Session) -> Vec<u8> {
-    let (record, worked) = (&session.record, &session.worked_out);
+pub fn poll_data(session: &Standing) -> Data {
+    let (record, worked) = (session.record, session.worked_out);
     let master = u8::from(record.is_master());
     let status = master << 7 | worked.observation << 1 | worked.active;
     let oldest = record.logs[0].id;
     let log_length: u16 = if oldest == 0 { 0 } else { 0x0010 };
     let blocks = u8::from(record.is_master() && record.has_caps());
 
-    let mut data = vec![status, 0, 0x01, worked.wanted, record.state, 0, 0, oldest];
-    data.extend((u32::from(oldest) * 256).to_be_bytes());
-    data.extend(log_length.to_be_bytes());
-    data.extend([0, 0]);
-    data.extend(b"bench\0\0\0\0\0\0\0\0\0\0\0");
-    data.extend(b"SENSOR");
-    data.extend([blocks, 0x01]);
+    let mut data = Data::none();
+    data.add(&[status, 0, 0x01, worked.wanted, record.state, 0, 0, oldest]);
+    data.add(&(u32::from(oldest) * 256).to_be_bytes());
+    data.add(&log_length.to_be_bytes());
+    data.add(&[0, 0]);
+    data.add(b"bench\0\0\0\0\0\0\0\0\0\0\0");
+    data.add(b"SENSOR");
+    data.add(&[blocks, 0x01]);
     if blocks == 1 {
-        data.extend(caps_block(session));
+        add_caps_block(&mut data, session);
     }
     data
 }
 
 /// Header of section 2.1, body of section 7.4.
-fn caps_block(session: &Session) -> Vec<u8> {
+fn add_caps_block(data: &mut Data, session: &Standing) {
     let caps = &session.record.caps;
-    let mut block = b"CAPS".to_vec();
-    block.extend([0x00, 0x01, 0x0C, 0x01]);
+    data.add(b"CAPS");
+    data.add(&[0x00, 0x01, 0x0C, 0x01]);
     let body =
         [session.worked_out.limit, 0, caps.maximum, caps.maximum, caps.minimum, session.record.user_cap];
-    block.extend(body.iter().flat_map(|value| value.to_be_bytes()));
-    block
+    body.iter().for_each(|value| data.add(&value.to_be_bytes()));
 }
 
-pub fn reply_packet(sequence: u8, command_type: u8, status: u8, data: &[u8]) -> Vec<u8> {
-    let mut packet = vec![sequence, command_type, status];
-    packet.extend((data.len() as u16).to_be_bytes());
-    packet.extend(data);
-    packet.extend(checksum(&packet).to_be_bytes());
-    packet
+/// Writes a reply at the front of the buffer, which has room for it, and gives its length. Bytes past it are kept.
+pub fn write_reply(buffer: &mut [u8], head: [u8; 3], data: &[u8]) -> usize {
+    let before_sum = 5 + data.len();
+    let (packet, rest) = buffer.split_at_mut(before_sum);
+    packet[..3].copy_from_slice(&head);
+    packet[3..5].copy_from_slice(&(data.len() as u16).to_be_bytes());
+    packet[5..].copy_from_slice(data);
+    rest[..2].copy_from_slice(&checksum(packet).to_be_bytes());
+    before_sum + 2
 }
 
 /// A command packet with its length and checksum; the data is at most 65,535 bytes.

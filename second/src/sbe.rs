@@ -3,7 +3,7 @@
 use crate::bytes::Reader;
 use crate::journal::Change;
 use crate::record::*;
-use crate::session::{Accepted, Session};
+use crate::session::{Accepted, Standing};
 
 /// Primary and secondary status.
 pub type Status = (u16, u16);
@@ -64,11 +64,11 @@ pub fn response(request: &Request, (primary, secondary): Status) -> [u8; 32] {
 }
 
 /// Class, then command, then flags, then what the command itself asks.
-pub fn judge(session: &Session, request: &Request) -> Result<Accepted, Status> {
+pub fn judge(session: &Standing, request: &Request) -> Result<Accepted, Status> {
     let (before, record) = match (request.class, request.command) {
-        (0xD1, 0x01) => deadman(&session.record, request)?,
-        (0xD1, 0x03) => cores(&session.record, request)?,
-        (0xD7, 0x04) => areas(&session.record, request)?,
+        (0xD1, 0x01) => deadman(session.record, request)?,
+        (0xD1, 0x03) => cores(session.record, request)?,
+        (0xD7, 0x04) => areas(session.record, request)?,
         (0xD1 | 0xD3..=0xD7, _) => return Err(UNKNOWN_COMMAND),
         _ => return Err(UNKNOWN_CLASS),
     };

@@ -32,7 +32,7 @@ fn joined(words: impl Iterator<Item = String>) -> String {
 
 /// The listing of the used journal, as the lister writes it.
 pub fn journal_listing(session: &Session) -> String {
-    match session.used_journal() {
+    match session.journal.used_bytes() {
         Some(used) => list(used),
         None => list(&[0; JOURNAL_LENGTH + 1]),
     }
@@ -92,6 +92,6 @@ fn write_rest(text: &mut String, session: &Session) -> std::fmt::Result {
     writeln!(text, "next id {}", session.next_id)?;
     let listing = journal_listing(session);
     writeln!(text, "{}", listing.lines().next().unwrap_or(""))?;
-    writeln!(text, "room {}", session.room())?;
+    writeln!(text, "room {}", session.journal.room())?;
     writeln!(text, ".")
 }

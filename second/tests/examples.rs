@@ -126,6 +126,25 @@ fn images_are_read_back_as_they_were() {
 }
 
 #[test]
+fn calls_on_an_image_are_the_calls_on_its_session() {
+    let mut session = Session::fresh();
+    let mut lent = image::write(&session);
+    let (mut ours, mut theirs) = ([0; OCC_REPLY_LENGTH], [0; OCC_REPLY_LENGTH]);
+    for data in [&[3u8, 1][..], &[0x13, 0x10, 1, 0, 85, 95, 5], &[3, 2]] {
+        let packet = second::occ::command_packet(1, 0x21, data);
+        let answer = session.occ(0x10, &packet, &mut ours);
+        assert_eq!(image::call(&mut lent, |lent| lent.occ(0x10, &packet, &mut theirs)), Some(answer));
+        assert!(ours == theirs && lent == image::write(&session));
+    }
+    for _ in 0..3 {
+        let answer = session.undo();
+        assert_eq!(image::call(&mut lent, |lent| lent.undo()), Some(answer));
+        assert_eq!(lent, image::write(&session));
+    }
+    assert_eq!(image::call(&mut lent[1..], |_| ()), None);
+}
+
+#[test]
 fn listings_of_the_document() {
     use second::journal::list;
     assert_eq!(list(&[9, 0, 0, 0, 0, 8, 1, 1]), "journal 2\n09 00000000\n08 0101\n");

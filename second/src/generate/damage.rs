@@ -3,7 +3,7 @@
 use super::random::Random;
 use super::scene;
 use crate::image::{self, IMAGE_LENGTH};
-use crate::journal::{body_length, Change, JOURNAL_LENGTH};
+use crate::journal::{body_length, Change, Store, JOURNAL_LENGTH};
 use crate::record::*;
 use crate::session::Session;
 
@@ -70,14 +70,14 @@ const OTHER_DAMAGES: &[Damage] = &[
     |r, s| s.worked_out.observation ^= r.pick(&[1, 2, 0x80]),
     |r, s| s.worked_out.active ^= r.pick(&[1, 2, 0x80]),
     |r, s| s.worked_out.wanted ^= r.pick(&[1, 0x10, 0x13, 0x11]),
-    |_, s| s.used = 2049,
-    |r, s| s.used = r.pick(&[2050, 4096, 65535]),
-    |_, s| s.used = (s.used + 1).min(2048),
+    |_, s| s.journal.used = 2049,
+    |r, s| s.journal.used = r.pick(&[2050, 4096, 65535]),
+    |_, s| s.journal.used = (s.journal.used + 1).min(2048),
     |r, s| cut_newest(r, s),
     |r, s| unknown_kind(r, s),
     |_, s| first_unused(s, 1),
     |_, s| first_unused(s, 0x02),
-    |_, s| s.journal[JOURNAL_LENGTH - 1] = 1,
+    |_, s| s.journal.bytes[JOURNAL_LENGTH - 1] = 1,
 ];
 
 /// Journal entries whose values no well-formed record could hold.
@@ -127,26 +127,21 @@ pub fn break_rule(random: &mut Random, session: &mut Session, number: usize) {
     }
     let number = number.saturating_sub(OTHER_DAMAGES.len());
     if let Some(wrong) = WRONG_CHANGES.get(number) {
-        let entry = wrong(random).entry();
-        insert_entry(random, session, &entry);
+        let wrong = wrong(random);
+        insert_entry(random, session, |journal| journal.push(&wrong));
     }
 }
 
 /// Puts an entry behind the others, or in front of some more.
-fn insert_entry(random: &mut Random, session: &mut Session, entry: &[u8]) {
-    if !session.append(entry) {
-        clear_journal(session);
-        session.append(entry);
+fn insert_entry(random: &mut Random, session: &mut Session, push: impl Fn(&mut Store) -> bool) {
+    if !push(&mut session.journal) {
+        session.journal = Store::empty();
+        push(&mut session.journal);
     }
     if random.one_in(2) {
-        let room = session.room().saturating_sub(random.between(2, 30));
+        let room = session.journal.room().saturating_sub(random.between(2, 30));
         scene::fill(random, session, room);
     }
-}
-
-fn clear_journal(session: &mut Session) {
-    session.used = 0;
-    session.journal = [0; JOURNAL_LENGTH];
 }
 
 const ONLY_OVERSUBSCRIPTION: Caps = Caps { minimum: 0, maximum: 0, oversubscription: 1 };
@@ -240,28 +235,29 @@ fn last_id_at_next(session: &mut Session) {
 }
 
 fn cut_newest(random: &mut Random, session: &mut Session) {
-    if session.used == 0 {
-        session.append(&[0x09, 1, 2, 3, 4]);
+    let journal = &mut session.journal;
+    if journal.used == 0 {
+        journal.push(&Change::Mask(0x01020304));
     }
-    let cut = random.between(1, 3).min(usize::from(session.used));
-    session.used -= cut as u16;
-    let used = usize::from(session.used);
+    let cut = random.between(1, 3).min(usize::from(journal.used));
+    journal.used -= cut as u16;
+    let used = usize::from(journal.used);
     if random.one_in(2) {
-        session.journal[used..].fill(0);
+        journal.bytes[used..].fill(0);
     }
 }
 
 fn unknown_kind(random: &mut Random, session: &mut Session) {
     let kind = random.pick(&[0x00, 0x0C, 0x0D, 0xFF]);
-    insert_entry(random, session, &[kind]);
+    insert_entry(random, session, |journal| journal.push_bytes(&[kind]));
 }
 
 fn first_unused(session: &mut Session, value: u8) {
-    if session.room() == 0 {
-        clear_journal(session);
+    if session.journal.room() == 0 {
+        session.journal = Store::empty();
     }
-    let used = usize::from(session.used);
-    session.journal[used] = value;
+    let used = usize::from(session.journal.used);
+    session.journal.bytes[used] = value;
 }
 
 const fn back(place: u8, id: u8) -> Change {
@@ -297,8 +293,8 @@ pub const HARD_UNDOS: usize = HARD_UNDO_CASES.len();
 
 /// Well formed, but the newest entry can't be undone, or just can. Past the cases above, at random.
 pub fn hard_undo(random: &mut Random, session: &mut Session, number: usize) {
-    if session.room() < 4 {
-        clear_journal(session);
+    if session.journal.room() < 4 {
+        session.journal = Store::empty();
     }
     let any = random.byte().max(1);
     let id = random.pick(&[5, 10, 15, 20, 21, 25, 30, 35, 40, 45, 255, any]);
@@ -307,7 +303,7 @@ pub fn hard_undo(random: &mut Random, session: &mut Session, number: usize) {
     let (pending, newest) = HARD_UNDO_CASES.get(number).copied().unwrap_or(drawn);
     session.next_id = random.pick(&[1, 2, 21, 46, 256]);
     set_logs(session, pending);
-    session.append(&newest.entry());
+    session.journal.push(&newest);
 }
 
 /// Where a changed byte tells most: head, marks, logs, areas, worked-out values, ids, the journal's edge.
@@ -351,11 +347,11 @@ pub fn random_bytes(random: &mut Random) -> Vec<u8> {
 
 /// A journal of entries with random bodies: kinds and lengths right, values not judged.
 pub fn random_journal(random: &mut Random, session: &mut Session) {
-    clear_journal(session);
+    session.journal = Store::empty();
     for _ in 0..random.between(1, 4) {
         let kind = random.between(1, 11) as u8;
         let mut entry = vec![kind];
         entry.extend(random.bytes(body_length(kind).unwrap_or(0)).iter().map(|byte| byte & 3));
-        session.append(&entry);
+        session.journal.push_bytes(&entry);
     }
 }

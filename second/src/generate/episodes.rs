@@ -228,10 +228,10 @@ impl Generator {
     }
 
     fn undo_to_the_start(&mut self) {
-        while self.left > 0 && self.session().used > 0 {
-            let before = self.session().used;
+        while self.left > 0 && self.session().journal.used > 0 {
+            let before = self.session().journal.used;
             self.undo();
-            if self.session().used == before {
+            if self.session().journal.used == before {
                 break; // refused
             }
         }
@@ -249,7 +249,7 @@ impl Generator {
             if self.random.one_in(5) {
                 self.step();
             }
-            if self.session().room() >= 166 + room {
+            if self.session().journal.room() >= 166 + room {
                 self.right(About::Throttles);
             }
         }
@@ -287,7 +287,7 @@ impl Generator {
     /// Entries of 25, 5, 3 and 2 bytes until the room is that, or as near as they come.
     fn fill_to(&mut self, room: usize) {
         for _ in 0..80 {
-            let gap = self.session().room().saturating_sub(room);
+            let gap = self.session().journal.room().saturating_sub(room);
             match gap {
                 0 | 1 => return,
                 2 | 4 => self.framed(0x10, 0x20, &[0, 1, 0]),

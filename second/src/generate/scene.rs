@@ -141,7 +141,7 @@ const LENGTHS: [(u8, usize); 11] = [
 /// Adds entries until exactly `room` bytes are left, if it can be done.
 pub fn fill(random: &mut Random, session: &mut Session, room: usize) {
     loop {
-        let gap = session.room().saturating_sub(room);
+        let gap = session.journal.room().saturating_sub(room);
         // A gap of 1 can't be filled, so none is left.
         let fitting: Vec<u8> = LENGTHS
             .iter()
@@ -152,8 +152,8 @@ pub fn fill(random: &mut Random, session: &mut Session, room: usize) {
             return;
         };
         let kind = if random.percent(40) { longest } else { random.pick(&fitting) };
-        let entry = change(random, kind).entry();
-        session.append(&entry);
+        let entry = change(random, kind);
+        session.journal.push(&entry);
     }
 }
 

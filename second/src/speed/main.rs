@@ -1,0 +1,253 @@
+//! Times of the proved library and of this program on the same calls, in one run. The proved library takes a session as its image and
+//! updates it in place; this program is measured the same way, and also on its own session value. `--stack`: the stack that a call uses.
+use second::image::{self, IMAGE_LENGTH};
+use second::journal::Bytes;
+use second::occ::command_packet;
+use second::session::Session;
+use std::hint::black_box;
+use std::time::{Duration, Instant};
+
+mod stack;
+
+#[allow(dead_code)] // no session is made fresh here
+#[path = "../../../include/bjargolsk.rs"]
+mod ffi;
+
+const ROUNDS: usize = 7;
+const ROUND: Duration = Duration::from_millis(150);
+const HTMGT: u8 = 0x10;
+
+enum Call {
+    Occ(Vec<u8>),
+    Sbe(Vec<u8>),
+    Undo,
+}
+
+/// Calls that leave the session as they found it, so that they can be made again and again.
+struct Work {
+    name: &'static str,
+    start: Session,
+    calls: Vec<Call>,
+}
+
+/// Answer in the low 16 bits, doorbell or kind in the high 16, as the C interface has it.
+fn packed(answer: u8, high: u16) -> u32 {
+    u32::from(high) << 16 | u32::from(answer)
+}
+
+fn proved(session: &mut [u8], call: &Call, reply: &mut [u8]) -> u32 {
+    let (s, n) = (session.as_mut_ptr(), session.len());
+    // SAFETY: each pointer comes with the length of the slice that it was taken from, and no two slices overlap.
+    unsafe {
+        match call {
+            Call::Occ(c) => {
+                ffi::bjargolsk_occ(s, n, HTMGT, c.as_ptr(), c.len(), reply.as_mut_ptr(), reply.len())
+            }
+            Call::Sbe(r) => ffi::bjargolsk_sbe(s, n, r.as_ptr(), r.len(), reply.as_mut_ptr(), 32),
+            Call::Undo => ffi::bjargolsk_undo(s, n),
+        }
+    }
+}
+
+fn on_value<B: Bytes>(session: &mut Session<B>, call: &Call, reply: &mut [u8]) -> u32 {
+    match call {
+        Call::Occ(c) => packed(session.occ(HTMGT, c, reply).0, 0),
+        Call::Sbe(r) => {
+            let (answer, bell) = session.sbe(r, &mut reply[..32]);
+            packed(answer, bell)
+        }
+        Call::Undo => {
+            let (answer, kind) = session.undo();
+            packed(answer, u16::from(kind))
+        }
+    }
+}
+
+fn on_image(lent: &mut [u8], call: &Call, reply: &mut [u8]) -> u32 {
+    image::call(lent, |session| on_value(session, call, reply)).unwrap_or(1)
+}
+
+/// An active master with caps, from fresh.
+fn brought_up() -> Session {
+    let mut session = Session::fresh();
+    let mut reply = vec![0; 4096];
+    let sets = throttle_sets();
+    for (kind, data) in [
+        (0x21, vec![0x03, 1]),
+        (0x21, vec![0x13, 0x10, 1, 0, 85, 95, 5]),
+        (0x21, vec![0x07, 0x10, 0x01, 0xF4, 0x05, 0xDC, 0, 0]),
+        (0x21, sets),
+        (0x20, vec![0, 3, 0]),
+    ] {
+        session.occ(HTMGT, &command_packet(1, kind, &data), &mut reply);
+        assert_eq!(reply[2], 0, "bring-up was refused");
+    }
+    session
+}
+
+/// All sixteen pairs.
+fn throttle_sets() -> Vec<u8> {
+    let mut data = vec![0x12, 0x10, 16];
+    for pair in 0..16 {
+        data.extend([pair / 2, pair % 2]);
+        data.extend([1, 2, 3, 4, 5, 6, 7, 8, 9, 10]);
+    }
+    data
+}
+
+/// From fresh, that many times set to standby: an entry of two bytes each.
+fn with_entries(count: usize) -> Session {
+    let mut session = Session::fresh();
+    let mut reply = vec![0; 4096];
+    for _ in 0..count {
+        session.occ(HTMGT, &command_packet(1, 0x20, &[0, 1, 0]), &mut reply);
+        assert_eq!(reply[2], 0, "set state was refused");
+    }
+    session
+}
+
+fn occ(kind: u8, data: &[u8]) -> Call {
+    Call::Occ(command_packet(1, kind, data))
+}
+
+fn mask() -> Call {
+    let mut request = vec![0; 32];
+    (request[2], request[6], request[7], request[11]) = (0x01, 0xD1, 0x03, 0x03);
+    Call::Sbe(request)
+}
+
+fn works() -> Vec<Work> {
+    let poll = || vec![occ(0x00, &[0x10])];
+    let state = || vec![occ(0x20, &[0, 1, 0]), Call::Undo];
+    let up = brought_up();
+    let (half, full) = (with_entries(500), with_entries(1000));
+    let work = |name, start: &Session, calls| Work { name, start: start.clone(), calls };
+    vec![
+        work("poll", &up, poll()),
+        work("user cap and undo", &up, vec![occ(0x22, &[0x03, 0xE8]), Call::Undo]),
+        work("16-pair throttle packet and undo", &up, vec![occ(0x21, &throttle_sets()), Call::Undo]),
+        work("4,096-byte packet (0x11)", &up, vec![occ(0x30, &[0xFF; 4090])]),
+        work("SBE mask and undo", &up, vec![mask(), Call::Undo]),
+        work("poll, 500 entries", &half, poll()),
+        work("set state and undo, 500 entries", &half, state()),
+        work("poll, 1,000 entries", &full, poll()),
+        work("set state and undo, 1,000 entries", &full, state()),
+    ]
+}
+
+/// Both give the same results, replies and images, and the calls lead back to the start.
+fn check(work: &Work) {
+    let start = image::write(&work.start);
+    let (mut ours, mut theirs) = (start.clone(), start.clone());
+    for call in &work.calls {
+        let (mut r, mut q) = (vec![0xEE; 4096], vec![0xEE; 4096]);
+        assert_eq!(
+            on_image(&mut ours, call, &mut r),
+            proved(&mut theirs, call, &mut q),
+            "{}: results differ",
+            work.name
+        );
+        assert!(r == q && ours == theirs, "{}: replies or sessions differ", work.name);
+    }
+    assert!(ours == start, "{}: the calls don't lead back", work.name);
+}
+
+/// Nanoseconds for one call: the least of several rounds.
+fn time(calls: &[Call], mut make: impl FnMut(&Call)) -> f64 {
+    let mut best = f64::INFINITY;
+    for _ in 0..ROUNDS {
+        let (begin, mut made) = (Instant::now(), 0u32);
+        while begin.elapsed() < ROUND {
+            for _ in 0..16 {
+                calls.iter().for_each(&mut make);
+            }
+            made += 16 * calls.len() as u32;
+        }
+        best = best.min(begin.elapsed().as_secs_f64() * 1e9 / f64::from(made));
+    }
+    best
+}
+
+/// What no call that tests a whole session can be faster than by much: one pass that sums the image's bytes.
+fn limit() -> f64 {
+    let image = image::write(&brought_up());
+    time(&[Call::Undo], |_| {
+        black_box(black_box(&image).iter().fold(0u32, |sum, byte| sum.wrapping_add(u32::from(*byte))));
+    })
+}
+
+/// Time, calls per second, and the time as a multiple of the limit.
+fn told(time: f64, limit: f64) -> String {
+    format!("{time:.0} ns, {:.0}/s, {:.1}", 1e9 / time, time / limit)
+}
+
+fn times() {
+    let limit = limit();
+    println!(
+        "Each column: nanoseconds for a call, calls per second, and the time as a multiple of the limit,"
+    );
+    println!("one pass that sums the image's {IMAGE_LENGTH} bytes.\n");
+    println!(
+        "| Calls | proved, on an image | second, on an image | proved / second | second, on its own value |"
+    );
+    println!("|---|---|---|---|---|");
+    println!("| the image's bytes summed, the limit | {0} | {0} | | |", told(limit, limit));
+    for work in works() {
+        check(&work);
+        let start = image::write(&work.start);
+        let (mut lent, mut reply) = (start.clone(), vec![0; 4096]);
+        let a = time(&work.calls, |c| {
+            black_box(proved(black_box(&mut lent), black_box(c), &mut reply));
+        });
+        let mut lent = start.clone();
+        let b = time(&work.calls, |c| {
+            black_box(on_image(black_box(&mut lent), black_box(c), &mut reply));
+        });
+        let mut value = work.start.clone();
+        let v = time(&work.calls, |c| {
+            black_box(on_value(black_box(&mut value), black_box(c), &mut reply));
+        });
+        let columns = (told(a, limit), told(b, limit), told(v, limit));
+        println!("| {} | {} | {} | {:.2} | {} |", work.name, columns.0, columns.1, a / b, columns.2);
+    }
+}
+
+/// The stack of each sort of call, in bytes. A call is made once before, so that nothing is loaded while it is measured.
+fn stacks() {
+    let after_change = {
+        let mut session = brought_up();
+        session.occ(HTMGT, &command_packet(1, 0x22, &[0x03, 0xE8]), &mut [0; 4096]);
+        session
+    };
+    println!("Bytes of stack that one call on an image uses.\n");
+    println!("| Call | proved | second |");
+    println!("|---|---|---|");
+    for (name, start, call) in [
+        ("occ: poll", brought_up(), occ(0x00, &[0x10])),
+        ("occ: user cap", brought_up(), occ(0x22, &[0x03, 0xE8])),
+        ("occ: throttle packet, 195 data bytes", brought_up(), occ(0x21, &throttle_sets())),
+        ("sbe: mask", brought_up(), mask()),
+        ("undo", after_change, Call::Undo),
+    ] {
+        let used = |make: fn(&mut [u8], &Call, &mut [u8]) -> u32| {
+            let (mut image, mut reply) = (image::write(&start), [0; 4096]);
+            assert_eq!(make(&mut image.clone(), &call, &mut reply) & 0xFFFF, 0, "{name}: refused");
+            stack::used_by(|| {
+                black_box(make(black_box(&mut image), black_box(&call), black_box(&mut reply)));
+            })
+        };
+        println!("| {name} | {} | {} |", used(proved), used(on_image));
+    }
+}
+
+fn main() {
+    let arguments: Vec<String> = std::env::args().skip(1).collect();
+    match arguments.iter().map(String::as_str).collect::<Vec<_>>().as_slice() {
+        [] => times(),
+        ["--stack"] => stacks(),
+        _ => {
+            eprintln!("usage: speed [--stack]");
+            std::process::exit(2);
+        }
+    }
+}

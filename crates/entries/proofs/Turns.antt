@@ -17,7 +17,7 @@ past-the-table : (k : ℕ) → 12 ≤ k → 0 ≡ bodyLen k
 unfolding bodyLen
 past-the-table k h = sym (List·getD-eq-default bodyLengths 0 h)
 
-kind-zero : (k : ℕ) → k ≡ 0 → 0 ≡ bodyLen k
+pub kind-zero : (k : ℕ) → k ≡ 0 → 0 ≡ bodyLen k
 unfolding bodyLen
 kind-zero k e = sym (ap bodyLen e)
 

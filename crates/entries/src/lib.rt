@@ -32,6 +32,18 @@ pub fn body_len(kind: u8) -> usize
     }
 }
 
+// The same, of the kind after one whose length is known: entries of one kind often follow each other, and then no length is looked up,
+// which a walk over a thousand entries would wait for.
+pub fn next_len(last: u8, n: usize, kind: u8) -> usize
+    requires { ⌜ n ≡ bodyLen last ⌝ }
+    ensures { λ r. ⌜ r ≡ bodyLen kind ⌝ }
+{
+    if kind == last {
+        return n;
+    }
+    body_len(kind)
+}
+
 pub fn read(j: &[u8]) -> Reading
     ensures { λ r. ⌜ r ≡ readingOf (scan (now (j .entry))) ⌝ }
     ensures { λ r. ⌜ readingFits (length (now (j .entry))) r ⌝ }
@@ -39,9 +51,12 @@ pub fn read(j: &[u8]) -> Reading
     let mut at = 0;
     let mut count = 0;
     let mut newest = 0;
+    let mut last = 0;
+    let mut n = 0;
     while at < j.len() {
         let kind = j[at];
-        let n = body_len(kind);
+        n = next_len(last, n, kind);
+        last = kind;
         if n == 0 {
             return Reading::Unknown(at);
         }

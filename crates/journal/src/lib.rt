@@ -340,9 +340,12 @@ pub fn all_ok(j: &[u8]) -> bool
     ensures { λ r. ⌜ r ≡ journalOk (now (j .entry)) ⌝ }
 {
     let mut at = 0;
+    let mut last = 0;
+    let mut n = 0;
     while at < j.len() {
         let kind = j[at];
-        let n = entries::body_len(kind);
+        n = entries::next_len(last, n, kind);
+        last = kind;
         if n == 0 {
             return false;
         }

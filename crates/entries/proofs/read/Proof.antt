@@ -1,42 +1,40 @@
 -- `entries::read` meets its contract: the bytes before `at` read as entries, the newest of them at `newest`. Assumes nothing.
-use Prim.Native.Nat.{_-_}
-use native.Mathlib.Omega.{arith}
 use borrow.Author.Needs.{needs}
+use Prim.Native.Nat.{_-_}
+use mathlib.Core.Path.{_≡_, refl}
+use native.Mathlib.Omega.{arith}
 use lib.ListN.{length}
-use Rattle.entries.proofs.Turns.{Passed, passed-none, passed-all, passed-unknown, passed-cut, passed-next, count-fits, newest-fits}
+use Rattle.entries.specs.Entries.{bodyLen}
+use Rattle.entries.proofs.Turns.{kind-zero, Passed, passed-none, passed-all, passed-unknown, passed-cut, passed-next, count-fits, newest-fits}
 use Rattle.entries.proofs.read.Statement.{statement}
 use Rattle.entries.proofs.read.Tie as tie
 
 abbrev Inv-loop : tie.InvT-loop
-Inv-loop j at₀ count₀ newest₀ at count newest = Passed j at count newest
+Inv-loop j at₀ count₀ newest₀ last₀ n₀ at count newest last n = Passed j at count newest × (n ≡ bodyLen last)
 
 abbrev μ-loop : tie.MeasureT-loop
-μ-loop j at₀ count₀ newest₀ at count newest = length j - at
+μ-loop j at₀ count₀ newest₀ last₀ n₀ at count newest last n = length j - at
 
 loop-holds : tie.Need-loop-holds Inv-loop μ-loop
-loop-holds c = passed-none (c .before .args .j .now)
+loop-holds c = (passed-none (c .before .args .j .now), kind-zero 0 refl)
 
 shared-slice-read-kind : tie.Need-shared-slice-read-kind Inv-loop μ-loop
 shared-slice-read-kind c = search needs
 
-body-len-requires : tie.Need-body-len-requires Inv-loop μ-loop
-body-len-requires c κs = search needs
+next-len-requires : tie.Need-next-len-requires Inv-loop μ-loop
+next-len-requires c κs = c .before .before .loop .inv .1
 
 returns : tie.Need-returns Inv-loop μ-loop
-returns c =
-    let l = c .before .before .before .before .loop in
-    (passed-unknown (l .inv) (c .before .body-len .ensures) (c .before .before .before .loop-test .taken) (c .if1 .taken), l .inv .place .fits)
+returns c = let l = c .before .before .before .before .loop in (passed-unknown (l .inv .0) (c .before .next-len .ensures) (c .before .before .before .loop-test .taken) (c .if1 .taken), l .inv .0 .place .fits)
 
 sub-if2 : tie.Need-sub-if2 Inv-loop μ-loop
 sub-if2 c = search needs
 
 returns-2 : tie.Need-returns-2 Inv-loop μ-loop
-returns-2 c =
-    let l = c .before .before .before .before .before .loop in
-    (passed-cut (l .inv) (c .before .before .body-len .ensures) (c .before .before .before .before .loop-test .taken) (c .before .if1 .left) (c .if2 .taken), l .inv .place .fits)
+returns-2 c = let l = c .before .before .before .before .before .loop in (passed-cut (l .inv .0) (c .before .before .next-len .ensures) (c .before .before .before .before .loop-test .taken) (c .before .if1 .left) (c .if2 .taken), l .inv .0 .place .fits)
 
 add-count : tie.Need-add-count Inv-loop μ-loop
-add-count c = omega (arith, count-fits (c .before .before .before .before .before .loop .inv))
+add-count c = omega (arith, count-fits (c .before .before .before .before .before .loop .inv .0))
 
 add-at : tie.Need-add-at Inv-loop μ-loop
 add-at c = search needs
@@ -48,12 +46,10 @@ loop-less : tie.Need-loop-less Inv-loop μ-loop
 loop-less c = search needs
 
 loop-again : tie.Need-loop-again Inv-loop μ-loop
-loop-again c = passed-next (c .before .before .before .before .before .loop .inv) (c .before .before .body-len .ensures) (c .before .before .before .before .loop-test .taken) (c .before .if1 .left) (c .if2 .left)
+loop-again c = (passed-next (c .before .before .before .before .before .loop .inv .0) (c .before .before .next-len .ensures) (c .before .before .before .before .loop-test .taken) (c .before .if1 .left) (c .if2 .left), (c .before .before .next-len .ensures))
 
 returns-3 : tie.Need-returns-3 Inv-loop μ-loop
-returns-3 c =
-    let l = c .before .loop in
-    (passed-all (l .inv) (c .loop-test .left), (omega (arith, newest-fits (l .inv)), omega (arith, count-fits (l .inv))))
+returns-3 c = let l = c .before .loop in (passed-all (l .inv .0) (c .loop-test .left), (omega (arith, newest-fits (l .inv .0)), omega (arith, count-fits (l .inv .0))))
 
 pub read-spec : {M : Type 1} → statement M
 read-spec =
@@ -63,7 +59,7 @@ read-spec =
     μ-loop
     loop-holds
     shared-slice-read-kind
-    body-len-requires
+    next-len-requires
     returns
     sub-if2
     returns-2

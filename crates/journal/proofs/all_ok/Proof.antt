@@ -1,33 +1,36 @@
 use borrow.Author.Needs.{needs}
 use Prim.Native.Nat.{_-_}
+use mathlib.Core.Path.{_≡_, refl}
 use lib.ListN.{length}
+use Rattle.entries.specs.Entries.{bodyLen}
+use Rattle.entries.proofs.Turns.{kind-zero}
 use Rattle.journal.proofs.Judging.{Judged, judged-none, judged-end, judged-unknown, judged-cut, judged-bad, judged-next, body-room}
 use Rattle.journal.proofs.all_ok.Statement.{statement}
 use Rattle.journal.proofs.all_ok.Tie as tie
 
 abbrev Inv-loop : tie.InvT-loop
-Inv-loop j at₀ at = Judged j at
+Inv-loop j at₀ last₀ n₀ at last n = Judged j at × (n ≡ bodyLen last)
 
 abbrev μ-loop : tie.MeasureT-loop
-μ-loop j at₀ at = length j - at
+μ-loop j at₀ last₀ n₀ at last n = length j - at
 
 loop-holds : tie.Need-loop-holds Inv-loop μ-loop
-loop-holds c = judged-none _
+loop-holds c = (judged-none _, kind-zero 0 refl)
 
 shared-slice-read-kind : tie.Need-shared-slice-read-kind Inv-loop μ-loop
 shared-slice-read-kind c = search needs
 
-body-len-requires : tie.Need-body-len-requires Inv-loop μ-loop
-body-len-requires c κs = search needs
+next-len-requires : tie.Need-next-len-requires Inv-loop μ-loop
+next-len-requires c κs = c .before .before .loop .inv .1
 
 returns : tie.Need-returns Inv-loop μ-loop
-returns c = judged-unknown (c .before .before .before .before .loop .inv) (c .before .body-len .ensures) (c .before .before .before .loop-test .taken) (c .if1 .taken)
+returns c = judged-unknown (c .before .before .before .before .loop .inv .0) (c .before .next-len .ensures) (c .before .before .before .loop-test .taken) (c .if1 .taken)
 
 sub-if2 : tie.Need-sub-if2 Inv-loop μ-loop
 sub-if2 c = search needs
 
 returns-2 : tie.Need-returns-2 Inv-loop μ-loop
-returns-2 c = judged-cut (c .before .before .before .before .before .loop .inv) (c .before .before .body-len .ensures) (c .before .before .before .before .loop-test .taken) (c .before .if1 .left) (c .if2 .taken)
+returns-2 c = judged-cut (c .before .before .before .before .before .loop .inv .0) (c .before .before .next-len .ensures) (c .before .before .before .before .loop-test .taken) (c .before .if1 .left) (c .if2 .taken)
 
 add-start : tie.Need-add-start Inv-loop μ-loop
 add-start c = search needs
@@ -45,19 +48,19 @@ part-body-ok-end : tie.Need-part-body-ok-end Inv-loop μ-loop
 part-body-ok-end c = search needs
 
 body-ok-requires : tie.Need-body-ok-requires Inv-loop μ-loop
-body-ok-requires c κs = body-room (c .before .before .before .before .before .before .loop .inv) (c .before .before .before .body-len .ensures) (c .before .before .before .before .before .loop-test .taken) (c .before .before .if1 .left) (c .before .if2 .left)
+body-ok-requires c κs = body-room (c .before .before .before .before .before .before .loop .inv .0) (c .before .before .before .next-len .ensures) (c .before .before .before .before .before .loop-test .taken) (c .before .before .if1 .left) (c .before .if2 .left)
 
 returns-3 : tie.Need-returns-3 Inv-loop μ-loop
-returns-3 c = judged-bad (c .before .before .before .before .before .before .before .before .loop .inv) (c .before .before .before .before .before .body-len .ensures) (c .before .before .before .before .before .before .before .loop-test .taken) (c .before .before .before .before .if1 .left) (c .before .before .before .if2 .left) (c .before .body-ok .ensures) (c .if3 .taken)
+returns-3 c = judged-bad (c .before .before .before .before .before .before .before .before .loop .inv .0) (c .before .before .before .before .before .next-len .ensures) (c .before .before .before .before .before .before .before .loop-test .taken) (c .before .before .before .before .if1 .left) (c .before .before .before .if2 .left) (c .before .body-ok .ensures) (c .if3 .taken)
 
 loop-less : tie.Need-loop-less Inv-loop μ-loop
 loop-less c = search needs
 
 loop-again : tie.Need-loop-again Inv-loop μ-loop
-loop-again c = judged-next (c .before .before .before .before .before .before .before .before .loop .inv) (c .before .before .before .before .before .body-len .ensures) (c .before .before .before .before .before .before .before .loop-test .taken) (c .before .before .before .before .if1 .left) (c .before .before .before .if2 .left) (c .before .body-ok .ensures) (c .if3 .left)
+loop-again c = (judged-next (c .before .before .before .before .before .before .before .before .loop .inv .0) (c .before .before .before .before .before .next-len .ensures) (c .before .before .before .before .before .before .before .loop-test .taken) (c .before .before .before .before .if1 .left) (c .before .before .before .if2 .left) (c .before .body-ok .ensures) (c .if3 .left), (c .before .before .before .before .before .next-len .ensures))
 
 returns-4 : tie.Need-returns-4 Inv-loop μ-loop
-returns-4 c = judged-end (c .before .loop .inv) (c .loop-test .left)
+returns-4 c = judged-end (c .before .loop .inv .0) (c .loop-test .left)
 
 pub all-ok-spec : {M : Type 1} → statement M
 all-ok-spec =
@@ -67,7 +70,7 @@ all-ok-spec =
     μ-loop
     loop-holds
     shared-slice-read-kind
-    body-len-requires
+    next-len-requires
     returns
     sub-if2
     returns-2

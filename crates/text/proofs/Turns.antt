@@ -191,11 +191,6 @@ module _ (a b : List ℕ) (i : ℕ) where
 
 -- ---- pieces: those left, put now, give the end
 
-pub put-fits : (at : ℕ) (bs d : List ℕ) {d′ : List ℕ} → at ≤ length d → length bs ≤ length d - at → d′ ≡ pasted at bs d
-    → sheet d′ (at + length bs) ≡ putOn (sheet d at) bs
-unfolding putOn
-put-fits at bs d h k e = else-lt _ _ h (else-lt _ _ k (ap (λ (x : List ℕ). sheet x (at + length bs)) e))
-
 pub hex-pair : {x y : ℕ} (b : ℕ) → x ≡ hexDigit (b / 16) → y ≡ hexDigit (b % 16) → x ∷ y ∷ [] ≡ hexOf b
 unfolding hexOf
 hex-pair b p q = rw (p, q)

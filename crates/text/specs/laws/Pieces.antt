@@ -1,5 +1,5 @@
 -- Laws of text put piece by piece. Assumes nothing.
-use Prim.Native.Nat.{ℕ, _+_, _-_, _≤_}
+use Prim.Native.Nat.{ℕ, _+_, _-_, _*_, _≤_}
 use mathlib.Core.Path.{_≡_, refl, sym, ap, ap₂, _∙_}
 use mathlib.Core.List.{List, [], _∷_, _++_, append-assoc}
 use native.Mathlib.Nat.{add-zero}
@@ -10,7 +10,7 @@ use Rattle.wire.specs.Wire.{pasted}
 use Rattle.wire.specs.Laws.{length-pasted, take-pasted, drop-pasted}
 use Rattle.wire.specs.Cases.{else-lt}
 use Rattle.wire.proofs.Loops.{paste-none}
-use Rattle.text.specs.Text.{Sheet, sheet, putOn, putAll, joined}
+use Rattle.text.specs.Text.{Sheet, sheet, putOn, putAll, joined, hexOf, hexes}
 
 -- ---- calls one after the other are one list of pieces: q is the sheet in between, r the last one
 
@@ -23,7 +23,7 @@ module _ (p : Sheet) {q : Sheet} where
   unfolding putAll
   piece x xs e f = f ∙ ap (λ (s : Sheet). putAll s xs) e
 
-putAll-append : (p : Sheet) (xs ys : List (List ℕ)) → putAll p (xs ++ ys) ≡ putAll (putAll p xs) ys
+pub putAll-append : (p : Sheet) (xs ys : List (List ℕ)) → putAll p (xs ++ ys) ≡ putAll (putAll p xs) ys
 unfolding putAll
 putAll-append p [] ys = refl
 putAll-append p (x ∷ xs) ys = putAll-append (putOn p x) xs ys
@@ -66,3 +66,8 @@ all-fit at (x ∷ xs) d h =
     ap (λ (s : Sheet). putAll s xs) (sym (put-fits at x d (omega arith) (omega arith) refl))
     ∙ all-fit (at + length x) xs (pasted at x d) there
     ∙ ap₂ sheet (paste-then at x (joined xs) d here) (omega (arith, length-append x (joined xs)))
+
+pub length-hexes : (bs : List ℕ) → length (joined (hexes bs)) ≡ 2 * length bs
+unfolding joined hexes hexOf
+length-hexes [] = refl
+length-hexes (b ∷ bs) = omega (arith, length-hexes bs)

@@ -8,23 +8,19 @@ use native.Mathlib.Omega.{arith}
 use lib.Dec.{ltb}
 use lib.ListN.{length, take, drop}
 use borrow.Author.Tests.{ltb-false}
-use Rattle.wire.specs.Wire.{pasted, beNat, toBE}
+use Rattle.wire.specs.Wire.{pasted, beNat}
 use Rattle.wire.specs.Cases.{if-lt, else-lt, if-ne, else-ne}
-use Rattle.text.specs.Text.{Sheet, sheet, putOn, putAll, ascii, decimal, hexes}
-use Rattle.text.specs.laws.Pieces.{put-fits}
+use Rattle.text.specs.Text.{Sheet, sheet, putOn, putAll, atFront, lineEnd, decimal}
+use Rattle.text.specs.laws.Pieces.{same-pieces, put-fits}
 use Rattle.listing.specs.Listing.{tooLong, listing, longest, listed, listedLength}
 use Rattle.listing.specs.laws.Lengths.{length-listing}
 use Rattle.orders.specs.declared.Wrong.{Wrong}
-use Rattle.answers.specs.Answers.{atFront, lineEnd, complaintText, callText, wholeReply, replyLength, listText}
-
--- the same pieces, the same sheet
-pub says : (d : List ℕ) {s : Sheet} {ps qs : List (List ℕ)} → ps ≡ qs → s ≡ atFront d ps → s ≡ atFront d qs
-says d e p = p ∙ ap (putAll (sheet d 0)) e
+use Rattle.answers.specs.Answers.{complaintText, callText, wholeReply, replyLength, listText}
 
 -- ---- what is wrong: v is the variant that it is
 
 pub complains : (d : List ℕ) (column : ℕ) {s : Sheet} {w v : Wrong} → w ≡ v → s ≡ atFront d (complaintText v column) → s ≡ atFront d (complaintText w column)
-complains d column e = says d (ap (λ (x : Wrong). complaintText x column) (sym e))
+complains d column e = same-pieces (sheet d 0) (ap (λ (x : Wrong). complaintText x column) (sym e))
 
 -- ---- after the session answer
 
@@ -55,11 +51,6 @@ module _ (s : List ℕ) where
     pub reply-whole : 7 + n ≤ length s → 7 + n ≡ replyLength s
     reply-whole h = else-lt 0 (7 + n) h refl ∙ reply-by
 
--- the doorbell's two bytes, in an array of two
-pub bell-bytes : (v : ℕ) → pasted 0 (toBE 2 v) (0 ∷ 0 ∷ []) ≡ toBE 2 v
-unfolding pasted toBE
-bell-bytes v = refl
-
 -- ---- the listing
 
 listed-by : (j d : List ℕ) (t : Bool) → ltb (length d) longest ≡ t
@@ -74,7 +65,7 @@ listed-by j d false e =
 module _ (j : List ℕ) (used : ℕ) (d : List ℕ) where
   pub list-long : {s : Sheet} → length j < used → s ≡ putOn (sheet d 0) tooLong → s ≡ atFront d (listText (length d) j used)
   unfolding listText putAll
-  list-long h p = p ∙ ap (putAll (sheet d 0)) (if-lt (tooLong ∷ []) _ h refl)
+  list-long h = same-pieces (sheet d 0) (if-lt (tooLong ∷ []) _ h refl)
 
   pub list-used : {d′ : List ℕ} {n : ℕ} → used ≤ length j → n ≡ listedLength (take used j) d → d′ ≡ listed (take used j) d
       → sheet d′ n ≡ atFront d (listText (length d) j used)

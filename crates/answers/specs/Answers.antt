@@ -5,19 +5,12 @@ use mathlib.Core.List.{List, [], _∷_, _++_}
 use lib.Dec.{eqb, ltb}
 use lib.ListN.{length, take, drop}
 use Rattle.wire.specs.Wire.{beNat, toBE}
-use Rattle.text.specs.Text.{Sheet, sheet, putAll, ascii, hexOf, hexes, spaced, decimal}
+use Rattle.text.specs.Text.{ascii, lineEnd, hexOf, hexes, spaced, decimal}
 use Rattle.listing.specs.Listing.{tooLong, listing, longest}
 use Rattle.orders.specs.declared.Wrong.{Wrong}
 use Rattle.orders.specs.declared.Wrong.the-variants.{LongLine, NoWord, MoreText, NoDigit, TooMany, NoImage}
 
--- pieces put at the front of a buffer; one that doesn't fit is left out
-abbrev pub atFront : List ℕ → List (List ℕ) → Sheet
-atFront d pieces = putAll (sheet d 0) pieces
-
 -- "Every answer line ends in one LF"
-abbrev pub lineEnd : List ℕ
-lineEnd = ascii "\n"
-
 unfoldable pub lineText : List ℕ → List (List ℕ)
 lineText s = s ∷ lineEnd ∷ []
 

@@ -2,8 +2,8 @@
 ghost use mathlib.Core.Path.{_≡_};
 ghost use lib.ListN.{length, take};
 ghost use Rattle.io.specs.Counts.{Counts};
-ghost use Rattle.text.specs.Text.{sheet, putOn, putAll};
-ghost use Rattle.answers.specs.Answers.{atFront, lineEnd, lineText, columnText, complaintText, replyLength, replyText, bellText, rungText, undoneText, imageText, listText, journalText, helpText};
+ghost use Rattle.text.specs.Text.{sheet, putOn, putAll, atFront, lineEnd};
+ghost use Rattle.answers.specs.Answers.{lineText, columnText, complaintText, replyLength, replyText, bellText, rungText, undoneText, imageText, listText, journalText, helpText};
 use orders::Wrong;
 
 fn put_end(out: &mut [u8], at: usize) -> usize

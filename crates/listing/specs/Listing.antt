@@ -6,16 +6,13 @@ use lib.Dec.{ltb}
 use lib.ListN.{length}
 use Rattle.wire.specs.Wire.{pasted}
 use Rattle.entries.specs.Entries.{Entry, Scan, between, within, unknown, scan, written}
-use Rattle.text.specs.Text.{ascii, hexOf, hexes, decimal, joined}
+use Rattle.text.specs.Text.{ascii, lineEnd, hexOf, hexes, decimal, joined}
 
 -- ---- lines, in pieces
 
-abbrev pub lineFeed : List ℕ
-lineFeed = ascii "\n"
-
 -- an entry: kind, one space, body
 unfoldable pub line : Entry → List (List ℕ)
-line e = hexOf (e .kind) ∷ ascii " " ∷ (hexes (e .body) ++ (lineFeed ∷ []))
+line e = hexOf (e .kind) ∷ ascii " " ∷ (hexes (e .body) ++ (lineEnd ∷ []))
 
 -- entries stand newest first, their lines oldest first
 unfoldable pub linesOf : List Entry → List (List ℕ)
@@ -24,11 +21,11 @@ linesOf (e ∷ es) = linesOf es ++ line e
 
 -- `journal N`, and a line for each entry
 unfoldable pub whole : ℕ → List Entry → List (List ℕ)
-whole n es = ascii "journal " ∷ decimal n ∷ lineFeed ∷ linesOf es
+whole n es = ascii "journal " ∷ decimal n ∷ lineEnd ∷ linesOf es
 
 -- only `damaged at N`
 unfoldable pub damagedAt : ℕ → List (List ℕ)
-damagedAt n = ascii "damaged at " ∷ decimal n ∷ lineFeed ∷ []
+damagedAt n = ascii "damaged at " ∷ decimal n ∷ lineEnd ∷ []
 
 abbrev pub tooLong : List ℕ
 tooLong = ascii "too long\n"

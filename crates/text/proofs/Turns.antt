@@ -15,7 +15,7 @@ use Rattle.wire.specs.Cases.{if-b, else-b, if-lt, else-lt, if-le, else-le, if-n
 use Rattle.wire.proofs.Loops.{store-first, paste-none}
 use Rattle.text.specs.declared.Fault.{Fault}
 use Rattle.text.specs.declared.Fault.the-variants.{Nothing, Digit, Over}
-use Rattle.text.specs.Text.{blank, leading, digitOf, digitAt, Run, stopped, onto, high, low, readFrom, run, Takes, sameText, Sheet, sheet, putOn, putAll, hexDigit, hexOf, hexes, spaced}
+use Rattle.text.specs.Text.{blank, leading, digitOf, digitAt, Run, stopped, onto, high, low, readFrom, run, Takes, sameText, Sheet, putOn, putAll, hexDigit, hexOf, hexes, spaced}
 
 -- ---- tests of a call's answer: t is the answer, b what the contract says of it
 

@@ -116,6 +116,10 @@ unfoldable pub putAll : Sheet → List (List ℕ) → Sheet
 putAll p [] = p
 putAll p (x ∷ xs) = putAll (putOn p x) xs
 
+-- text at the front of a buffer
+abbrev pub atFront : List ℕ → List (List ℕ) → Sheet
+atFront d pieces = putAll (sheet d 0) pieces
+
 -- the pieces as one text
 unfoldable pub joined : List (List ℕ) → List ℕ
 joined [] = []
@@ -125,6 +129,9 @@ joined (x ∷ xs) = x ++ joined xs
 abbrev pub ascii : String → List ℕ
 ascii empty = []
 ascii (c then s) = code c ∷ ascii s
+
+abbrev pub lineEnd : List ℕ
+lineEnd = ascii "\n"
 
 -- "hex letters are capitals": 48 is "0", 65 is "A"
 unfoldable pub hexDigit : ℕ → ℕ

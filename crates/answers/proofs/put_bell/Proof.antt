@@ -1,7 +1,9 @@
 -- `answers::put_bell` meets its contract: its parts are put one after the other. Assumes nothing.
 use Rattle.text.specs.Text.{putAll}
 use Rattle.answers.specs.Answers.{bellText}
-use Rattle.answers.proofs.Saying.{bell-bytes}
+use Rattle.text.specs.laws.Pieces.{filled}
+use mathlib.Core.List.{[], _∷_}
+use mathlib.Core.Path.{refl}
 use borrow.Author.Needs.{needs}
 use Rattle.answers.proofs.put_bell.Statement.{statement}
 use Rattle.answers.proofs.put_bell.Tie as tie
@@ -29,7 +31,7 @@ same-length c = search needs
 
 returns : tie.Need-returns
 unfolding bellText putAll
-returns c = cc (bell-bytes _)
+returns c = cc (filled 2 _ (0 ∷ 0 ∷ []) refl)
 
 pub put-bell-spec : {M : Type 1} → statement M
 put-bell-spec =

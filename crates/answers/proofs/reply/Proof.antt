@@ -1,8 +1,8 @@
 -- `answers::reply` meets its contract: the answer decides whether the reply follows. Assumes nothing.
 use Rattle.text.specs.Text.{putAll}
-use Rattle.text.specs.laws.Pieces.{putAll-append}
+use Rattle.text.specs.laws.Pieces.{putAll-append, same-pieces}
 use Rattle.answers.specs.Answers.{replyText}
-use Rattle.answers.proofs.Saying.{says, refused, accepted}
+use Rattle.answers.proofs.Saying.{refused, accepted}
 use borrow.Author.Needs.{needs}
 use Rattle.answers.proofs.reply.Statement.{statement}
 use Rattle.answers.proofs.reply.Tie as tie
@@ -18,7 +18,7 @@ same-length c = search needs
 
 returns : tie.Need-returns
 unfolding replyText putAll
-returns c = (search needs, says _ (refused _ _ (search needs)) (cc))
+returns c = (search needs, same-pieces _ (refused _ _ (search needs)) (cc))
 
 reply-len-requires : tie.Need-reply-len-requires
 reply-len-requires c κs = search needs
@@ -37,7 +37,7 @@ same-length-2 c = search needs
 
 returns-2 : tie.Need-returns-2
 unfolding replyText putAll
-returns-2 c = (search needs, says _ (accepted _ _ (search needs)) (cc (putAll-append _ _ _)))
+returns-2 c = (search needs, same-pieces _ (accepted _ _ (search needs)) (cc (putAll-append _ _ _)))
 
 pub reply-spec : {M : Type 1} → statement M
 reply-spec =

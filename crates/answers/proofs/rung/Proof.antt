@@ -1,9 +1,9 @@
 -- `answers::rung` meets its contract: the answer decides whether response and doorbell follow. Assumes nothing.
 use mathlib.Core.List.{_++_}
 use Rattle.text.specs.Text.{putAll, spaced}
-use Rattle.text.specs.laws.Pieces.{putAll-append}
-use Rattle.answers.specs.Answers.{rungText, bellText}
-use Rattle.answers.proofs.Saying.{says, refused, accepted}
+use Rattle.text.specs.laws.Pieces.{putAll-append, same-pieces}
+use Rattle.answers.specs.Answers.{rungText}
+use Rattle.answers.proofs.Saying.{refused, accepted}
 use borrow.Author.Needs.{needs}
 use Rattle.answers.proofs.rung.Statement.{statement}
 use Rattle.answers.proofs.rung.Tie as tie
@@ -19,7 +19,7 @@ same-length c = search needs
 
 returns : tie.Need-returns
 unfolding rungText putAll
-returns c = (search needs, says _ (refused _ _ (search needs)) (cc))
+returns c = (search needs, same-pieces _ (refused _ _ (search needs)) (cc))
 
 put-bytes-requires : tie.Need-put-bytes-requires
 put-bytes-requires c κs = search needs
@@ -35,7 +35,7 @@ same-length-2 c = search needs
 
 returns-2 : tie.Need-returns-2
 unfolding rungText putAll
-returns-2 c = (search needs, says _ (accepted _ _ (search needs)) (cc (putAll-append _ (spaced _ ++ _) _, putAll-append _ (spaced _) _)))
+returns-2 c = (search needs, same-pieces _ (accepted _ _ (search needs)) (cc (putAll-append _ (spaced _ ++ _) _, putAll-append _ (spaced _) _)))
 
 pub rung-spec : {M : Type 1} → statement M
 rung-spec =

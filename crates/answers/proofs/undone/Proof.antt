@@ -1,7 +1,8 @@
 -- `answers::undone` meets its contract: the answer decides whether the kind follows. Assumes nothing.
 use Rattle.text.specs.Text.{putAll}
+use Rattle.text.specs.laws.Pieces.{same-pieces}
 use Rattle.answers.specs.Answers.{undoneText}
-use Rattle.answers.proofs.Saying.{says, refused, accepted}
+use Rattle.answers.proofs.Saying.{refused, accepted}
 use borrow.Author.Needs.{needs}
 use Rattle.answers.proofs.undone.Statement.{statement}
 use Rattle.answers.proofs.undone.Tie as tie
@@ -17,7 +18,7 @@ same-length c = search needs
 
 returns : tie.Need-returns
 unfolding undoneText putAll
-returns c = (search needs, says _ (refused _ _ (search needs)) (cc))
+returns c = (search needs, same-pieces _ (refused _ _ (search needs)) (cc))
 
 slice-aggregate-put : tie.Need-slice-aggregate-put
 slice-aggregate-put c = search needs
@@ -36,7 +37,7 @@ same-length-2 c = search needs
 
 returns-2 : tie.Need-returns-2
 unfolding undoneText putAll
-returns-2 c = (search needs, says _ (accepted _ _ (search needs)) (cc))
+returns-2 c = (search needs, same-pieces _ (accepted _ _ (search needs)) (cc))
 
 pub undone-spec : {M : Type 1} → statement M
 undone-spec =

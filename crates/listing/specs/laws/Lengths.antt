@@ -1,7 +1,6 @@
 -- Laws of the listing: how long each part is, and that no listing is longer than a buffer must be. Assumes nothing.
-use Prim.Native.Nat.{ℕ, zero, suc, _+_, _*_, _≤_, _<_}
-use mathlib.Core.Bool.{Bool, true, false, cond}
-use mathlib.Core.Path.{_≡_, refl, sym, ap, _∙_}
+use Prim.Native.Nat.{ℕ, zero, suc, _+_, _*_, _≤_}
+use mathlib.Core.Path.{_≡_, refl, ap}
 use mathlib.Core.List.{List, [], _∷_, _++_}
 use native.Mathlib.Omega.{arith}
 use lib.Dec.{ltb, lit≤}
@@ -10,10 +9,10 @@ use borrow.Author.Tests.{ltb-false}
 use Rattle.wire.specs.Cases.{cond-cases}
 use Rattle.entries.specs.Entries.{Entry, bodyLen, Scan, between, within, unknown, opened, eat, scanFrom, scan, written}
 use Rattle.entries.specs.Laws.{Proper, scan-written, scan-proper, length-written, count-written}
-use Rattle.text.specs.Text.{ascii, hexOf, hexes, decimal, joined}
+use Rattle.text.specs.Text.{lineEnd, hexOf, hexes, decimal, joined}
 use Rattle.text.specs.laws.Decimal.{length-decimal}
 use Rattle.text.specs.laws.Pieces.{joined-append, length-hexes}
-use Rattle.listing.specs.Listing.{line, linesOf, whole, damagedAt, listingOf, piecesOf, listing, longest, tooLong, lineFeed}
+use Rattle.listing.specs.Listing.{line, linesOf, whole, damagedAt, listingOf, piecesOf, listing, longest}
 
 -- ---- the bytes of the entries that were read, and of the one that is being read
 
@@ -53,7 +52,7 @@ length-number n h = length-decimal 3 n (omega arith)
 pub length-line : (e : Entry) → length (joined (line e)) ≡ 2 * length (e .body) + 4
 unfolding line joined hexOf
 length-line e =
-    omega (arith, ap length (joined-append (hexes (e .body)) (lineFeed ∷ [])), length-append (joined (hexes (e .body))) lineFeed, length-hexes (e .body))
+    omega (arith, ap length (joined-append (hexes (e .body)) (lineEnd ∷ [])), length-append (joined (hexes (e .body))) lineEnd, length-hexes (e .body))
 
 -- a line takes at most 3 bytes for each of its entry's
 length-lines : (es : List Entry) → Proper es → length (joined (linesOf es)) ≤ 3 * length (written es)
@@ -72,14 +71,14 @@ length-lines (e ∷ es) h =
 
 length-damaged : (n : ℕ) → n ≤ 2048 → length (joined (damagedAt n)) ≤ longest
 unfolding damagedAt joined
-length-damaged n h = omega (arith, length-append (decimal n) lineFeed, length-number n h)
+length-damaged n h = omega (arith, length-append (decimal n) lineEnd, length-number n h)
 
 length-listingOf : (j : List ℕ) (s : Scan) → length j ≤ 2048 → scan j ≡ s → length (joined (listingOf s)) ≤ longest
 unfolding listingOf whole joined
 length-listingOf j (between es) h e =
     omega (
       arith,
-      length-append (decimal (length es)) (lineFeed ++ joined (linesOf es)),
+      length-append (decimal (length es)) (lineEnd ++ joined (linesOf es)),
       length-number (length es) (omega (arith, count-written es, ap length (scan-written j es e))),
       length-lines es (scan-proper j es e),
       ap length (scan-written j es e),

@@ -1,13 +1,13 @@
 -- Laws of text put piece by piece. Assumes nothing.
 use Prim.Native.Nat.{ℕ, _+_, _-_, _*_, _≤_}
 use mathlib.Core.Path.{_≡_, refl, sym, ap, ap₂, _∙_}
-use mathlib.Core.List.{List, [], _∷_, _++_, append-assoc}
-use native.Mathlib.Nat.{add-zero}
+use mathlib.Core.List.{List, [], _∷_, _++_, append-assoc, append-nil}
+use native.Mathlib.Nat.{add-zero, zero-add}
 use native.Mathlib.Omega.{arith}
-use lib.ListN.{length, take, drop, length-append, take-append-drop}
+use lib.ListN.{length, take, drop, length-append, drop-of-length-le}
 use lib.Seq.{drop-drop}
-use Rattle.wire.specs.Wire.{pasted}
-use Rattle.wire.specs.Laws.{length-pasted, take-pasted, drop-pasted}
+use Rattle.wire.specs.Wire.{pasted, toBE}
+use Rattle.wire.specs.Laws.{length-toBE, length-pasted, take-pasted, drop-pasted}
 use Rattle.wire.specs.Cases.{else-lt}
 use Rattle.wire.proofs.Loops.{paste-none}
 use Rattle.text.specs.Text.{Sheet, sheet, putOn, putAll, joined, hexOf, hexes}
@@ -30,6 +30,9 @@ putAll-append p (x ∷ xs) ys = putAll-append (putOn p x) xs ys
 
 pub pieces : (p : Sheet) {q r : Sheet} (xs ys : List (List ℕ)) → q ≡ putAll p xs → r ≡ putAll q ys → r ≡ putAll p (xs ++ ys)
 pieces p xs ys e f = f ∙ ap (λ (s : Sheet). putAll s ys) e ∙ sym (putAll-append p xs ys)
+
+pub same-pieces : (p : Sheet) {q : Sheet} {xs ys : List (List ℕ)} → xs ≡ ys → q ≡ putAll p xs → q ≡ putAll p ys
+same-pieces p e h = h ∙ ap (putAll p) e
 
 -- ---- where all fits, the pieces stand as one text
 
@@ -66,6 +69,13 @@ all-fit at (x ∷ xs) d h =
     ap (λ (s : Sheet). putAll s xs) (sym (put-fits at x d (omega arith) (omega arith) refl))
     ∙ all-fit (at + length x) xs (pasted at x d) there
     ∙ ap₂ sheet (paste-then at x (joined xs) d here) (omega (arith, length-append x (joined xs)))
+
+-- a number's bytes, written into an array of as many
+pub filled : (k v : ℕ) (d : List ℕ) → length d ≡ k → pasted 0 (toBE k v) d ≡ toBE k v
+unfolding pasted
+filled k v d e =
+    let none : length d ≤ k = omega arith in
+    rw (zero-add, length-toBE, drop-of-length-le d none, append-nil)
 
 pub length-hexes : (bs : List ℕ) → length (joined (hexes bs)) ≡ 2 * length bs
 unfolding joined hexes hexOf

@@ -1,6 +1,6 @@
 // The text of each answer, put at the front of a lent buffer with its line feed; its length is given back. Nothing is written here.
 ghost use mathlib.Core.Path.{_≡_};
-ghost use lib.ListN.{length, take};
+ghost use lib.ListN.{length, take, drop};
 ghost use Rattle.io.specs.Counts.{Counts};
 ghost use Rattle.text.specs.Text.{sheet, putOn, putAll, atFront, lineEnd};
 ghost use Rattle.answers.specs.Answers.{lineText, columnText, complaintText, replyLength, replyText, bellText, rungText, undoneText, imageText, listText, journalText, helpText};

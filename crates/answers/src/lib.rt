@@ -1,15 +1,21 @@
 // The text of each answer, put at the front of a lent buffer with its line feed; its length is given back. Nothing is written here.
+ghost use mathlib.Core.Path.{_≡_};
+ghost use lib.ListN.{length, take, drop};
 ghost use Rattle.io.specs.Counts.{Counts};
+ghost use Rattle.text.specs.Text.{sheet, putOn, putAll, atFront, lineEnd};
+ghost use Rattle.answers.specs.Answers.{lineText, columnText, complaintText, replyLength, replyText, bellText, rungText, undoneText, imageText, listText, journalText, helpText};
 use orders::Wrong;
 
 fn put_end(out: &mut [u8], at: usize) -> usize
     ensures { λ r. ⌜ Counts r (now (out .exit)) ⌝ }
+    ensures { λ r. ⌜ sheet (now (out .exit)) r ≡ putOn (sheet (now (out .entry)) at) lineEnd ⌝ }
 {
     text::put(out, at, b"\n")
 }
 
 pub fn line(out: &mut [u8], s: &[u8]) -> usize
     ensures { λ r. ⌜ Counts r (now (out .exit)) ⌝ }
+    ensures { λ r. ⌜ sheet (now (out .exit)) r ≡ atFront (now (out .entry)) (lineText (now (s .entry))) ⌝ }
 {
     let end = text::put(out, 0, s);
     put_end(out, end)
@@ -19,6 +25,7 @@ pub fn line(out: &mut [u8], s: &[u8]) -> usize
 
 fn at_column(out: &mut [u8], what: &[u8], column: usize) -> usize
     ensures { λ r. ⌜ Counts r (now (out .exit)) ⌝ }
+    ensures { λ r. ⌜ sheet (now (out .exit)) r ≡ atFront (now (out .entry)) (columnText (now (what .entry)) column) ⌝ }
 {
     let mark = text::put(out, 0, b"? ");
     let words = text::put(out, mark, what);
@@ -29,6 +36,7 @@ fn at_column(out: &mut [u8], what: &[u8], column: usize) -> usize
 
 pub fn complaint(out: &mut [u8], what: Wrong, column: usize) -> usize
     ensures { λ r. ⌜ Counts r (now (out .exit)) ⌝ }
+    ensures { λ r. ⌜ sheet (now (out .exit)) r ≡ atFront (now (out .entry)) (complaintText what column) ⌝ }
 {
     match what {
         Wrong::LongLine => at_column(out, b"line over 32768 bytes", column),
@@ -46,6 +54,7 @@ pub fn complaint(out: &mut [u8], what: Wrong, column: usize) -> usize
 
 // An OCC reply has 7 bytes and the data bytes that its length field counts.
 fn reply_len(reply: &[u8]) -> usize
+    ensures { λ r. ⌜ r ≡ replyLength (now (reply .entry)) ⌝ }
     ensures { λ r. ⌜ Counts r (now (reply .entry)) ⌝ }
 {
     if reply.len() < 5 {
@@ -61,6 +70,7 @@ fn reply_len(reply: &[u8]) -> usize
 // The session answer, and after 0 the reply.
 pub fn reply(out: &mut [u8], answer: u8, bytes: &[u8]) -> usize
     ensures { λ r. ⌜ Counts r (now (out .exit)) ⌝ }
+    ensures { λ r. ⌜ sheet (now (out .exit)) r ≡ atFront (now (out .entry)) (replyText answer (now (bytes .entry))) ⌝ }
 {
     let at = text::put_decimal(out, 0, answer as u64);
     if answer != 0 {
@@ -71,25 +81,33 @@ pub fn reply(out: &mut [u8], answer: u8, bytes: &[u8]) -> usize
     put_end(out, end)
 }
 
+fn put_bell(out: &mut [u8], at: usize, bell: u16) -> usize
+    ensures { λ r. ⌜ sheet (now (out .exit)) r ≡ putAll (sheet (now (out .entry)) at) (bellText bell) ⌝ }
+{
+    let name = text::put(out, at, b" bell ");
+    let mut digits = [0u8; 2];
+    wire::put_be(&mut digits, 0, 2, bell as u64);
+    text::put_hexes(out, name, &digits)
+}
+
 // The session answer, and after 0 the response and the doorbell's four digits.
 pub fn rung(out: &mut [u8], answer: u8, response: &[u8], bell: u16) -> usize
     ensures { λ r. ⌜ Counts r (now (out .exit)) ⌝ }
+    ensures { λ r. ⌜ sheet (now (out .exit)) r ≡ atFront (now (out .entry)) (rungText answer (now (response .entry)) bell) ⌝ }
 {
     let at = text::put_decimal(out, 0, answer as u64);
     if answer != 0 {
         return put_end(out, at);
     }
     let bytes = text::put_bytes(out, at, response);
-    let name = text::put(out, bytes, b" bell ");
-    let mut digits = [0u8; 2];
-    wire::put_be(&mut digits, 0, 2, bell as u64);
-    let end = text::put_hexes(out, name, &digits);
+    let end = put_bell(out, bytes, bell);
     put_end(out, end)
 }
 
 // The session answer, and after 0 the kind.
 pub fn undone(out: &mut [u8], answer: u8, kind: u8) -> usize
     ensures { λ r. ⌜ Counts r (now (out .exit)) ⌝ }
+    ensures { λ r. ⌜ sheet (now (out .exit)) r ≡ atFront (now (out .entry)) (undoneText answer kind) ⌝ }
 {
     let at = text::put_decimal(out, 0, answer as u64);
     if answer != 0 {
@@ -104,13 +122,16 @@ pub fn undone(out: &mut [u8], answer: u8, kind: u8) -> usize
 
 pub fn image(out: &mut [u8], bytes: &[u8]) -> usize
     ensures { λ r. ⌜ Counts r (now (out .exit)) ⌝ }
+    ensures { λ r. ⌜ sheet (now (out .exit)) r ≡ atFront (now (out .entry)) (imageText (now (bytes .entry))) ⌝ }
 {
     let name = text::put(out, 0, b"image ");
     let end = text::put_hexes(out, name, bytes);
     put_end(out, end)
 }
 
-fn list(out: &mut [u8], j: &[u8], used: usize) -> usize {
+fn list(out: &mut [u8], j: &[u8], used: usize) -> usize
+    ensures { λ r. ⌜ sheet (now (out .exit)) r ≡ atFront (now (out .entry)) (listText (length (now (out .entry))) (now (j .entry)) used) ⌝ }
+{
     if j.len() < used {
         return text::put(out, 0, b"too long\n");
     }
@@ -120,13 +141,16 @@ fn list(out: &mut [u8], j: &[u8], used: usize) -> usize {
 // The listing of the journal's first `used` bytes, and the line that ends it.
 pub fn journal(out: &mut [u8], j: &[u8], used: usize) -> usize
     ensures { λ r. ⌜ Counts r (now (out .exit)) ⌝ }
+    ensures { λ r. ⌜ sheet (now (out .exit)) r ≡ atFront (now (out .entry)) (journalText (length (now (out .entry))) (now (j .entry)) used) ⌝ }
 {
     let end = list(out, j, used);
     text::put(out, end, b".\n")
 }
 
 // The words for calls and for the session as bytes.
-fn put_calls(out: &mut [u8]) -> usize {
+fn put_calls(out: &mut [u8]) -> usize
+    ensures { λ r. ⌜ sheet (now (out .exit)) r ≡ atFront (now (out .entry)) (take 6 helpText) ⌝ }
+{
     let a = text::put(
         out,
         0,
@@ -152,7 +176,9 @@ fn put_calls(out: &mut [u8]) -> usize {
 }
 
 // The words for packets and for reply buffers.
-fn put_sends(out: &mut [u8], at: usize) -> usize {
+fn put_sends(out: &mut [u8], at: usize) -> usize
+    ensures { λ r. ⌜ sheet (now (out .exit)) r ≡ putAll (sheet (now (out .entry)) at) (take 2 (drop 6 helpText)) ⌝ }
+{
     let a = text::put(
         out,
         at,
@@ -167,6 +193,7 @@ fn put_sends(out: &mut [u8], at: usize) -> usize {
 
 pub fn help(out: &mut [u8]) -> usize
     ensures { λ r. ⌜ Counts r (now (out .exit)) ⌝ }
+    ensures { λ r. ⌜ sheet (now (out .exit)) r ≡ atFront (now (out .entry)) helpText ⌝ }
 {
     let calls = put_calls(out);
     let a = put_sends(out, calls);

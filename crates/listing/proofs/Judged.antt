@@ -1,19 +1,22 @@
 -- What `list` puts is the listing, by what it judged. Assumes nothing.
 use Prim.Native.Nat.{ℕ, _+_, _≤_, _<_}
-use mathlib.Core.Path.{_≡_, refl, sym, ap, subst, _∙_}
-use mathlib.Core.List.{List}
+use mathlib.Core.Path.{_≡_, refl, sym, ap, _∙_}
+use mathlib.Core.List.{List, [], _∷_}
 use native.Mathlib.Nat.{zero-add}
 use native.Mathlib.Omega.{arith}
 use lib.ListN.{length}
 use lib.Seq.{length-take-le}
 use Rattle.wire.specs.Wire.{pasted}
+use Rattle.wire.specs.laws.Wire.{length-pasted}
 use Rattle.wire.specs.laws.Cases.{if-lt, else-lt}
 use Rattle.entries.specs.declared.Reading.{Reading}
 use Rattle.entries.specs.declared.Reading.the-variants.{Whole, Unknown, Cut}
-use Rattle.entries.specs.Entries.{Entry, Scan, between, within, unknown, scan, readingOf, readingFits}
-use Rattle.listing.specs.Listing.{tooLong, whole, damagedAt, listingOf, listing, longest, listed, listedLength, Counts, Puts, entriesOf}
-use Rattle.listing.specs.Laws.{length-listing}
-use Rattle.listing.proofs.Writing.{puts-length}
+use Rattle.entries.specs.Entries.{Entry, Scan, between, within, unknown, scan, readingOf}
+use Rattle.io.specs.Counts.{Counts}
+use Rattle.text.specs.Text.{Sheet, sheet, putAll, joined}
+use Rattle.text.specs.laws.Pieces.{all-fit}
+use Rattle.listing.specs.Listing.{tooLong, whole, damagedAt, listingOf, piecesOf, listing, longest, listed, listedLength, entriesOf}
+use Rattle.listing.specs.laws.Lengths.{length-listing}
 
 -- ---- what a reading says of the bytes
 
@@ -24,7 +27,7 @@ whole-scan (within es k b n) count newest e = let z : _≡_ {A = ℕ} 0 1 = cc i
 whole-scan (unknown es) count newest e = let z : _≡_ {A = ℕ} 0 1 = cc in absurd (omega arith)
 
 -- the listing by the reading
-abbrev byReading : Reading → List Entry → List ℕ
+abbrev byReading : Reading → List Entry → List (List ℕ)
 byReading (Whole count newest) es = whole count es
 byReading (Unknown place) es = damagedAt place
 byReading (Cut place) es = damagedAt place
@@ -36,41 +39,35 @@ by-scan (within es k b n) = refl
 by-scan (unknown es) = refl
 
 -- r is what `read` found, c the variant that it is
-module _ (j : List ℕ) {r c : Reading} (is : r ≡ c) where
-  pub fits-as : readingFits (length j) r → readingFits (length j) c
-  fits-as = subst (readingFits (length j)) is
-
-  pub listing-as : r ≡ readingOf (scan j) → byReading c (entriesOf (scan j)) ≡ listingOf (scan j)
-  listing-as e = ap (λ (x : Reading). byReading x (entriesOf (scan j))) (sym is ∙ e) ∙ by-scan (scan j)
+pub listing-as : (j : List ℕ) {r c : Reading} → r ≡ c → r ≡ readingOf (scan j) → byReading c (entriesOf (scan j)) ≡ listingOf (scan j)
+listing-as j is e = ap (λ (x : Reading). byReading x (entriesOf (scan j))) (sym is ∙ e) ∙ by-scan (scan j)
 
 pub whole-between : (j : List ℕ) {r : Reading} {count newest : ℕ} → r ≡ Whole count newest → r ≡ readingOf (scan j) → scan j ≡ between (entriesOf (scan j))
 whole-between j {count = count} {newest = newest} is e = whole-scan (scan j) count newest (sym e ∙ is)
 
 -- ---- the order of the judgements
 
-pub listing-long : (j : List ℕ) → 2048 < length j → tooLong ≡ listing j
-unfolding listing
-listing-long j h = if-lt _ _ h refl
+pub pieces-long : (j : List ℕ) → 2048 < length j → tooLong ∷ [] ≡ piecesOf j
+unfolding piecesOf
+pieces-long j h = if-lt _ _ h refl
 
-pub listing-read : (j : List ℕ) {bs : List ℕ} → length j ≤ 2048 → bs ≡ listingOf (scan j) → bs ≡ listing j
-unfolding listing
-listing-read j h e = else-lt _ _ h e
+pub pieces-read : (j : List ℕ) {ps : List (List ℕ)} → length j ≤ 2048 → ps ≡ listingOf (scan j) → ps ≡ piecesOf j
+unfolding piecesOf
+pieces-read j h e = else-lt _ _ h e
 
 module _ (j d : List ℕ) where
   pub listed-none : length d < longest → (0 ≡ listedLength j d) × ((d ≡ listed j d) × Counts 0 d)
   unfolding listed listedLength
   listed-none h = (if-lt _ _ h refl, (if-lt _ _ h refl, (omega arith, refl)))
 
-  listing-counts : (bs d′ : List ℕ) (end : ℕ) → longest ≤ length d → bs ≡ listing j → Puts 0 bs d d′ end → Counts end d′
-  listing-counts bs d′ end h e p =
-      let fits : 0 + length bs ≤ length d = omega (arith, length-listing j, ap length e) in
-      let counts : end ≤ length d′ = omega (arith, p .past, puts-length p fits) in
-      (counts, sym (length-take-le end d′ counts))
-
-  pub listed-put : {bs d′ : List ℕ} {end : ℕ} → longest ≤ length d → bs ≡ listing j → Puts 0 bs d d′ end
+  pub listed-put : {ps : List (List ℕ)} {d′ : List ℕ} {end : ℕ} → longest ≤ length d → ps ≡ piecesOf j → sheet d′ end ≡ putAll (sheet d 0) ps
       → (end ≡ listedLength j d) × ((d′ ≡ listed j d) × Counts end d′)
-  unfolding listed listedLength
-  listed-put {bs} {d′} {end} h e p = (
-    else-lt _ _ h (p .past ∙ zero-add (length bs) ∙ ap length e),
-    (else-lt _ _ h (p .stands ∙ ap (λ (l : List ℕ). pasted 0 l d) e), listing-counts bs d′ end h e p),
-  )
+  unfolding listed listedLength listing
+  listed-put {ps} {d′} {end} h e p =
+      let fits : 0 + length (joined (piecesOf j)) ≤ length d = omega (arith, length-listing j) in
+      let put : sheet d′ end ≡ sheet (pasted 0 (joined (piecesOf j)) d) (0 + length (joined (piecesOf j))) =
+      p ∙ ap (putAll (sheet d 0)) e ∙ all-fit 0 (piecesOf j) d fits in
+      let past : end ≡ 0 + length (joined (piecesOf j)) = ap (λ (s : Sheet). s .past) put in
+      let text : d′ ≡ pasted 0 (joined (piecesOf j)) d = ap (λ (s : Sheet). s .text) put in
+      let counts : end ≤ length d′ = omega (arith, ap length text, length-pasted 0 (joined (piecesOf j)) d fits) in
+      (else-lt _ _ h (past ∙ zero-add _), (else-lt _ _ h text, (counts, sym (length-take-le end d′ counts))))

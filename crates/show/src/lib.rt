@@ -1,5 +1,11 @@
 // The session as text for a person, into a lent buffer, a function for each line of docs/PROTOCOL.md. Every byte pattern shows.
+ghost use mathlib.Core.Path.{_≡_};
+ghost use mathlib.Core.Bool.{cond};
+ghost use mathlib.Core.List.{[]};
+ghost use lib.Dec.{eqb};
 ghost use Rattle.io.specs.Counts.{Counts};
+ghost use Rattle.text.specs.Text.{sheet, putOn, putAll, atFront};
+ghost use Rattle.show.specs.Show.{numberText, numbersText, namedText, markText, yesText, stateWord, stateText, roleWord, roleText, capsText, wantedText, workedText, settingsText, thresholdsText, pairText, pairsText, throttlesText, logText, placesText, logsText, coresText, maskText, deadmanText, areaText, areasText, restText, readingText, journalText, sessionText};
 use entries::Reading;
 use record::Area;
 use record::Areas;
@@ -11,48 +17,52 @@ use record::Worked;
 
 // ---- words and numbers
 
-fn put_number(out: &mut [u8], at: usize, n: u64) -> usize {
+fn put_number(out: &mut [u8], at: usize, n: u64) -> usize
+    ensures { λ r. ⌜ sheet (now (out .exit)) r ≡ putAll (sheet (now (out .entry)) at) (numberText n) ⌝ }
+{
     let mid = text::put(out, at, b" ");
     text::put_decimal(out, mid, n)
 }
 
-fn put_byte(out: &mut [u8], at: usize, b: u8) -> usize {
+fn put_byte(out: &mut [u8], at: usize, b: u8) -> usize
+    ensures { λ r. ⌜ sheet (now (out .exit)) r ≡ putAll (sheet (now (out .entry)) at) (numberText b) ⌝ }
+{
     put_number(out, at, b as u64)
 }
 
 // A line of a name and a number.
-fn put_named(out: &mut [u8], at: usize, name: &[u8], n: u64) -> usize {
+fn put_named(out: &mut [u8], at: usize, name: &[u8], n: u64) -> usize
+    ensures { λ r. ⌜ sheet (now (out .exit)) r ≡ putAll (sheet (now (out .entry)) at) (namedText (now (name .entry)) n) ⌝ }
+{
     let mid = text::put(out, at, name);
     let end = put_number(out, mid, n);
     text::put(out, end, b"\n")
 }
 
 // What a line of parts ends with.
-fn put_mark(out: &mut [u8], at: usize, mark: u8) -> usize {
+fn put_mark(out: &mut [u8], at: usize, mark: u8) -> usize
+    ensures { λ r. ⌜ sheet (now (out .exit)) r ≡ putOn (sheet (now (out .entry)) at) (markText mark) ⌝ }
+{
     if mark == 0 {
         return text::put(out, at, b" not received\n");
     }
     text::put(out, at, b" received\n")
 }
 
-fn put_yes(out: &mut [u8], at: usize, flag: u8) -> usize {
+fn put_yes(out: &mut [u8], at: usize, flag: u8) -> usize
+    ensures { λ r. ⌜ sheet (now (out .exit)) r ≡ putOn (sheet (now (out .entry)) at) (yesText flag) ⌝ }
+{
     if flag == 0 {
         return text::put(out, at, b" no\n");
     }
     text::put(out, at, b" yes\n")
 }
 
-// A list that stayed empty.
-fn put_none(out: &mut [u8], at: usize, start: usize) -> usize {
-    if at == start {
-        return text::put(out, at, b" none");
-    }
-    at
-}
-
 // ---- the lines
 
-fn put_state_word(out: &mut [u8], at: usize, state: u8) -> usize {
+fn put_state_word(out: &mut [u8], at: usize, state: u8) -> usize
+    ensures { λ r. ⌜ sheet (now (out .exit)) r ≡ putOn (sheet (now (out .entry)) at) (stateWord state) ⌝ }
+{
     match state {
         1 => text::put(out, at, b" standby\n"),
         2 => text::put(out, at, b" observation\n"),
@@ -61,13 +71,17 @@ fn put_state_word(out: &mut [u8], at: usize, state: u8) -> usize {
     }
 }
 
-fn put_state(out: &mut [u8], at: usize, state: u8) -> usize {
+fn put_state(out: &mut [u8], at: usize, state: u8) -> usize
+    ensures { λ r. ⌜ sheet (now (out .exit)) r ≡ putAll (sheet (now (out .entry)) at) (stateText state) ⌝ }
+{
     let mid = text::put(out, at, b"state");
     let end = put_byte(out, mid, state);
     put_state_word(out, end, state)
 }
 
-fn put_role_word(out: &mut [u8], at: usize, role: u8) -> usize {
+fn put_role_word(out: &mut [u8], at: usize, role: u8) -> usize
+    ensures { λ r. ⌜ sheet (now (out .exit)) r ≡ putOn (sheet (now (out .entry)) at) (roleWord role) ⌝ }
+{
     match role {
         0 => text::put(out, at, b" slave"),
         1 => text::put(out, at, b" master"),
@@ -75,14 +89,18 @@ fn put_role_word(out: &mut [u8], at: usize, role: u8) -> usize {
     }
 }
 
-fn put_role(out: &mut [u8], at: usize, role: u8, mark: u8) -> usize {
+fn put_role(out: &mut [u8], at: usize, role: u8, mark: u8) -> usize
+    ensures { λ r. ⌜ sheet (now (out .exit)) r ≡ putAll (sheet (now (out .entry)) at) (roleText role mark) ⌝ }
+{
     let name = text::put(out, at, b"role");
     let number = put_byte(out, name, role);
     let word = put_role_word(out, number, role);
     put_mark(out, word, mark)
 }
 
-fn put_caps(out: &mut [u8], at: usize, caps: Caps, mark: u8) -> usize {
+fn put_caps(out: &mut [u8], at: usize, caps: Caps, mark: u8) -> usize
+    ensures { λ r. ⌜ sheet (now (out .exit)) r ≡ putAll (sheet (now (out .entry)) at) (capsText caps mark) ⌝ }
+{
     let name = text::put(out, at, b"caps");
     let min = put_number(out, name, caps.min as u64);
     let max = put_number(out, min, caps.max as u64);
@@ -90,14 +108,18 @@ fn put_caps(out: &mut [u8], at: usize, caps: Caps, mark: u8) -> usize {
     put_mark(out, over, mark)
 }
 
-fn put_wanted(out: &mut [u8], at: usize, wanted: u8) -> usize {
+fn put_wanted(out: &mut [u8], at: usize, wanted: u8) -> usize
+    ensures { λ r. ⌜ sheet (now (out .exit)) r ≡ putAll (sheet (now (out .entry)) at) (wantedText wanted) ⌝ }
+{
     let name = text::put(out, at, b"wanted format ");
     let end = text::put_hex(out, name, wanted);
     text::put(out, end, b"\n")
 }
 
 // The two readies and the configuration format that is wanted.
-fn put_worked(out: &mut [u8], at: usize, worked: Worked) -> usize {
+fn put_worked(out: &mut [u8], at: usize, worked: Worked) -> usize
+    ensures { λ r. ⌜ sheet (now (out .exit)) r ≡ putAll (sheet (now (out .entry)) at) (workedText worked) ⌝ }
+{
     let limit = put_named(out, at, b"limit", worked.limit as u64);
     let first = text::put(out, limit, b"observation-ready");
     let observation = put_yes(out, first, worked.observation);
@@ -106,25 +128,39 @@ fn put_worked(out: &mut [u8], at: usize, worked: Worked) -> usize {
     put_wanted(out, active, worked.wanted)
 }
 
-fn put_thresholds(out: &mut [u8], at: usize, thermal: &[u8], mark: u8) -> usize {
-    let mut end = text::put(out, at, b"thresholds");
+fn put_numbers(out: &mut [u8], at: usize, s: &[u8]) -> usize
+    ensures { λ r. ⌜ sheet (now (out .exit)) r ≡ putAll (sheet (now (out .entry)) at) (numbersText (now (s .entry))) ⌝ }
+{
+    let mut end = at;
     let mut i = 0;
-    while i < thermal.len() {
-        end = put_byte(out, end, thermal[i]);
+    while i < s.len() {
+        end = put_byte(out, end, s[i]);
         i += 1;
     }
+    end
+}
+
+fn put_thresholds(out: &mut [u8], at: usize, thermal: &[u8], mark: u8) -> usize
+    ensures { λ r. ⌜ sheet (now (out .exit)) r ≡ putAll (sheet (now (out .entry)) at) (thresholdsText (now (thermal .entry)) mark) ⌝ }
+{
+    let name = text::put(out, at, b"thresholds");
+    let end = put_numbers(out, name, thermal);
     put_mark(out, end, mark)
 }
 
 // A pair as `hub.MBA`; its number is 2 x hub + MBA.
-fn put_pair(out: &mut [u8], at: usize, pair: u64) -> usize {
+fn put_pair(out: &mut [u8], at: usize, pair: u64) -> usize
+    ensures { λ r. ⌜ sheet (now (out .exit)) r ≡ putAll (sheet (now (out .entry)) at) (pairText pair) ⌝ }
+{
     let hub = put_number(out, at, pair / 2);
     let dot = text::put(out, hub, b".");
     text::put_decimal(out, dot, pair % 2)
 }
 
 // The pair is put where its bit is set.
-fn put_present(out: &mut [u8], at: usize, bit: u16, pair: u64) -> usize {
+fn put_present(out: &mut [u8], at: usize, bit: u16, pair: u64) -> usize
+    ensures { λ r. ⌜ sheet (now (out .exit)) r ≡ putAll (sheet (now (out .entry)) at) (cond (eqb bit 0) [] (pairText pair)) ⌝ }
+{
     if bit == 0 {
         return at;
     }
@@ -132,7 +168,12 @@ fn put_present(out: &mut [u8], at: usize, bit: u16, pair: u64) -> usize {
 }
 
 // Pair 0 is the least significant bit.
-fn put_pairs(out: &mut [u8], at: usize, present: u16) -> usize {
+fn put_pairs(out: &mut [u8], at: usize, present: u16) -> usize
+    ensures { λ r. ⌜ sheet (now (out .exit)) r ≡ putAll (sheet (now (out .entry)) at) (pairsText present) ⌝ }
+{
+    if present == 0 {
+        return text::put(out, at, b" none");
+    }
     let mut end = at;
     let mut left = present;
     let mut pair = 0;
@@ -141,17 +182,21 @@ fn put_pairs(out: &mut [u8], at: usize, present: u16) -> usize {
         left = left / 2;
         pair += 1;
     }
-    put_none(out, end, at)
+    end
 }
 
-fn put_throttles(out: &mut [u8], at: usize, present: u16, mark: u8) -> usize {
+fn put_throttles(out: &mut [u8], at: usize, present: u16, mark: u8) -> usize
+    ensures { λ r. ⌜ sheet (now (out .exit)) r ≡ putAll (sheet (now (out .entry)) at) (throttlesText present mark) ⌝ }
+{
     let name = text::put(out, at, b"throttles");
     let pairs = put_pairs(out, name, present);
     put_mark(out, pairs, mark)
 }
 
 // A log as `id:reason`; an unused place has the id 0.
-fn put_log(out: &mut [u8], at: usize, log: Log) -> usize {
+fn put_log(out: &mut [u8], at: usize, log: Log) -> usize
+    ensures { λ r. ⌜ sheet (now (out .exit)) r ≡ putAll (sheet (now (out .entry)) at) (logText log) ⌝ }
+{
     if log.id == 0 {
         return at;
     }
@@ -160,18 +205,30 @@ fn put_log(out: &mut [u8], at: usize, log: Log) -> usize {
     text::put_decimal(out, colon, log.reason as u64)
 }
 
-fn put_logs(out: &mut [u8], at: usize, logs: [Log; 4]) -> usize {
+fn put_places(out: &mut [u8], at: usize, a: Log, b: Log, c: Log, d: Log) -> usize
+    ensures { λ r. ⌜ sheet (now (out .exit)) r ≡ putAll (sheet (now (out .entry)) at) (placesText a b c d) ⌝ }
+{
+    if a.id as u16 + b.id as u16 + c.id as u16 + d.id as u16 == 0 {
+        return text::put(out, at, b" none");
+    }
+    let first = put_log(out, at, a);
+    let second = put_log(out, first, b);
+    let third = put_log(out, second, c);
+    put_log(out, third, d)
+}
+
+fn put_logs(out: &mut [u8], at: usize, logs: [Log; 4]) -> usize
+    ensures { λ r. ⌜ sheet (now (out .exit)) r ≡ putAll (sheet (now (out .entry)) at) (logsText logs) ⌝ }
+{
     let name = text::put(out, at, b"logs");
-    let a = put_log(out, name, logs[0]);
-    let b = put_log(out, a, logs[1]);
-    let c = put_log(out, b, logs[2]);
-    let d = put_log(out, c, logs[3]);
-    let end = put_none(out, d, name);
+    let end = put_places(out, name, logs[0], logs[1], logs[2], logs[3]);
     text::put(out, end, b"\n")
 }
 
 // The core is put where its bit is set.
-fn put_core(out: &mut [u8], at: usize, bit: u32, core: u64) -> usize {
+fn put_core(out: &mut [u8], at: usize, bit: u32, core: u64) -> usize
+    ensures { λ r. ⌜ sheet (now (out .exit)) r ≡ putAll (sheet (now (out .entry)) at) (cond (eqb bit 0) [] (numberText core)) ⌝ }
+{
     if bit == 0 {
         return at;
     }
@@ -179,21 +236,34 @@ fn put_core(out: &mut [u8], at: usize, bit: u32, core: u64) -> usize {
 }
 
 // Core 0 is the most significant bit.
-fn put_cores(out: &mut [u8], at: usize, mask: u32) -> usize {
-    let name = text::put(out, at, b"cores out");
-    let mut end = name;
-    let mut bit: u32 = 0x8000_0000;
+fn put_cores(out: &mut [u8], at: usize, mask: u32) -> usize
+    ensures { λ r. ⌜ sheet (now (out .exit)) r ≡ putAll (sheet (now (out .entry)) at) (coresText mask) ⌝ }
+{
+    if mask == 0 {
+        return text::put(out, at, b" none");
+    }
+    let mut end = at;
+    let mut left = mask;
     let mut core = 0;
     while core < 32 {
-        end = put_core(out, end, mask & bit, core);
-        bit = bit / 2;
+        end = put_core(out, end, left / 0x8000_0000, core);
+        left = left % 0x8000_0000 * 2;
         core += 1;
     }
-    let last = put_none(out, end, name);
-    text::put(out, last, b"\n")
+    end
 }
 
-fn put_deadman(out: &mut [u8], at: usize, deadman: Deadman) -> usize {
+fn put_mask(out: &mut [u8], at: usize, mask: u32) -> usize
+    ensures { λ r. ⌜ sheet (now (out .exit)) r ≡ putAll (sheet (now (out .entry)) at) (maskText mask) ⌝ }
+{
+    let name = text::put(out, at, b"cores out");
+    let end = put_cores(out, name, mask);
+    text::put(out, end, b"\n")
+}
+
+fn put_deadman(out: &mut [u8], at: usize, deadman: Deadman) -> usize
+    ensures { λ r. ⌜ sheet (now (out .exit)) r ≡ putAll (sheet (now (out .entry)) at) (deadmanText deadman) ⌝ }
+{
     if deadman.running == 0 {
         return put_named(out, at, b"deadman off", deadman.time);
     }
@@ -201,7 +271,9 @@ fn put_deadman(out: &mut [u8], at: usize, deadman: Deadman) -> usize {
 }
 
 // An area's address and size in hex.
-fn put_area(out: &mut [u8], at: usize, name: &[u8], area: Area) -> usize {
+fn put_area(out: &mut [u8], at: usize, name: &[u8], area: Area) -> usize
+    ensures { λ r. ⌜ sheet (now (out .exit)) r ≡ putAll (sheet (now (out .entry)) at) (areaText (now (name .entry)) area) ⌝ }
+{
     let mut address = [0u8; 8];
     wire::put_be(&mut address, 0, 8, area.address);
     let mut size = [0u8; 4];
@@ -213,7 +285,9 @@ fn put_area(out: &mut [u8], at: usize, name: &[u8], area: Area) -> usize {
     text::put(out, end, b"\n")
 }
 
-fn put_areas(out: &mut [u8], at: usize, areas: Areas) -> usize {
+fn put_areas(out: &mut [u8], at: usize, areas: Areas) -> usize
+    ensures { λ r. ⌜ sheet (now (out .exit)) r ≡ putAll (sheet (now (out .entry)) at) (areasText areas) ⌝ }
+{
     let ffdc = areas.ffdc;
     let pass = areas.pass;
     let mid = put_area(out, at, b"area ffdc ", ffdc);
@@ -221,7 +295,9 @@ fn put_areas(out: &mut [u8], at: usize, areas: Areas) -> usize {
 }
 
 // The first line of the journal's listing.
-fn put_reading(out: &mut [u8], at: usize, reading: Reading) -> usize {
+fn put_reading(out: &mut [u8], at: usize, reading: Reading) -> usize
+    ensures { λ r. ⌜ sheet (now (out .exit)) r ≡ putAll (sheet (now (out .entry)) at) (readingText reading) ⌝ }
+{
     match reading {
         Reading::Whole { count, newest: _ } => put_named(out, at, b"journal", count as u64),
         Reading::Unknown(place) => put_named(out, at, b"damaged at", place as u64),
@@ -230,7 +306,9 @@ fn put_reading(out: &mut [u8], at: usize, reading: Reading) -> usize {
 }
 
 // How the journal reads, and its unused bytes.
-fn put_journal(out: &mut [u8], at: usize, j: &[u8], used: usize) -> usize {
+fn put_journal(out: &mut [u8], at: usize, j: &[u8], used: usize) -> usize
+    ensures { λ r. ⌜ sheet (now (out .exit)) r ≡ putAll (sheet (now (out .entry)) at) (journalText (now (j .entry)) used) ⌝ }
+{
     if j.len() < used {
         return text::put(out, at, b"too long\nroom 0\n");
     }
@@ -238,7 +316,9 @@ fn put_journal(out: &mut [u8], at: usize, j: &[u8], used: usize) -> usize {
     put_named(out, first, b"room", (j.len() - used) as u64)
 }
 
-fn put_settings(out: &mut [u8], at: usize, held: Record, worked: Worked) -> usize {
+fn put_settings(out: &mut [u8], at: usize, held: Record, worked: Worked) -> usize
+    ensures { λ r. ⌜ sheet (now (out .exit)) r ≡ putAll (sheet (now (out .entry)) at) (settingsText held worked) ⌝ }
+{
     let got = held.received;
     let caps = held.caps;
     let state = put_state(out, at, held.state);
@@ -248,7 +328,9 @@ fn put_settings(out: &mut [u8], at: usize, held: Record, worked: Worked) -> usiz
     put_worked(out, user, worked)
 }
 
-fn put_rest(out: &mut [u8], at: usize, held: Record) -> usize {
+fn put_rest(out: &mut [u8], at: usize, held: Record) -> usize
+    ensures { λ r. ⌜ sheet (now (out .exit)) r ≡ putAll (sheet (now (out .entry)) at) (restText held) ⌝ }
+{
     let got = held.received;
     let table = held.throttles;
     let thermal = held.thermal;
@@ -258,7 +340,7 @@ fn put_rest(out: &mut [u8], at: usize, held: Record) -> usize {
     let a = put_thresholds(out, at, &thermal, got.thermal);
     let b = put_throttles(out, a, table.present, got.throttles);
     let c = put_logs(out, b, logs);
-    let d = put_cores(out, c, held.mask);
+    let d = put_mask(out, c, held.mask);
     let e = put_deadman(out, d, deadman);
     put_areas(out, e, areas)
 }
@@ -273,6 +355,7 @@ pub fn put_session(
     used: usize,
 ) -> usize
     ensures { λ r. ⌜ Counts r (now (out .exit)) ⌝ }
+    ensures { λ r. ⌜ sheet (now (out .exit)) r ≡ atFront (now (out .entry)) (sessionText held worked next (now (j .entry)) used) ⌝ }
 {
     let settings = put_settings(out, 0, held, worked);
     let rest = put_rest(out, settings, held);

@@ -1,7 +1,9 @@
 // Answers each line of standard input by calls on one session, as docs/PROTOCOL.md says. A line is answered as soon as it is complete.
 ghost use Prim.Native.Nat.{_≤_};
 ghost use lib.ListN.{length};
+ghost use mathlib.Core.Path.{_≡_};
 ghost use Rattle.io.specs.Counts.{Counts};
+ghost use Rattle.image.specs.Image.{imageLength};
 use libc::STDIN_FILENO;
 use libc::STDOUT_FILENO;
 use orders::Buffer;
@@ -9,7 +11,6 @@ use orders::Call;
 use orders::Order;
 use orders::View;
 use orders::Word;
-use session::Session;
 
 // The first `n` bytes are written at once.
 fn tell(out: &[u8], n: usize)
@@ -18,14 +19,12 @@ fn tell(out: &[u8], n: usize)
     io::write_all(STDOUT_FILENO, &out[..n]);
 }
 
-// ---- calls
+// ---- calls, on the session that is lent as its image's bytes
 
-fn occ(s: Session, sender: u8, command: &[u8], reply: &mut [u8], out: &mut [u8]) -> Session {
-    let done = occ_call::occ(s, sender, command, reply);
-    let after = done.session;
-    let n = answers::reply(out, done.answer, reply);
+fn occ(lent: &mut [u8], sender: u8, command: &[u8], reply: &mut [u8], out: &mut [u8]) {
+    let told = occ_call::occ(lent, sender, command, reply);
+    let n = answers::reply(out, told.answer, reply);
     tell(out, n);
-    after
 }
 
 // Makes a packet of bytes whose type and data stand from 3 on: head and sum.
@@ -41,12 +40,12 @@ fn frame(p: &mut [u8], sequence: u8)
 }
 
 // The sender stands where the packet's length will.
-fn send(s: Session, packet: &mut [u8], sequence: u8, reply: &mut [u8], out: &mut [u8]) -> Session
+fn send(lent: &mut [u8], packet: &mut [u8], sequence: u8, reply: &mut [u8], out: &mut [u8])
     requires { ⌜ 6 ≤ length (now packet) ⌝ }
 {
     let sender = packet[2];
     frame(packet, sequence);
-    occ(s, sender, packet, reply, out)
+    occ(lent, sender, packet, reply, out);
 }
 
 // A response has 32 bytes; a longer buffer is kept past them.
@@ -59,21 +58,22 @@ fn response_len(buffer: &[u8]) -> usize
     32
 }
 
-fn sbe(s: Session, request: &[u8], reply: &mut [u8], out: &mut [u8]) -> Session {
-    let done = sbe_call::sbe(s, request, reply);
-    let after = done.session;
+fn sbe(lent: &mut [u8], request: &[u8], reply: &mut [u8], out: &mut [u8]) {
+    let told = sbe_call::sbe(lent, request, reply);
     let n = response_len(reply);
-    let end = answers::rung(out, done.answer, &reply[..n], done.bell);
+    let end = answers::rung(out, told.answer, &reply[..n], told.beside);
     tell(out, end);
-    after
 }
 
-fn undo(s: Session, out: &mut [u8]) -> Session {
-    let done = undo_call::undo(s);
-    let after = done.session;
-    let n = answers::undone(out, done.answer, done.kind);
+// A kind is a byte.
+fn kind_of(beside: u16) -> u8 {
+    (beside % 256) as u8
+}
+
+fn undo(lent: &mut [u8], out: &mut [u8]) {
+    let told = undo_call::undo(lent);
+    let n = answers::undone(out, told.answer, kind_of(told.beside));
     tell(out, n);
-    after
 }
 
 fn tell_ok(out: &mut [u8]) {
@@ -81,35 +81,37 @@ fn tell_ok(out: &mut [u8]) {
     tell(out, n);
 }
 
-fn load(sent: &[u8], out: &mut [u8]) -> Session {
+fn load(lent: &mut [u8], sent: &[u8], out: &mut [u8])
+    requires { ⌜ (length (now lent) ≡ imageLength) × (8198 ≤ length (now sent)) ⌝ }
+{
+    wire::copy(lent, 0, &sent[..image::LENGTH]);
     tell_ok(out);
-    image::read(sent)
 }
 
-fn fresh(out: &mut [u8]) -> Session {
+fn fresh(lent: &mut [u8], out: &mut [u8]) {
+    image::write(session::fresh(), lent);
     tell_ok(out);
-    session::fresh()
 }
 
 // `sent` holds the bytes as `orders` puts them.
 fn carry_out(
-    s: Session,
+    lent: &mut [u8],
     call: Call,
     count: usize,
     sequence: u8,
     sent: &mut [u8],
     reply: &mut [u8],
     out: &mut [u8],
-) -> Session
-    requires { ⌜ (count ≤ 8192) × (8198 ≤ length (now sent)) ⌝ }
+)
+    requires { ⌜ (length (now lent) ≡ imageLength) × (count ≤ 8192) × (8198 ≤ length (now sent)) ⌝ }
 {
     match call {
-        Call::Occ => occ(s, sent[0], &sent[1..count + 1], reply, out),
-        Call::Sbe => sbe(s, &sent[..count], reply, out),
-        Call::Send => send(s, &mut sent[..count + 6], sequence, reply, out),
-        Call::Load => load(sent, out),
-        Call::Undo => undo(s, out),
-        Call::Fresh => fresh(out),
+        Call::Occ => occ(lent, sent[0], &sent[1..count + 1], reply, out),
+        Call::Sbe => sbe(lent, &sent[..count], reply, out),
+        Call::Send => send(lent, &mut sent[..count + 6], sequence, reply, out),
+        Call::Load => load(lent, sent, out),
+        Call::Undo => undo(lent, out),
+        Call::Fresh => fresh(lent, out),
     }
 }
 
@@ -128,7 +130,7 @@ fn whole(call: Call) -> usize
 }
 
 // The bytes of reply buffer that a call gets.
-fn lent(buffer: Buffer, call: Call) -> usize
+fn reply_len(buffer: Buffer, call: Call) -> usize
     ensures { λ r. ⌜ r ≤ 8192 ⌝ }
 {
     let Buffer::Bytes(n) = buffer else {
@@ -142,54 +144,49 @@ fn lent(buffer: Buffer, call: Call) -> usize
 
 // Lends the call its part of a reply buffer.
 fn call_with(
-    s: Session,
+    lent: &mut [u8],
     call: Call,
     count: usize,
     sequence: u8,
     buffer: Buffer,
     sent: &mut [u8],
     out: &mut [u8],
-) -> Session
-    requires { ⌜ (count ≤ 8192) × (8198 ≤ length (now sent)) ⌝ }
+)
+    requires { ⌜ (length (now lent) ≡ imageLength) × (count ≤ 8192) × (8198 ≤ length (now sent)) ⌝ }
 {
     let mut reply = reply_buffer();
-    let room = lent(buffer, call);
-    carry_out(s, call, count, sequence, sent, &mut reply[..room], out)
+    let room = reply_len(buffer, call);
+    carry_out(lent, call, count, sequence, sent, &mut reply[..room], out);
 }
 
 // ---- views
 
-fn put_image(s: Session, out: &mut [u8]) -> usize
+fn put_show(lent: &[u8], out: &mut [u8]) -> usize
+    requires { ⌜ length (now lent) ≡ imageLength ⌝ }
     ensures { λ r. ⌜ Counts r (now (out .exit)) ⌝ }
 {
-    let mut bytes = [0u8; orders::IMAGE];
-    image::write(s, &mut bytes);
-    answers::image(out, &bytes)
+    let h = image::read_head(lent);
+    let held = h.held;
+    let worked = h.worked;
+    show::put_session(out, held, worked, h.next, &lent[239..2287], h.used as usize)
 }
 
-fn put_show(s: Session, out: &mut [u8]) -> usize
+fn put_journal(lent: &[u8], out: &mut [u8]) -> usize
+    requires { ⌜ length (now lent) ≡ imageLength ⌝ }
     ensures { λ r. ⌜ Counts r (now (out .exit)) ⌝ }
 {
-    let held = s.held;
-    let worked = s.worked;
-    let j = s.journal;
-    show::put_session(out, held, worked, s.next, &j, s.used as usize)
+    let used = wire::be16(lent, 237) as usize;
+    answers::journal(out, &lent[239..2287], used)
 }
 
-fn put_journal(s: Session, out: &mut [u8]) -> usize
-    ensures { λ r. ⌜ Counts r (now (out .exit)) ⌝ }
-{
-    let j = s.journal;
-    answers::journal(out, &j, s.used as usize)
-}
-
-fn look(s: Session, view: View, out: &mut [u8]) -> usize
+fn look(lent: &[u8], view: View, out: &mut [u8]) -> usize
+    requires { ⌜ length (now lent) ≡ imageLength ⌝ }
     ensures { λ r. ⌜ Counts r (now (out .exit)) ⌝ }
 {
     match view {
-        View::Image => put_image(s, out),
-        View::Show => put_show(s, out),
-        View::Journal => put_journal(s, out),
+        View::Image => answers::image(out, lent),
+        View::Show => put_show(lent, out),
+        View::Journal => put_journal(lent, out),
         View::Help => answers::help(out),
     }
 }
@@ -197,33 +194,28 @@ fn look(s: Session, view: View, out: &mut [u8]) -> usize
 // ---- lines
 
 fn obey(
-    s: Session,
+    lent: &mut [u8],
     order: Order,
     sequence: u8,
     buffer: Buffer,
     sent: &mut [u8],
     out: &mut [u8],
-) -> Session
-    requires { ⌜ (order .count ≤ 8192) × (8198 ≤ length (now sent)) ⌝ }
+)
+    requires { ⌜ (length (now lent) ≡ imageLength) × (order .count ≤ 8192) × (8198 ≤ length (now sent)) ⌝ }
 {
     let word = order.word;
     match word {
-        Word::Make(call) => call_with(s, call, order.count, sequence, buffer, sent, out),
+        Word::Make(call) => call_with(lent, call, order.count, sequence, buffer, sent, out),
         Word::Look(view) => {
-            let n = look(s, view, out);
+            let n = look(lent, view, out);
             tell(out, n);
-            s
         }
-        Word::Lend(_) => {
-            tell_ok(out);
-            s
-        }
+        Word::Lend(_) => tell_ok(out),
         Word::Fail(what) => {
             let n = answers::complaint(out, what, order.column);
             tell(out, n);
-            s
         }
-        Word::Skip => s,
+        Word::Skip => {}
     }
 }
 
@@ -245,25 +237,22 @@ fn next_buffer(word: Word, buffer: Buffer) -> Buffer {
     buffer
 }
 
-// The session that the calls go to, the sequence of the last packet sent, and the reply buffers that are lent.
+// What is kept beside the session: the sequence of the last packet sent, and the reply buffers that are lent.
 struct Bench {
-    session: Session,
     sequence: u8,
     buffer: Buffer,
 }
 
-fn answer(b: Bench, line: &[u8], sent: &mut [u8], out: &mut [u8]) -> Bench
-    requires { ⌜ 8198 ≤ length (now sent) ⌝ }
+fn answer(lent: &mut [u8], b: Bench, line: &[u8], sent: &mut [u8], out: &mut [u8]) -> Bench
+    requires { ⌜ (length (now lent) ≡ imageLength) × (8198 ≤ length (now sent)) ⌝ }
 {
     let order = orders::read(line, sent);
     let word = order.word;
     let sequence = next_sequence(word, b.sequence);
     let held = b.buffer;
     let buffer = next_buffer(word, held);
-    let s = b.session;
-    let after = obey(s, order, sequence, buffer, sent, out);
+    obey(lent, order, sequence, buffer, sent, out);
     Bench {
-        session: after,
         sequence: sequence,
         buffer: buffer,
     }
@@ -295,6 +284,7 @@ struct Served {
 
 // Answers each line that the piece ends.
 fn serve_piece(
+    lent: &mut [u8],
     b: Bench,
     before: usize,
     piece: &[u8],
@@ -302,7 +292,7 @@ fn serve_piece(
     sent: &mut [u8],
     out: &mut [u8],
 ) -> Served
-    requires { ⌜ 8198 ≤ length (now sent) ⌝ }
+    requires { ⌜ (length (now lent) ≡ imageLength) × (8198 ≤ length (now sent)) ⌝ }
 {
     let mut bench = b;
     let mut held = before;
@@ -318,7 +308,7 @@ fn serve_piece(
             };
         }
         at += n + 1;
-        let next = answer(bench, &line[..held], sent, out);
+        let next = answer(lent, bench, &line[..held], sent, out);
         bench = next;
         held = 0;
     }
@@ -329,21 +319,25 @@ fn serve_piece(
 }
 
 // A last line without an end.
-fn finish(b: Bench, line: &[u8], held: usize, sent: &mut [u8], out: &mut [u8])
-    requires { ⌜ 8198 ≤ length (now sent) ⌝ }
+fn finish(lent: &mut [u8], b: Bench, line: &[u8], held: usize, sent: &mut [u8], out: &mut [u8])
+    requires { ⌜ (length (now lent) ≡ imageLength) × (8198 ≤ length (now sent)) ⌝ }
 {
     if held <= line.len() {
-        answer(b, &line[..held], sent, out);
+        answer(lent, b, &line[..held], sent, out);
     }
 }
 
 // A proved loop has to end: it counts down from a number that no run uses up.
-fn serve(piece: &mut [u8], line: &mut [u8], sent: &mut [u8], out: &mut [u8])
-    requires { ⌜ 8198 ≤ length (now sent) ⌝ }
+fn serve(
+    lent: &mut [u8],
+    piece: &mut [u8],
+    line: &mut [u8],
+    sent: &mut [u8],
+    out: &mut [u8],
+)
+    requires { ⌜ (length (now lent) ≡ imageLength) × (8198 ≤ length (now sent)) ⌝ }
 {
-    let start = session::fresh();
     let mut bench = Bench {
-        session: start,
         sequence: 0,
         buffer: Buffer::Whole,
     };
@@ -353,10 +347,10 @@ fn serve(piece: &mut [u8], line: &mut [u8], sent: &mut [u8], out: &mut [u8])
         left -= 1;
         let got = io::count(libc::read(STDIN_FILENO, piece), piece);
         if got == 0 {
-            finish(bench, line, held, sent, out);
+            finish(lent, bench, line, held, sent, out);
             return;
         }
-        let served = serve_piece(bench, held, &piece[..got], line, sent, out);
+        let served = serve_piece(lent, bench, held, &piece[..got], line, sent, out);
         let next = served.bench;
         bench = next;
         held = served.held;
@@ -365,9 +359,11 @@ fn serve(piece: &mut [u8], line: &mut [u8], sent: &mut [u8], out: &mut [u8])
 
 // A line is held with a byte more than the longest and its carriage return, so that a longer one is seen.
 fn main() {
+    let mut lent = [0u8; image::LENGTH];
+    image::write(session::fresh(), &mut lent);
     let mut piece = io::large_buffer();
     let mut line = [0u8; 32770];
     let mut sent = [0u8; orders::ROOM];
     let mut out = [0u8; 16384];
-    serve(&mut piece, &mut line, &mut sent, &mut out);
+    serve(&mut lent, &mut piece, &mut line, &mut sent, &mut out);
 }

@@ -15,7 +15,7 @@ use Rattle.wire.specs.laws.Cases.{if-b, else-b, if-lt, else-lt, if-le, else-le,
 use Rattle.wire.proofs.Loops.{store-first, paste-none}
 use Rattle.text.specs.declared.Fault.{Fault}
 use Rattle.text.specs.declared.Fault.the-variants.{Nothing, Digit, Over}
-use Rattle.text.specs.Text.{blank, leading, digitOf, digitAt, HexRun, stopped, onto, high, low, hexFrom, hexRun, Takes, sameText, Sheet, sheet, putOn, putAll, hexDigit, hexOf, hexes, spaced}
+use Rattle.text.specs.Text.{blank, leading, digitOf, digitAt, HexRun, stopped, onto, high, low, hexFrom, hexRun, Takes, sameText, Sheet, putOn, putAll, hexDigit, hexOf, hexes, spaced}
 
 -- ---- tests of a call's answer: t is the answer, b what the contract says of it
 
@@ -190,11 +190,6 @@ module _ (a b : List ℕ) (i : ℕ) where
     same-more e = rw (add-one i, drop-cons a i 0 h, drop-cons b i 0 k) (else-ne _ _ e refl)
 
 -- ---- pieces: those left, put now, give the end
-
-pub put-fits : (at : ℕ) (bs d : List ℕ) {d′ : List ℕ} → at ≤ length d → length bs ≤ length d - at → d′ ≡ pasted at bs d
-    → sheet d′ (at + length bs) ≡ putOn (sheet d at) bs
-unfolding putOn
-put-fits at bs d h k e = else-lt _ _ h (else-lt _ _ k (ap (λ (x : List ℕ). sheet x (at + length bs)) e))
 
 pub hex-pair : {x y : ℕ} (b : ℕ) → x ≡ hexDigit (b / 16) → y ≡ hexDigit (b % 16) → x ∷ y ∷ [] ≡ hexOf b
 unfolding hexOf

@@ -1,11 +1,12 @@
 -- docs/PROTOCOL.md, "Lines" and "Bytes": blanks, words, and bytes in hex. Text is a list of ASCII numbers.
-use Prim.Native.Nat.{ℕ, suc, _+_, _-_, _*_, _/_, _%_}
+use Prim.Native.Nat.{ℕ, zero, suc, _+_, _-_, _*_, _/_, _%_}
+use Prim.Native.Char.{code}
+use Prim.Native.String.{String, [] as empty, _∷_ as _then_}
 use mathlib.Core.Bool.{Bool, true, false, cond, not}
 use mathlib.Core.Path.{_≡_}
-use mathlib.Core.List.{List, [], _∷_}
+use mathlib.Core.List.{List, [], _∷_, _++_}
 use lib.Dec.{eqb, ltb, leb}
 use lib.ListN.{length, drop, getD}
-use Rattle.io.specs.Digits.{digits, Fewest}
 use Rattle.wire.specs.Wire.{pasted}
 use Rattle.text.specs.declared.Fault.{Fault}
 use Rattle.text.specs.declared.Fault.the-variants.{Nothing, Digit, Over}
@@ -115,6 +116,23 @@ unfoldable pub putAll : Sheet → List (List ℕ) → Sheet
 putAll p [] = p
 putAll p (x ∷ xs) = putAll (putOn p x) xs
 
+-- text at the front of a buffer
+abbrev pub atFront : List ℕ → List (List ℕ) → Sheet
+atFront d pieces = putAll (sheet d 0) pieces
+
+-- the pieces as one text
+unfoldable pub joined : List (List ℕ) → List ℕ
+joined [] = []
+joined (x ∷ xs) = x ++ joined xs
+
+-- a text as its ASCII numbers
+abbrev pub ascii : String → List ℕ
+ascii empty = []
+ascii (c then s) = code c ∷ ascii s
+
+abbrev pub lineEnd : List ℕ
+lineEnd = ascii "\n"
+
 -- "hex letters are capitals": 48 is "0", 65 is "A"
 unfoldable pub hexDigit : ℕ → ℕ
 hexDigit d = cond (ltb d 10) (48 + d) (65 + (d - 10))
@@ -132,8 +150,10 @@ unfoldable pub spaced : List ℕ → List (List ℕ)
 spaced [] = []
 spaced (b ∷ bs) = (32 ∷ []) ∷ hexOf b ∷ spaced bs
 
--- a number in decimal: its fewest digits, the most significant first
-pub record PutsDecimal (n : ℕ) (p q : Sheet) : Type 0 where
-  pub places : ℕ
-  pub fewest : Fewest 10 1 n places
-  pub puts : q ≡ putOn p (digits 10 places n)
+-- a number in decimal: its fewest digits, the most significant first. No number has more digits than `most`, one more than itself
+unfoldable pub decimalBy : ℕ → ℕ → List ℕ
+decimalBy zero n = []
+decimalBy (suc most) n = cond (ltb n 10) ((48 + n) ∷ []) (decimalBy most (n / 10) ++ ((48 + n % 10) ∷ []))
+
+unfoldable pub decimal : ℕ → List ℕ
+decimal n = decimalBy (suc n) n

@@ -5,7 +5,7 @@ ghost use Prim.Native.Nat.{_+_, _*_, _≤_, _<_};
 ghost use lib.Dec.{leb};
 ghost use lib.ListN.{length};
 ghost use Rattle.io.specs.Counts.{Counts};
-ghost use Rattle.text.specs.Text.{blank, inWord, other, leading, pastBlanks, digitOf, digitAt, hexRun, Takes, sameText, sheet, putOn, putAll, hexDigit, hexOf, hexes, spaced, PutsDecimal};
+ghost use Rattle.text.specs.Text.{blank, inWord, other, leading, pastBlanks, digitOf, digitAt, hexRun, Takes, sameText, sheet, putOn, putAll, hexDigit, hexOf, hexes, spaced, decimal};
 ghost use Rattle.text.specs.Numbers.{digitsAt, numberAt};
 
 // ---- reading
@@ -287,7 +287,7 @@ pub fn put_bytes(out: &mut [u8], at: usize, s: &[u8]) -> usize
 
 pub fn put_decimal(out: &mut [u8], at: usize, n: u64) -> usize
     ensures { λ r. ⌜ Counts r (now (out .exit)) ⌝ }
-    ensures { λ r. ⌜ PutsDecimal n (sheet (now (out .entry)) at) (sheet (now (out .exit)) r) ⌝ }
+    ensures { λ r. ⌜ sheet (now (out .exit)) r ≡ putOn (sheet (now (out .entry)) at) (decimal n) ⌝ }
 {
     let mut digits = [0u8; 20];
     let k = io::decimal(n, &mut digits);

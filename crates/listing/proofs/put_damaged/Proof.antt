@@ -1,8 +1,7 @@
 -- `listing::put_damaged` meets its contract: its three parts are put one after the other. Assumes nothing.
-use native.Mathlib.Omega.{arith}
-use borrow.Author.Needs.{needs}
+use Rattle.text.specs.Text.{putAll}
 use Rattle.listing.specs.Listing.{damagedAt}
-use Rattle.listing.proofs.Writing.{puts-then}
+use borrow.Author.Needs.{needs}
 use Rattle.listing.proofs.put_damaged.Statement.{statement}
 use Rattle.listing.proofs.put_damaged.Tie as tie
 
@@ -12,8 +11,8 @@ slice-aggregate-put c = search needs
 put-requires : tie.Need-put-requires
 put-requires c κs = search needs
 
-put-number-requires : tie.Need-put-number-requires
-put-number-requires c κs = search needs
+put-decimal-requires : tie.Need-put-decimal-requires
+put-decimal-requires c κs = search needs
 
 slice-aggregate-put-2 : tie.Need-slice-aggregate-put-2
 slice-aggregate-put-2 c = search needs
@@ -25,12 +24,8 @@ same-length : tie.Need-same-length
 same-length c = search needs
 
 returns : tie.Need-returns
-unfolding damagedAt
-returns c =
-    let text = c .before .before .before .before .before .before .before .before .before .before .before .put .ensures in
-    let number = c .before .before .before .before .before .before .before .put-number .ensures .0 in
-    let feed = c .before .before .put2 .ensures in
-    puts-then text (puts-then number feed (omega arith)) (omega arith)
+unfolding damagedAt putAll
+returns c = cc
 
 pub put-damaged-spec : {M : Type 1} → statement M
 put-damaged-spec =
@@ -38,7 +33,7 @@ put-damaged-spec =
     (tie.spec
     slice-aggregate-put
     put-requires
-    put-number-requires
+    put-decimal-requires
     slice-aggregate-put-2
     put-requires-2
     same-length

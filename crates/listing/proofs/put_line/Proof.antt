@@ -1,8 +1,8 @@
 -- `listing::put_line` meets its contract: its four parts are put one after the other. Assumes nothing.
-use native.Mathlib.Omega.{arith}
-use borrow.Author.Needs.{needs}
+use Rattle.text.specs.Text.{putAll}
+use Rattle.text.specs.laws.Pieces.{putAll-append}
 use Rattle.listing.specs.Listing.{line}
-use Rattle.listing.proofs.Writing.{puts-then}
+use borrow.Author.Needs.{needs}
 use Rattle.listing.proofs.put_line.Statement.{statement}
 use Rattle.listing.proofs.put_line.Tie as tie
 
@@ -28,13 +28,8 @@ same-length : tie.Need-same-length
 same-length c = search needs
 
 returns : tie.Need-returns
-unfolding line
-returns c =
-    let kind = c .before .before .before .before .before .before .before .before .before .before .before .before .before .before .before .before .put-hex .ensures .0 in
-    let space = c .before .before .before .before .before .before .before .before .before .before .before .put .ensures in
-    let body = c .before .before .before .before .before .before .before .put-hexes .ensures .0 in
-    let feed = c .before .before .put2 .ensures in
-    puts-then kind (puts-then space (puts-then body feed (omega arith)) (omega arith)) (omega arith)
+unfolding line putAll
+returns c = cc (putAll-append _ _ _)
 
 pub put-line-spec : {M : Type 1} → statement M
 put-line-spec =

@@ -1,8 +1,7 @@
 -- `listing::put_whole` meets its contract: its four parts are put one after the other. Assumes nothing.
-use native.Mathlib.Omega.{arith}
-use borrow.Author.Needs.{needs}
+use Rattle.text.specs.Text.{putAll}
 use Rattle.listing.specs.Listing.{whole}
-use Rattle.listing.proofs.Writing.{puts-then}
+use borrow.Author.Needs.{needs}
 use Rattle.listing.proofs.put_whole.Statement.{statement}
 use Rattle.listing.proofs.put_whole.Tie as tie
 
@@ -12,8 +11,8 @@ slice-aggregate-put c = search needs
 put-requires : tie.Need-put-requires
 put-requires c κs = search needs
 
-put-number-requires : tie.Need-put-number-requires
-put-number-requires c κs = search needs
+put-decimal-requires : tie.Need-put-decimal-requires
+put-decimal-requires c κs = search needs
 
 slice-aggregate-put-2 : tie.Need-slice-aggregate-put-2
 slice-aggregate-put-2 c = search needs
@@ -22,19 +21,14 @@ put-requires-2 : tie.Need-put-requires-2
 put-requires-2 c κs = search needs
 
 put-lines-requires : tie.Need-put-lines-requires
-put-lines-requires c κs = (omega arith, c .before .before .before .before .before .before .before .before .before .before .before .before .before .before .before .before .before .pre .3)
+put-lines-requires c κs = search needs
 
 same-length : tie.Need-same-length
 same-length c = search needs
 
 returns : tie.Need-returns
-unfolding whole
-returns c =
-    let text = c .before .before .before .before .before .before .before .before .before .before .before .before .before .before .before .put .ensures in
-    let number = c .before .before .before .before .before .before .before .before .before .before .before .put-number .ensures .0 in
-    let feed = c .before .before .before .before .before .before .put2 .ensures in
-    let lines = c .before .before .put-lines .ensures in
-    puts-then text (puts-then number (puts-then feed lines (omega arith)) (omega arith)) (omega arith)
+unfolding whole putAll
+returns c = cc
 
 pub put-whole-spec : {M : Type 1} → statement M
 put-whole-spec =
@@ -42,7 +36,7 @@ put-whole-spec =
     (tie.spec
     slice-aggregate-put
     put-requires
-    put-number-requires
+    put-decimal-requires
     slice-aggregate-put-2
     put-requires-2
     put-lines-requires

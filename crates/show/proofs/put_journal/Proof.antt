@@ -1,7 +1,10 @@
 -- `show::put_journal` meets its contract: the used part is no longer than the journal. Assumes nothing.
 use lib.Seq.{length-take-le}
-use mathlib.Core.Path.{sym}
+use mathlib.Core.Path.{refl, sym, ap}
 use native.Mathlib.Omega.{arith}
+use Rattle.wire.specs.laws.Cases.{if-lt, else-lt}
+use Rattle.text.specs.laws.Pieces.{pieces, last-piece, same-pieces}
+use Rattle.show.specs.Show.{readingText, journalText}
 use borrow.Author.Needs.{needs}
 use Rattle.show.proofs.put_journal.Statement.{statement}
 use Rattle.show.proofs.put_journal.Tie as tie
@@ -16,7 +19,8 @@ same-length : tie.Need-same-length
 same-length c = search needs
 
 returns : tie.Need-returns
-returns c = search needs
+unfolding journalText
+returns c = same-pieces _ (if-lt _ _ (c .before .before .before .before .before .if1 .taken) refl) (last-piece _ _ (c .before .before .put .ensures .1))
 
 slice-aggregate-read : tie.Need-slice-aggregate-read
 slice-aggregate-read c = sym (length-take-le _ _ (omega arith))
@@ -40,7 +44,8 @@ same-length-2 : tie.Need-same-length-2
 same-length-2 c = search needs
 
 returns-2 : tie.Need-returns-2
-returns-2 c = search needs
+unfolding journalText
+returns-2 c = same-pieces _ (else-lt _ _ (c .before .before .before .before .before .before .before .before .before .before .before .if1 .left) refl) (pieces _ _ _ (same-pieces _ (ap readingText (c .before .before .before .before .before .before .before .before .read .ensures .0)) (c .before .before .before .before .before .before .before .put-reading .ensures)) (c .before .before .put-named .ensures))
 
 pub put-journal-spec : {M : Type 1} → statement M
 put-journal-spec =

@@ -1,19 +1,37 @@
--- `show::put_pairs` meets its contract: the length is kept; the pairs left fall. Assumes nothing.
-use mathlib.Core.Path.{_≡_}
-use borrow.Author.Needs.{needs}
-use lib.ListN.{length}
+-- `show::put_pairs` meets its contract: the pieces left, put now, give the end. Assumes nothing.
+use Rattle.text.specs.Text.{sheet, putAll}
+use Rattle.text.specs.laws.Pieces.{last-piece, same-pieces}
+use Rattle.wire.specs.laws.Cases.{if-eq, else-eq}
+use Rattle.show.specs.Show.{pairsFrom, pairsText}
+use Rattle.show.proofs.Turns.{set-more, set-end}
 use Prim.Native.Nat.{_-_}
+use lib.ListN.{length}
+use mathlib.Core.Path.{_≡_, refl, _∙_}
+use borrow.Author.Needs.{needs}
 use Rattle.show.proofs.put_pairs.Statement.{statement}
 use Rattle.show.proofs.put_pairs.Tie as tie
 
 abbrev Inv-loop : tie.InvT-loop
-Inv-loop out₀ at present end₀ left₀ pair₀ out end left pair = length out ≡ length out₀
+Inv-loop out₀ at present end₀ left₀ pair₀ out end left pair = (length out ≡ length out₀) × (putAll (sheet out end) (pairsFrom (16 - pair) pair left) ≡ putAll (sheet out₀ at) (pairsFrom 16 0 present))
 
 abbrev μ-loop : tie.MeasureT-loop
 μ-loop out₀ at present end₀ left₀ pair₀ out end left pair = 16 - pair
 
+slice-aggregate-put : tie.Need-slice-aggregate-put Inv-loop μ-loop
+slice-aggregate-put c = search needs
+
+put-requires : tie.Need-put-requires Inv-loop μ-loop
+put-requires c κs = search needs
+
+same-length : tie.Need-same-length Inv-loop μ-loop
+same-length c = search needs
+
+returns : tie.Need-returns Inv-loop μ-loop
+unfolding pairsText
+returns c = same-pieces _ (if-eq _ _ (c .before .before .before .before .before .if1 .taken) refl) (last-piece _ _ (c .before .before .put .ensures .1))
+
 loop-holds : tie.Need-loop-holds Inv-loop μ-loop
-loop-holds c = search needs
+loop-holds c = (refl, refl)
 
 put-present-requires : tie.Need-put-present-requires Inv-loop μ-loop
 put-present-requires c κs = search needs
@@ -25,16 +43,14 @@ loop-less : tie.Need-loop-less Inv-loop μ-loop
 loop-less c = search needs
 
 loop-again : tie.Need-loop-again Inv-loop μ-loop
-loop-again c = search needs
+loop-again c = (search needs, set-more _ _ _ 16 (c .before .before .before .before .before .loop .pair) (c .before .before .before .before .before .loop .left) _ (c .before .before .before .before .loop-test .taken) (c .before .before .put-present .ensures) ∙ c .before .before .before .before .before .loop .inv .1)
 
-put-none-requires : tie.Need-put-none-requires Inv-loop μ-loop
-put-none-requires c κs = search needs
+same-length-2 : tie.Need-same-length-2 Inv-loop μ-loop
+same-length-2 c = search needs
 
-same-length : tie.Need-same-length Inv-loop μ-loop
-same-length c = search needs
-
-returns : tie.Need-returns Inv-loop μ-loop
-returns c = search needs
+returns-2 : tie.Need-returns-2 Inv-loop μ-loop
+unfolding pairsText
+returns-2 c = same-pieces _ (else-eq _ _ (c .before .before .if1 .left) refl) (set-end _ _ _ 16 (c .before .loop .pair) (c .before .loop .left) _ (c .loop-test .left) ∙ c .before .loop .inv .1)
 
 pub put-pairs-spec : {M : Type 1} → statement M
 put-pairs-spec =
@@ -42,11 +58,14 @@ put-pairs-spec =
     (tie.spec
     Inv-loop
     μ-loop
+    slice-aggregate-put
+    put-requires
+    same-length
+    returns
     loop-holds
     put-present-requires
     add-pair
     loop-less
     loop-again
-    put-none-requires
-    same-length
-    returns)
+    same-length-2
+    returns-2)

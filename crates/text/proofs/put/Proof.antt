@@ -1,5 +1,5 @@
 -- `text::put` meets its contract: the tests are those of the definition, in its order. Assumes nothing.
-use Rattle.text.proofs.Turns.{put-fits}
+use Rattle.text.specs.laws.Pieces.{put-fits}
 use Rattle.text.specs.Text.{putOn}
 use Rattle.wire.specs.laws.Cases.{if-lt, else-lt}
 use mathlib.Core.Path.{refl, sym}

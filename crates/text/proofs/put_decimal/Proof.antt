@@ -1,5 +1,6 @@
 -- `text::put_decimal` meets its contract: `io::decimal` made the digits. Assumes nothing.
 use Rattle.text.specs.Text.{putOn}
+use Rattle.text.specs.laws.Decimal.{digits-decimal}
 use mathlib.Core.Path.{ap, _∙_}
 use borrow.Author.Needs.{needs}
 use Rattle.text.proofs.put_decimal.Statement.{statement}
@@ -21,7 +22,10 @@ same-length : tie.Need-same-length
 same-length c = search needs
 
 returns : tie.Need-returns
-returns c = (c .before .before .put .ensures .0, record { places = c .before .before .before .before .before .decimal .result; fewest = c .before .before .before .before .before .decimal .ensures .1 .0; puts = c .before .before .put .ensures .1 ∙ ap (putOn _) (c .before .before .before .before .before .decimal .ensures .1 .1) })
+returns c =
+    let made = c .before .before .before .before .before .decimal in
+    let put = c .before .before .put in
+    (put .ensures .0, put .ensures .1 ∙ ap (putOn _) (made .ensures .1 .1 ∙ digits-decimal _ _ (made .ensures .1 .0)))
 
 pub put-decimal-spec : {M : Type 1} → statement M
 put-decimal-spec =

@@ -1,0 +1,48 @@
+-- `answers::at_column` meets its contract: its parts are put one after the other. Assumes nothing.
+use Rattle.text.specs.Text.{putAll}
+use Rattle.answers.specs.Answers.{columnText}
+use borrow.Author.Needs.{needs}
+use Rattle.answers.proofs.at_column.Statement.{statement}
+use Rattle.answers.proofs.at_column.Tie as tie
+
+slice-aggregate-put : tie.Need-slice-aggregate-put
+slice-aggregate-put c = search needs
+
+put-requires : tie.Need-put-requires
+put-requires c κs = search needs
+
+put-requires-2 : tie.Need-put-requires-2
+put-requires-2 c κs = search needs
+
+slice-aggregate-put-2 : tie.Need-slice-aggregate-put-2
+slice-aggregate-put-2 c = search needs
+
+put-requires-3 : tie.Need-put-requires-3
+put-requires-3 c κs = search needs
+
+put-decimal-requires : tie.Need-put-decimal-requires
+put-decimal-requires c κs = search needs
+
+put-end-requires : tie.Need-put-end-requires
+put-end-requires c κs = search needs
+
+same-length : tie.Need-same-length
+same-length c = search needs
+
+returns : tie.Need-returns
+unfolding columnText putAll
+returns c = (search needs, cc)
+
+pub at-column-spec : {M : Type 1} → statement M
+at-column-spec =
+    tie.close
+    (tie.spec
+    slice-aggregate-put
+    put-requires
+    put-requires-2
+    slice-aggregate-put-2
+    put-requires-3
+    put-decimal-requires
+    put-end-requires
+    same-length
+    returns)

@@ -1,0 +1,55 @@
+-- `answers::undone` meets its contract: the answer decides whether the kind follows. Assumes nothing.
+use Rattle.text.specs.Text.{putAll}
+use Rattle.text.specs.laws.Pieces.{same-pieces}
+use Rattle.answers.specs.Answers.{undoneText}
+use Rattle.answers.proofs.Saying.{refused, accepted}
+use borrow.Author.Needs.{needs}
+use Rattle.answers.proofs.undone.Statement.{statement}
+use Rattle.answers.proofs.undone.Tie as tie
+
+put-decimal-requires : tie.Need-put-decimal-requires
+put-decimal-requires c κs = search needs
+
+put-end-requires : tie.Need-put-end-requires
+put-end-requires c κs = search needs
+
+same-length : tie.Need-same-length
+same-length c = search needs
+
+returns : tie.Need-returns
+unfolding undoneText putAll
+returns c = (search needs, same-pieces _ (refused _ _ (search needs)) (cc))
+
+slice-aggregate-put : tie.Need-slice-aggregate-put
+slice-aggregate-put c = search needs
+
+put-requires : tie.Need-put-requires
+put-requires c κs = search needs
+
+put-hex-requires : tie.Need-put-hex-requires
+put-hex-requires c κs = search needs
+
+put-end-requires-2 : tie.Need-put-end-requires-2
+put-end-requires-2 c κs = search needs
+
+same-length-2 : tie.Need-same-length-2
+same-length-2 c = search needs
+
+returns-2 : tie.Need-returns-2
+unfolding undoneText putAll
+returns-2 c = (search needs, same-pieces _ (accepted _ _ (search needs)) (cc))
+
+pub undone-spec : {M : Type 1} → statement M
+undone-spec =
+    tie.close
+    (tie.spec
+    put-decimal-requires
+    put-end-requires
+    same-length
+    returns
+    slice-aggregate-put
+    put-requires
+    put-hex-requires
+    put-end-requires-2
+    same-length-2
+    returns-2)

@@ -1,0 +1,92 @@
+-- docs/PROTOCOL.md, "Words" and "help": the text of each answer, in the pieces that are put one after the other.
+use Prim.Native.Nat.{ℕ, _+_}
+use mathlib.Core.Bool.{cond, not}
+use mathlib.Core.List.{List, [], _∷_, _++_}
+use lib.Dec.{eqb, ltb}
+use lib.ListN.{length, take, drop}
+use Rattle.wire.specs.Wire.{beNat, toBE}
+use Rattle.text.specs.Text.{ascii, lineEnd, hexOf, hexes, spaced, decimal}
+use Rattle.listing.specs.Listing.{tooLong, listing, longest}
+use Rattle.orders.specs.declared.Wrong.{Wrong}
+use Rattle.orders.specs.declared.Wrong.the-variants.{LongLine, NoWord, MoreText, NoDigit, TooMany, NoImage, NoNumber, LongBuffer}
+
+-- "Every answer line ends in one LF"
+unfoldable pub lineText : List ℕ → List (List ℕ)
+lineText s = s ∷ lineEnd ∷ []
+
+-- ---- what is wrong in a line
+
+unfoldable pub columnText : List ℕ → ℕ → List (List ℕ)
+columnText what column = ascii "? " ∷ what ∷ ascii " at column " ∷ decimal column ∷ lineEnd ∷ []
+
+unfoldable pub complaintText : Wrong → ℕ → List (List ℕ)
+complaintText LongLine column = columnText (ascii "line over 32768 bytes") column
+complaintText NoWord column = columnText (ascii "unknown word") column
+complaintText MoreText column = columnText (ascii "nothing more expected") column
+complaintText NoDigit column = columnText (ascii "hex digit expected") column
+complaintText TooMany column = columnText (ascii "command over 8192 bytes") column
+complaintText NoImage column = lineText (ascii "? image must be 2287 bytes")
+complaintText NoNumber column = columnText (ascii "number expected") column
+complaintText LongBuffer column = columnText (ascii "number over 8192") column
+
+-- ---- calls
+
+-- "the session answer in decimal; if it is 0", what follows it
+unfoldable pub callText : ℕ → List (List ℕ) → List (List ℕ)
+callText answer more = decimal answer ∷ cond (not (eqb answer 0)) (lineEnd ∷ []) (more ++ (lineEnd ∷ []))
+
+-- an OCC reply has 7 bytes and the data bytes that its length field counts; none is taken for one that the buffer can't hold
+abbrev pub wholeReply : ℕ → List ℕ → ℕ
+wholeReply n reply = cond (ltb (length reply) n) 0 n
+
+unfoldable pub replyLength : List ℕ → ℕ
+replyLength reply = cond (ltb (length reply) 5) 0 (wholeReply (7 + beNat (take 2 (drop 3 reply))) reply)
+
+-- "a blank and the reply's bytes, capitals, a blank between"
+unfoldable pub replyText : ℕ → List ℕ → List (List ℕ)
+replyText answer reply = callText answer (spaced (take (replyLength reply) reply))
+
+-- "` bell XXXX`, the doorbell in four hex digits"
+unfoldable pub bellText : ℕ → List (List ℕ)
+bellText bell = ascii " bell " ∷ hexes (toBE 2 bell)
+
+-- "a blank, the response's 32 bytes likewise", and the doorbell
+unfoldable pub rungText : ℕ → List ℕ → ℕ → List (List ℕ)
+rungText answer response bell = callText answer (spaced response ++ bellText bell)
+
+-- "a blank and the kind, two hex digits"
+unfoldable pub undoneText : ℕ → ℕ → List (List ℕ)
+undoneText answer kind = callText answer (ascii " " ∷ hexOf kind ∷ [])
+
+-- ---- views
+
+-- "`image `, then the session's 2,287 bytes in capitals without blanks"
+unfoldable pub imageText : List ℕ → List (List ℕ)
+imageText bytes = ascii "image " ∷ (hexes bytes ++ (lineEnd ∷ []))
+
+-- "the listing of the used journal as `list_journal` writes it, `too long` if the used length is over 2,048"; `room` bytes take the longest
+-- listing or none
+unfoldable pub listText : ℕ → List ℕ → ℕ → List (List ℕ)
+listText room j used =
+    cond (ltb (length j) used) (tooLong ∷ [])
+    (cond (ltb room longest) [] (listing (take used j) ∷ []))
+
+-- "then a line `.`"
+unfoldable pub journalText : ℕ → List ℕ → ℕ → List (List ℕ)
+journalText room j used = listText room j used ++ (ascii ".\n" ∷ [])
+
+unfoldable pub helpText : List (List ℕ)
+helpText =
+    ascii "occ SS BYTES      an OCC command from sender SS (10 HTMGT, 20 BMC)\n"
+    ∷ ascii "sbe BYTES         an SBE mailbox request of 32 bytes\n"
+    ∷ ascii "undo              take the newest change back\n"
+    ∷ ascii "fresh             begin again with a fresh session\n"
+    ∷ ascii "image             the session as 2287 bytes\n"
+    ∷ ascii "load BYTES        go on with the session of such an image\n"
+    ∷ ascii "send SS TT DATA   as occ: a packet of type TT, framed for you\n"
+    ∷ ascii "buffer N          reply buffers of N bytes; alone: whole ones again\n"
+    ∷ ascii "show              the session for a person\n"
+    ∷ ascii "journal           the journal's entries\n"
+    ∷ ascii "help              these words\n"
+    ∷ ascii ".\n"
+    ∷ []

@@ -1,0 +1,95 @@
+-- Laws of the listing: how long each part is, and that no listing is longer than a buffer must be. Assumes nothing.
+use Prim.Native.Nat.{ℕ, zero, suc, _+_, _*_, _≤_}
+use mathlib.Core.Path.{_≡_, refl, ap}
+use mathlib.Core.List.{List, [], _∷_, _++_}
+use native.Mathlib.Omega.{arith}
+use lib.Dec.{ltb, lit≤}
+use lib.ListN.{length, length-append}
+use borrow.Author.Tests.{ltb-false}
+use Rattle.wire.specs.laws.Cases.{cond-cases}
+use Rattle.entries.specs.Entries.{Entry, bodyLen, Scan, between, within, unknown, opened, eat, scanFrom, scan, written}
+use Rattle.entries.specs.laws.Entries.{Proper, scan-written, scan-proper, length-written, count-written}
+use Rattle.text.specs.Text.{lineEnd, hexOf, hexes, decimal, joined}
+use Rattle.text.specs.laws.Decimal.{length-decimal}
+use Rattle.text.specs.laws.Pieces.{joined-append, length-hexes}
+use Rattle.listing.specs.Listing.{line, linesOf, whole, damagedAt, listingOf, piecesOf, listing, longest}
+
+-- ---- the bytes of the entries that were read, and of the one that is being read
+
+abbrev held : Scan → ℕ
+held (between es) = length (written es)
+held (within es k b n) = length (written es) + suc (length b)
+held (unknown es) = length (written es)
+
+held-opened : (es : List Entry) (k n : ℕ) → held (opened es k n) ≤ suc (length (written es))
+unfolding opened
+held-opened es k zero = omega arith
+held-opened es k (suc n) = omega arith
+
+held-eat : (s : Scan) (x : ℕ) → held (eat s x) ≤ suc (held s)
+unfolding eat
+held-eat (between es) x = held-opened es x (bodyLen x)
+held-eat (within es k b zero) x =
+    omega (arith, length-written (record { kind = k; body = b ++ (x ∷ []) }) es, length-append b (x ∷ []))
+held-eat (within es k b (suc n)) x = omega (arith, length-append b (x ∷ []))
+held-eat (unknown es) x = omega arith
+
+held-from : (s : Scan) (xs : List ℕ) → held (scanFrom s xs) ≤ held s + length xs
+unfolding scanFrom
+held-from s [] = omega arith
+held-from s (x ∷ xs) = omega (arith, held-from (eat s x) xs, held-eat s x)
+
+held-scan : (j : List ℕ) → held (scan j) ≤ length j
+unfolding scan written
+held-scan j = omega (arith, held-from (between []) j)
+
+-- ---- lengths
+
+-- counts and places of 2,048 bytes have four digits at most
+length-number : (n : ℕ) → n ≤ 2048 → length (decimal n) ≤ 4
+length-number n h = length-decimal 3 n (omega arith)
+
+pub length-line : (e : Entry) → length (joined (line e)) ≡ 2 * length (e .body) + 4
+unfolding line joined hexOf
+length-line e =
+    omega (arith, ap length (joined-append (hexes (e .body)) (lineEnd ∷ [])), length-append (joined (hexes (e .body))) lineEnd, length-hexes (e .body))
+
+-- a line takes at most 3 bytes for each of its entry's
+length-lines : (es : List Entry) → Proper es → length (joined (linesOf es)) ≤ 3 * length (written es)
+unfolding linesOf joined written
+length-lines [] h = omega arith
+length-lines (e ∷ es) h =
+    omega (
+      arith,
+      ap length (joined-append (linesOf es) (line e)),
+      length-append (joined (linesOf es)) (joined (line e)),
+      length-line e,
+      length-written e es,
+      length-lines es (h .1),
+      h .0 .1,
+    )
+
+length-damaged : (n : ℕ) → n ≤ 2048 → length (joined (damagedAt n)) ≤ longest
+unfolding damagedAt joined
+length-damaged n h = omega (arith, length-append (decimal n) lineEnd, length-number n h)
+
+length-listingOf : (j : List ℕ) (s : Scan) → length j ≤ 2048 → scan j ≡ s → length (joined (listingOf s)) ≤ longest
+unfolding listingOf whole joined
+length-listingOf j (between es) h e =
+    omega (
+      arith,
+      length-append (decimal (length es)) (lineEnd ++ joined (linesOf es)),
+      length-number (length es) (omega (arith, count-written es, ap length (scan-written j es e))),
+      length-lines es (scan-proper j es e),
+      ap length (scan-written j es e),
+    )
+length-listingOf j (within es k b n) h e = length-damaged (length (written es)) (omega (arith, held-scan j, ap held e))
+length-listingOf j (unknown es) h e = length-damaged (length (written es)) (omega (arith, held-scan j, ap held e))
+
+-- no listing is longer than a buffer must be
+pub length-listing : (j : List ℕ) → length (listing j) ≤ longest
+unfolding listing piecesOf joined
+length-listing j =
+    cond-cases (λ (ps : List (List ℕ)). length (joined ps) ≤ longest) (ltb 2048 (length j))
+    (λ e. lit≤ tt)
+    (λ e. length-listingOf j (scan j) (ltb-false 2048 (length j) e) refl)

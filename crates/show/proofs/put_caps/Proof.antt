@@ -1,0 +1,56 @@
+-- `show::put_caps` meets its contract: its parts are put one after the other. Assumes nothing.
+use Rattle.text.specs.Text.{putAll}
+use Rattle.show.specs.Show.{capsText, numberText}
+use borrow.Author.Needs.{needs}
+use Rattle.show.proofs.put_caps.Statement.{statement}
+use Rattle.show.proofs.put_caps.Tie as tie
+
+slice-aggregate-put : tie.Need-slice-aggregate-put
+slice-aggregate-put c = search needs
+
+put-requires : tie.Need-put-requires
+put-requires c κs = search needs
+
+cast-put-number : tie.Need-cast-put-number
+cast-put-number c = search needs
+
+put-number-requires : tie.Need-put-number-requires
+put-number-requires c κs = search needs
+
+cast-put-number-2 : tie.Need-cast-put-number-2
+cast-put-number-2 c = search needs
+
+put-number-requires-2 : tie.Need-put-number-requires-2
+put-number-requires-2 c κs = search needs
+
+cast-put-number-3 : tie.Need-cast-put-number-3
+cast-put-number-3 c = search needs
+
+put-number-requires-3 : tie.Need-put-number-requires-3
+put-number-requires-3 c κs = search needs
+
+put-mark-requires : tie.Need-put-mark-requires
+put-mark-requires c κs = search needs
+
+same-length : tie.Need-same-length
+same-length c = search needs
+
+returns : tie.Need-returns
+unfolding capsText numberText putAll
+returns c = cc
+
+pub put-caps-spec : {M : Type 1} → statement M
+put-caps-spec =
+    tie.close
+    (tie.spec
+    slice-aggregate-put
+    put-requires
+    cast-put-number
+    put-number-requires
+    cast-put-number-2
+    put-number-requires-2
+    cast-put-number-3
+    put-number-requires-3
+    put-mark-requires
+    same-length
+    returns)

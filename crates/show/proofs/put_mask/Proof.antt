@@ -1,0 +1,41 @@
+-- `show::put_mask` meets its contract: its parts are put one after the other. Assumes nothing.
+use Rattle.text.specs.Text.{putAll}
+use Rattle.text.specs.laws.Pieces.{putAll-append}
+use Rattle.show.specs.Show.{maskText}
+use borrow.Author.Needs.{needs}
+use Rattle.show.proofs.put_mask.Statement.{statement}
+use Rattle.show.proofs.put_mask.Tie as tie
+
+slice-aggregate-put : tie.Need-slice-aggregate-put
+slice-aggregate-put c = search needs
+
+put-requires : tie.Need-put-requires
+put-requires c κs = search needs
+
+put-cores-requires : tie.Need-put-cores-requires
+put-cores-requires c κs = search needs
+
+slice-aggregate-put-2 : tie.Need-slice-aggregate-put-2
+slice-aggregate-put-2 c = search needs
+
+put-requires-2 : tie.Need-put-requires-2
+put-requires-2 c κs = search needs
+
+same-length : tie.Need-same-length
+same-length c = search needs
+
+returns : tie.Need-returns
+unfolding maskText putAll
+returns c = cc (putAll-append _ _ _)
+
+pub put-mask-spec : {M : Type 1} → statement M
+put-mask-spec =
+    tie.close
+    (tie.spec
+    slice-aggregate-put
+    put-requires
+    put-cores-requires
+    slice-aggregate-put-2
+    put-requires-2
+    same-length
+    returns)

@@ -1,0 +1,26 @@
+-- `show::put_number` meets its contract: its parts are put one after the other. Assumes nothing.
+use Rattle.text.specs.Text.{putAll}
+use Rattle.show.specs.Show.{numberText}
+use borrow.Author.Needs.{needs}
+use Rattle.show.proofs.put_number.Statement.{statement}
+use Rattle.show.proofs.put_number.Tie as tie
+
+slice-aggregate-put : tie.Need-slice-aggregate-put
+slice-aggregate-put c = search needs
+
+put-requires : tie.Need-put-requires
+put-requires c κs = search needs
+
+put-decimal-requires : tie.Need-put-decimal-requires
+put-decimal-requires c κs = search needs
+
+same-length : tie.Need-same-length
+same-length c = search needs
+
+returns : tie.Need-returns
+unfolding numberText putAll
+returns c = cc
+
+pub put-number-spec : {M : Type 1} → statement M
+put-number-spec =
+    tie.close (tie.spec slice-aggregate-put put-requires put-decimal-requires same-length returns)

@@ -328,13 +328,7 @@ fn finish(lent: &mut [u8], b: Bench, line: &[u8], held: usize, sent: &mut [u8], 
 }
 
 // A proved loop has to end: it counts down from a number that no run uses up.
-fn serve(
-    lent: &mut [u8],
-    piece: &mut [u8],
-    line: &mut [u8],
-    sent: &mut [u8],
-    out: &mut [u8],
-)
+fn serve(lent: &mut [u8], piece: &mut [u8], line: &mut [u8], sent: &mut [u8], out: &mut [u8])
     requires { ⌜ (length (now lent) ≡ imageLength) × (8198 ≤ length (now sent)) ⌝ }
 {
     let mut bench = Bench {

@@ -1,0 +1,47 @@
+use mathlib.Core.Path.{sym}
+use native.Mathlib.Omega.{arith}
+use lib.Seq.{length-take-le}
+use borrow.Author.Needs.{needs}
+use Rattle.standin.proofs.call_with.Statement.{statement}
+use Rattle.standin.proofs.call_with.Tie as tie
+
+reply-buffer-requires : tie.Need-reply-buffer-requires
+reply-buffer-requires c κs = search needs
+
+reply-len-requires : tie.Need-reply-len-requires
+reply-len-requires c κs = search needs
+
+array-borrow-prefix-reply : tie.Need-array-borrow-prefix-reply
+array-borrow-prefix-reply c = search needs
+
+slice-aggregate-carry-out : tie.Need-slice-aggregate-carry-out
+slice-aggregate-carry-out c = sym (length-take-le _ _ (omega arith))
+
+carry-out-requires : tie.Need-carry-out-requires
+carry-out-requires c κs = search needs
+
+same-length : tie.Need-same-length
+same-length c = search needs
+
+same-length-2 : tie.Need-same-length-2
+same-length-2 c = search needs
+
+same-length-3 : tie.Need-same-length-3
+same-length-3 c = search needs
+
+returns : tie.Need-returns
+returns c = search needs
+
+pub call-with-spec : {M : Type 1} → statement M
+call-with-spec =
+    tie.close
+    (tie.spec
+    reply-buffer-requires
+    reply-len-requires
+    array-borrow-prefix-reply
+    slice-aggregate-carry-out
+    carry-out-requires
+    same-length
+    same-length-2
+    same-length-3
+    returns)

@@ -1,0 +1,200 @@
+use mathlib.Core.Path.{sym}
+use native.Mathlib.Omega.{arith}
+use lib.Seq.{length-take-le}
+use lib.ListN.{length-take}
+use borrow.Author.Needs.{needs}
+use Rattle.standin.proofs.carry_out.Statement.{statement}
+use Rattle.standin.proofs.carry_out.Tie as tie
+
+enum-told : tie.Need-enum-told
+enum-told c = search needs
+
+slice-read-occ : tie.Need-slice-read-occ
+slice-read-occ c = search needs
+
+add-occ : tie.Need-add-occ
+add-occ c = search needs
+
+sub-occ : tie.Need-sub-occ
+sub-occ c = search needs
+
+part-occ-start : tie.Need-part-occ-start
+part-occ-start c = search needs
+
+part-occ-end : tie.Need-part-occ-end
+part-occ-end c = search needs
+
+occ-requires : tie.Need-occ-requires
+occ-requires c κs = search needs
+
+enum-told-2 : tie.Need-enum-told-2
+enum-told-2 c = search needs
+
+slice-reshare-prefix-sbe : tie.Need-slice-reshare-prefix-sbe
+slice-reshare-prefix-sbe c = search needs
+
+slice-aggregate-sbe : tie.Need-slice-aggregate-sbe
+slice-aggregate-sbe c = sym (length-take-le _ _ (omega arith))
+
+sbe-requires : tie.Need-sbe-requires
+sbe-requires c κs = search needs
+
+enum-told-3 : tie.Need-enum-told-3
+enum-told-3 c = search needs
+
+add-send : tie.Need-add-send
+add-send c = search needs
+
+slice-relend-prefix-send : tie.Need-slice-relend-prefix-send
+slice-relend-prefix-send c = search needs
+
+slice-aggregate-send : tie.Need-slice-aggregate-send
+slice-aggregate-send c = sym (length-take-le _ _ (omega arith))
+
+send-requires : tie.Need-send-requires
+send-requires c κs = simp length-take (omega arith)
+
+enum-told-4 : tie.Need-enum-told-4
+enum-told-4 c = search needs
+
+load-requires : tie.Need-load-requires
+load-requires c κs = search needs
+
+enum-told-5 : tie.Need-enum-told-5
+enum-told-5 c = search needs
+
+undo-requires : tie.Need-undo-requires
+undo-requires c κs = search needs
+
+enum-told-6 : tie.Need-enum-told-6
+enum-told-6 c = search needs
+
+fresh-requires : tie.Need-fresh-requires
+fresh-requires c κs = search needs
+
+same-length : tie.Need-same-length
+same-length c = search needs
+
+same-length-2 : tie.Need-same-length-2
+same-length-2 c = search needs
+
+same-length-3 : tie.Need-same-length-3
+same-length-3 c = search needs
+
+same-length-4 : tie.Need-same-length-4
+same-length-4 c = search needs
+
+returns : tie.Need-returns
+returns c = search needs
+
+same-length-5 : tie.Need-same-length-5
+same-length-5 c = search needs
+
+same-length-6 : tie.Need-same-length-6
+same-length-6 c = search needs
+
+same-length-7 : tie.Need-same-length-7
+same-length-7 c = search needs
+
+same-length-8 : tie.Need-same-length-8
+same-length-8 c = search needs
+
+returns-2 : tie.Need-returns-2
+returns-2 c = search needs
+
+same-length-9 : tie.Need-same-length-9
+same-length-9 c = search needs
+
+same-length-10 : tie.Need-same-length-10
+same-length-10 c = search needs
+
+same-length-11 : tie.Need-same-length-11
+same-length-11 c = search needs
+
+same-length-12 : tie.Need-same-length-12
+same-length-12 c = search needs
+
+returns-3 : tie.Need-returns-3
+returns-3 c = search needs
+
+same-length-13 : tie.Need-same-length-13
+same-length-13 c = search needs
+
+same-length-14 : tie.Need-same-length-14
+same-length-14 c = search needs
+
+same-length-15 : tie.Need-same-length-15
+same-length-15 c = search needs
+
+returns-4 : tie.Need-returns-4
+returns-4 c = search needs
+
+same-length-16 : tie.Need-same-length-16
+same-length-16 c = search needs
+
+same-length-17 : tie.Need-same-length-17
+same-length-17 c = search needs
+
+returns-5 : tie.Need-returns-5
+returns-5 c = search needs
+
+same-length-18 : tie.Need-same-length-18
+same-length-18 c = search needs
+
+same-length-19 : tie.Need-same-length-19
+same-length-19 c = search needs
+
+returns-6 : tie.Need-returns-6
+returns-6 c = search needs
+
+pub carry-out-spec : {M : Type 1} → statement M
+carry-out-spec =
+    tie.close
+    (tie.spec
+    enum-told
+    slice-read-occ
+    add-occ
+    sub-occ
+    part-occ-start
+    part-occ-end
+    occ-requires
+    enum-told-2
+    slice-reshare-prefix-sbe
+    slice-aggregate-sbe
+    sbe-requires
+    enum-told-3
+    add-send
+    slice-relend-prefix-send
+    slice-aggregate-send
+    send-requires
+    enum-told-4
+    load-requires
+    enum-told-5
+    undo-requires
+    enum-told-6
+    fresh-requires
+    same-length
+    same-length-2
+    same-length-3
+    same-length-4
+    returns
+    same-length-5
+    same-length-6
+    same-length-7
+    same-length-8
+    returns-2
+    same-length-9
+    same-length-10
+    same-length-11
+    same-length-12
+    returns-3
+    same-length-13
+    same-length-14
+    same-length-15
+    returns-4
+    same-length-16
+    same-length-17
+    returns-5
+    same-length-18
+    same-length-19
+    returns-6)

@@ -68,6 +68,7 @@ putOf r e = putWith r (e .tables) (e .change)
 
 -- ---- what was before: the change that takes a change back
 
+-- there for redo, with `madeAgain` and the line of `backOf` that cites it: no command takes back what was taken back
 unfoldable pub lastOf : List Log → Log
 lastOf l = cond (eqb (pendingOf l) 0) noLog (getD l (pendingOf l - 1) noLog)
 

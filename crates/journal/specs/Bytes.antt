@@ -38,7 +38,7 @@ areaBytes area = toBE 8 (area .address) ++ toBE 4 (area .size)
 unfoldable pub areasBody : Areas → List ℕ
 areasBody areas = areaBytes (areas .ffdc) ++ areaBytes (areas .pass)
 
--- the body of a change, with the tables beside it
+-- the body of a change, with the tables beside it; those of `Clear` and `Reset`, what was after, are there for redo
 unfoldable pub bodyOf : Tables → Change → List ℕ
 bodyOf t (Clear place log) = clearedBody place log
 bodyOf t (Unclear place log) = clearedBody place log

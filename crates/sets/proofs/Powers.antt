@@ -32,5 +32,8 @@ module _ (p : ℕ) (h : p < 16) where
   pub bit-at : (x : ℕ) → x / getD powers p 0 % 2 ≡ x / 2 ^ p % 2
   bit-at x = ap (λ (y : ℕ). x / y % 2) power-at
 
+  pub bit-fits : (x bit : ℕ) → x < 2 ^ 16 → x / 2 ^ p % 2 ≡ 0 → bit ≡ 2 ^ p → x + bit < 2 ^ 16
+  bit-fits x bit k e is = subst (λ (y : ℕ). x + y < 2 ^ 16) (sym is) (bit-free 16 p x k h e)
+
   pub power-fits : (x : ℕ) → x < 2 ^ 16 → x / 2 ^ p % 2 ≡ 0 → x + getD powers p 0 < 2 ^ 16
   power-fits x k e = subst (λ (y : ℕ). x + y < 2 ^ 16) (sym power-at) (bit-free 16 p x k h e)

@@ -13,10 +13,10 @@ use Rattle.sets.specs.declared.Frus.{Frus}
 use Rattle.sets.specs.Sets.{bitOf, withPair, withFru}
 use Rattle.sets.proofs.Powers.{powers, power-at, bit-at}
 
-pub pair-stored : (t : Sets) (p : ℕ) (v l : List ℕ) → p < 16 → l ≡ pasted (p * 10) v (t .table .sets)
-    → _≡_ {A = Sets} (record { ok = true; table = record { present = t .table .present + getD powers p 0; sets = l } }) (withPair t p v)
+pub pair-stored : (t : Sets) (p bit : ℕ) (v l : List ℕ) → bit ≡ 2 ^ p → l ≡ pasted (p * 10) v (t .table .sets)
+    → _≡_ {A = Sets} (record { ok = true; table = record { present = t .table .present + bit; sets = l } }) (withPair t p v)
 unfolding withPair
-pair-stored t p v l h e = λ i. record { ok = true; table = record { present = t .table .present + power-at p h i; sets = e i } }
+pair-stored t p bit v l h e = λ i. record { ok = true; table = record { present = t .table .present + h i; sets = e i } }
 
 pub fru-stored : (t : Frus) (p : ℕ) (v l : List ℕ) → p < 16 → l ≡ pasted (p * 3) v (t .bytes)
     → _≡_ {A = Frus} (record { ok = true; seen = t .seen + getD powers p 0; bytes = l }) (withFru t p v)

@@ -41,12 +41,11 @@ fn bad_sets(t: Sets) -> Sets
 }
 
 // A pair's ten bytes are stored and its bit is set; `bit` is free, so the sum fits.
-fn with_pair(t: Sets, pair: usize, v: &[u8]) -> Sets
-    requires { ⌜ (pair < 16) × (length (now v) ≡ 10) × (t .table .present / 2 ^ pair % 2 ≡ 0) ⌝ }
+fn with_pair(t: Sets, pair: usize, bit: u16, v: &[u8]) -> Sets
+    requires { ⌜ (pair < 16) × (length (now v) ≡ 10) × (t .table .present / 2 ^ pair % 2 ≡ 0) × (bit ≡ 2 ^ pair) ⌝ }
     ensures { λ x. ⌜ x ≡ withPair t pair (now (v .entry)) ⌝ }
 {
     let table = t.table;
-    let bit = POWERS[pair];
     let present = table.present + bit;
     let mut sets = table.sets;
     wire::copy(&mut sets, pair * 10, v);
@@ -81,7 +80,7 @@ fn one_set(t: Sets, s: &[u8]) -> Sets
     if table.present / bit % 2 != 0 {
         return bad_sets(t);
     }
-    with_pair(t, pair, &s[2..12])
+    with_pair(t, pair, bit, &s[2..12])
 }
 
 // `n` sets from the part that starts at the fourth data byte.

@@ -4,7 +4,7 @@ use borrow.Author.Needs.{needs}
 use Rattle.wire.specs.laws.Cases.{else-b, else-lt, if-b, if-lt}
 use Rattle.sets.specs.Sets.{oneSet}
 use Rattle.sets.proofs.Stored.{pair-below, bit-clear, if-bit, else-bit}
-use Rattle.sets.proofs.Powers.{power-positive}
+use Rattle.sets.proofs.Powers.{power-at, power-positive}
 use Rattle.sets.proofs.one_set.Statement.{statement}
 use Rattle.sets.proofs.one_set.Tie as tie
 
@@ -81,7 +81,7 @@ with-pair-requires : tie.Need-with-pair-requires
 with-pair-requires c κs =
     let mba = c .before .before .before in
     let below = pair-below _ _ (mba .before .if2 .left) (mba .if3 .left) in
-    (below, search needs, bit-clear _ _ below (c .before .if4 .left))
+    (below, search needs, bit-clear _ _ below (c .before .if4 .left), power-at _ below)
 
 returns-5 : tie.Need-returns-5
 unfolding oneSet

@@ -1,21 +1,15 @@
--- `with_pair` meets its contract: the table's number is the power of 2, and as that bit is free the sum is below 2^16.
+-- `with_pair` meets its contract: as the bit is free the sum is below 2^16.
 use mathlib.Core.Path.{_≡_}
 use native.Mathlib.Omega.{arith}
 use borrow.Author.Needs.{needs}
 use lib.ListN.{length}
 use Rattle.sets.proofs.Stored.{pair-stored}
-use Rattle.sets.proofs.Powers.{power-fits}
+use Rattle.sets.proofs.Powers.{bit-fits}
 use Rattle.sets.proofs.with_pair.Statement.{statement}
 use Rattle.sets.proofs.with_pair.Tie as tie
 
-mul-bit : tie.Need-mul-bit
-mul-bit c = search needs
-
-array-read-bit : tie.Need-array-read-bit
-array-read-bit c = search needs
-
 add-present : tie.Need-add-present
-add-present c = let p = c .before .before in record { fits = power-fits (p .before .args .pair) (p .before .pre .0) (p .before .args .t .table .present) (search needs) (p .before .pre .2) }
+add-present c = let p = c .before .before .before in record { fits = bit-fits (p .args .pair) (p .pre .0) (p .args .t .table .present) _ (search needs) (p .pre .2) (p .pre .3) }
 
 slice-aggregate-copy : tie.Need-slice-aggregate-copy
 slice-aggregate-copy c = search needs
@@ -29,14 +23,12 @@ copy-requires c κs = let a = c .before .before .before .before .before .args in
 
 returns : tie.Need-returns
 returns c = let p = c .before .before .before .before .before .before .before in
-    pair-stored (p .args .t) (p .args .pair) (p .args .v .now) _ (p .pre .0) (c .before .copy .ensures)
+    pair-stored (p .args .t) (p .args .pair) _ (p .args .v .now) _ (p .pre .3) (c .before .copy .ensures)
 
 pub with-pair-spec : {M : Type 1} → statement M
 with-pair-spec =
     tie.close
     (tie.spec
-    mul-bit
-    array-read-bit
     add-present
     slice-aggregate-copy
     mul-copy

@@ -1,5 +1,6 @@
 pub mod Promises
 pub mod Calls
+pub mod Outcomes
 pub mod History
 pub mod NoTrace
 pub mod Ids

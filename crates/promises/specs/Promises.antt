@@ -3,11 +3,11 @@
 use Prim.Native.Nat.{ℕ, _+_}
 use mathlib.Core.Bool.{true}
 use mathlib.Core.Logic.{_↔_, _⊎_}
-use mathlib.Core.Path.{_≡_, sym, ap, _∙_}
+use mathlib.Core.Path.{_≡_, ap, _∙_}
 use mathlib.Core.List.{List, []}
 use native.Mathlib.Omega.{arith}
 use lib.ListN.{length, getD}
-use Rattle.wire.specs.Wire.{Bytes}
+use Rattle.wire.specs.Wire.{Bytes, pasted}
 use Rattle.record.specs.Record.{freshRecord, workedOf}
 use Rattle.record.specs.declared.Record.{Record}
 use Rattle.record.specs.declared.Worked.{Worked}
@@ -23,15 +23,18 @@ use Rattle.sbe.specs.Conditions.{grants, Accepted}
 use Rattle.sbe.specs.laws.Exactly.{accepted-exactly}
 use Rattle.session.specs.Session.{freshSession, wellFormed, madeOf}
 use Rattle.session.specs.declared.Session.{Session}
-use Rattle.occ_call.specs.Occ.{occCall}
+use Rattle.inplace.specs.declared.Told.{Told}
+use Rattle.occ_call.specs.Occ.{occCall, OccAllows}
 use Rattle.occ_call.specs.laws.Came as occ-came
-use Rattle.sbe_call.specs.Sbe.{sbeCall}
+use Rattle.sbe_call.specs.Sbe.{sbeCall, SbeAllows}
 use Rattle.sbe_call.specs.laws.Came as sbe-came
-use Rattle.undo_call.specs.Undo.{undoCall}
+use Rattle.undo_call.specs.Undo.{undoCall, UndoAllows}
 use Rattle.undo_call.specs.laws.Came as undo-came
 use Rattle.promises.specs.Calls.{Call, said}
 use Rattle.promises.specs.History.{adds, deed, logsMade, run, start, OfBytes, AllOfBytes, Demand3}
 use Rattle.promises.specs.Ids.{idsMade, countdown}
+use Rattle.promises.specs.Outcomes.{OneOutcome}
+use Rattle.promises.specs.laws.Outcomes.{one-value, one-pair, one-triple}
 use Rattle.promises.specs.laws.Fresh.{fresh-start, fresh-still}
 use Rattle.promises.specs.laws.Demand3.{demand3, ids-in-order, invariant, next-is}
 use Rattle.links.specs.Typed.{TypedSession}
@@ -40,7 +43,7 @@ use Rattle.promises.specs.Later.{Wish, AsIf}
 use Rattle.promises.specs.laws.NoTrace.{trace-free, no-log-no-trace, later-alike}
 use Rattle.promises.specs.NoTrace.{withNext, after, tried}
 use Rattle.image.specs.Image.{imageLength, imageOf}
-use Rattle.bjargolsk.specs.Calls.{freshOn}
+use Rattle.bjargolsk.specs.Calls.{freshOn, FreshReturns, OccReturns, SbeReturns, UndoReturns}
 use Rattle.promises.specs.laws.Lent.{fresh-image, lent-run, lent-next}
 use Rattle.promises.specs.Lent.{lent, carriedOver, lentRun}
 use Rattle.promises.specs.Examples.{All, holds, table}
@@ -64,10 +67,41 @@ pub error-of-occ-keeps : (s : Session) (sender : ℕ) (c d : List ℕ)
     → (occCall s sender c d .outcome .session ≡ s) ⊎ (occCall s sender c d .reply ≡ replied (getD c 0 0) (getD c 1 0) 0x00 [] d)
 error-of-occ-keeps s sender c d = occ-came.error-keeps s sender c d (occCall s sender c d) (occ-came.came s sender c d)
 
--- ---- the contracts determine everything: two outcomes that one allows are equal (they are functions of what is handed in)
+-- the same of the SBE's error statuses
+pub error-of-sbe-keeps : (s : Session) (r d : List ℕ)
+    → (sbeCall s r d .outcome .session ≡ s) ⊎ (sbeCall s r d .reply ≡ pasted 0 (mailbox.responseBytes 0x00 0x00 r) d)
+error-of-sbe-keeps s r d = sbe-came.error-keeps s r d (sbeCall s r d) (sbe-came.came s r d)
 
-pub one-outcome : {A : Type 0} (allowed x y : A) → x ≡ allowed → y ≡ allowed → x ≡ y
-one-outcome allowed x y p q = p ∙ sym q
+-- the doorbell is rung as asked on every answer 0, refused or not, and never else
+pub bell-rung-as-asked : (s : Session) (r d : List ℕ)
+    → (sbeCall s r d .outcome .answer ≡ 0 → sbeCall s r d .outcome .bell ≡ mailbox.bellOf r) × ((sbeCall s r d .outcome .answer ≡ 0 → ⊥) → sbeCall s r d .outcome .bell ≡ 0)
+bell-rung-as-asked s r d = (sbe-came.bell-rung s r d (sbeCall s r d) (sbe-came.came s r d), λ h. refusal-of-sbe-keeps s r d h .2)
+
+-- ---- the contracts determine everything: two outcomes that one allows are equal. b is the lent session; for C the result is one number
+
+pub one-outcome-of-fresh : OneOutcome (λ (o : Session). o ≡ freshSession)
+one-outcome-of-fresh = one-value freshSession
+
+pub one-outcome-of-occ : (b : List ℕ) (sender : ℕ) (c d : List ℕ) → OneOutcome (λ (o : Told × List ℕ × List ℕ). OccAllows b sender c d (o .0) (o .1) (o .2))
+one-outcome-of-occ b sender c d = one-triple _ _ _
+
+pub one-outcome-of-sbe : (b r d : List ℕ) → OneOutcome (λ (o : Told × List ℕ × List ℕ). SbeAllows b r d (o .0) (o .1) (o .2))
+one-outcome-of-sbe b r d = one-triple _ _ _
+
+pub one-outcome-of-undo : (b : List ℕ) → OneOutcome (λ (o : Told × List ℕ). UndoAllows b (o .0) (o .1))
+one-outcome-of-undo b = one-pair _ _
+
+pub one-outcome-of-fresh-for-c : (b : List ℕ) → OneOutcome (λ (o : ℕ × List ℕ). FreshReturns b (o .0) (o .1))
+one-outcome-of-fresh-for-c b = one-pair _ _
+
+pub one-outcome-of-occ-for-c : (b : List ℕ) (sender : ℕ) (c d : List ℕ) → OneOutcome (λ (o : ℕ × List ℕ × List ℕ). OccReturns b sender c d (o .0) (o .1) (o .2))
+one-outcome-of-occ-for-c b sender c d = one-triple _ _ _
+
+pub one-outcome-of-sbe-for-c : (b r d : List ℕ) → OneOutcome (λ (o : ℕ × List ℕ × List ℕ). SbeReturns b r d (o .0) (o .1) (o .2))
+one-outcome-of-sbe-for-c b r d = one-triple _ _ _
+
+pub one-outcome-of-undo-for-c : (b : List ℕ) → OneOutcome (λ (o : ℕ × List ℕ). UndoReturns b (o .0) (o .1))
+one-outcome-of-undo-for-c b = one-pair _ _
 
 -- ---- well-formed in, well-formed out, on every session of the type; and what is worked out is the record's
 

@@ -15,3 +15,4 @@ pub mod Examples
 pub mod ComputedSession
 pub mod ComputedOcc
 pub mod ComputedSbe
+pub mod Outcomes

@@ -1,6 +1,6 @@
 -- Document 01, "OCC packets": a command gets each status exactly when its row holds and none before it. d is the data. Assumes nothing.
-use Prim.Native.Nat.{ℕ, _+_, _-_, _*_, _<_, _≤_}
-use mathlib.Core.Bool.{Bool, true, false, cond, not, true≢false}
+use Prim.Native.Nat.{ℕ, _+_, _-_, _*_, _≤_}
+use mathlib.Core.Bool.{Bool, true, cond, not, true≢false}
 use mathlib.Core.Path.{_≡_, refl, sym, ap, _∙_}
 use mathlib.Core.List.{List}
 use mathlib.Core.Logic.{_↔_, Iff·trans, _⊎_, inl, inr, ⊎-elim}
@@ -8,15 +8,15 @@ use native.Mathlib.Omega.{arith}
 use borrow.Author.Tests.{ltb-false, ltb-true, eqb-true, eqb-false, not-true, not-false, leb-true, leb-false}
 use lib.Dec.{ltb, leb, eqb, lit<}
 use lib.ListN.{length, getD, drop}
-use Rattle.wire.specs.Conditions.{_and_, is, none, Rows, row}
+use Rattle.wire.specs.Conditions.{_and_, is, none, row}
 use Rattle.wire.specs.laws.Cases.{cond-cases}
-use Rattle.wire.specs.laws.Chains.{holds, eq-holds, le-passes, lt-passes, not-passes, eq-passes, unless, or-case, last-case}
+use Rattle.wire.specs.laws.Chains.{holds, eq-holds, le-passes, not-passes, eq-passes, unless, or-case, last-case}
 use Rattle.wire.specs.laws.Tables.{lt-holds, fails, ByTable, by-none, by-is, hit, miss, by-rows}
 use Rattle.record.specs.declared.Log.{Log}
 use Rattle.record.specs.declared.Caps.{Caps}
 use Rattle.record.specs.declared.Record.{Record}
 use Rattle.record.specs.declared.Worked.{Worked}
-use Rattle.change.specs.Logs.{pendingOf, findOf}
+use Rattle.change.specs.Logs.{pendingOf}
 use Rattle.change.specs.declared.Change.{Change}
 use Rattle.change.specs.declared.Tables.{Tables}
 use Rattle.sets.specs.Conditions.{SetsOk, FrusOk}

@@ -1,8 +1,8 @@
 -- Document 01, "SBE mailbox": a request gets each status exactly when its row holds and none before it. Assumes nothing.
 use Prim.Native.Nat.{ℕ, _+_, _%_, _^_, _<_}
-use mathlib.Core.Bool.{Bool, true, false, cond, not, true≢false}
-use mathlib.Core.Logic.{_⊎_, inl, inr, ⊎-elim, _↔_}
-use mathlib.Core.Path.{_≡_, refl, sym, ap, _∙_}
+use mathlib.Core.Bool.{cond, not, true≢false}
+use mathlib.Core.Logic.{_⊎_, inl, inr, ⊎-elim}
+use mathlib.Core.Path.{_≡_, refl, ap}
 use mathlib.Core.List.{List}
 use native.Mathlib.Omega.{arith}
 use native.Mathlib.Nat.{not-le-of-lt}
@@ -17,7 +17,7 @@ use Rattle.change.specs.declared.Change.{Change}
 use Rattle.formed.specs.Formed.{multipleOf128, inMemory}
 use Rattle.sbe.specs.declared.Verdict.{Verdict}
 use Rattle.sbe.specs.declared.Verdict.the-variants.{Refuse, Make}
-use Rattle.sbe.specs.Mailbox.{flagsOf, wordAt, registerAt, plainFlags, deadmanAt, deadmanOf, coresOf, areaStatus, areasAt, areasOf, coreState, general, requestFor, requestVerdict}
+use Rattle.sbe.specs.Mailbox.{flagsOf, wordAt, registerAt, deadmanAt, deadmanOf, coresOf, areaStatus, areasAt, areasOf, coreState, general, requestFor, requestVerdict}
 use Rattle.sbe.specs.Conditions.{grants, Plain, StartOrStop, Names}
 use Rattle.sbe.specs.laws.Exactly.{plain-exactly}
 use Rattle.sbe.specs.Statuses.{Status, ClassUnknown, CommandKnown, AreaStatus, RequestStatus}

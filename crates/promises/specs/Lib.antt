@@ -1,6 +1,8 @@
 pub mod Promises
 pub mod Calls
 pub mod Outcomes
+pub mod Demand1
+pub mod Demand2
 pub mod History
 pub mod NoTrace
 pub mod Ids

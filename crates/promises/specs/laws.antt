@@ -16,3 +16,7 @@ pub mod ComputedSession
 pub mod ComputedOcc
 pub mod ComputedSbe
 pub mod Outcomes
+pub mod OccWays
+pub mod OccAsks
+pub mod Replies
+pub mod OccDemands

@@ -11,10 +11,14 @@ use Rattle.change.specs.declared.Edit.{Edit}
 use Rattle.packet.specs.Packet.{dataOf}
 use Rattle.packet.specs.Conditions.{Overlong, Summed}
 use Rattle.occ.specs.Statuses.{CommandStatus}
+use Rattle.sbe.specs.Mailbox.{bellOf, responseBytes}
 use Rattle.sbe.specs.Conditions.{Accepted}
+use Rattle.sbe.specs.Statuses.{Status}
 use Rattle.session.specs.Session.{wellFormed}
 use Rattle.session.specs.declared.Session.{Session}
-use Rattle.promises.specs.Demand2.{entryLength, KnownSender, WellAsked, occKind, NotPoll, sbeKind, Newest, Undoable}
+use Rattle.occ_call.specs.Occ.{OccResult, says}
+use Rattle.sbe_call.specs.Sbe.{SbeResult, rung}
+use Rattle.promises.specs.Demand2.{atFront, entryLength, KnownSender, WellAsked, occKind, NotPoll, sbeKind, Newest, Undoable}
 
 -- ---- session answers
 
@@ -73,3 +77,10 @@ errorBytes seq type status = seq ∷ type ∷ status ∷ 0x00 ∷ 0x01 ∷ 0x00 
 
 abbrev pub errorReply : ℕ → ℕ → ℕ → List ℕ
 errorReply seq type status = errorBytes seq type status ++ toBE 2 (packetSum (errorBytes seq type status))
+
+-- answer 0 with an error reply: the session as it was, the reply at the front of the buffer, and the doorbell rung as asked
+abbrev pub occError : Session → List ℕ → List ℕ → ℕ → OccResult
+occError s c d status = says s (atFront (errorReply (getD c 0 0) (getD c 1 0) status) d)
+
+abbrev pub sbeError : Session → List ℕ → List ℕ → Status → SbeResult
+sbeError s r d status = record { outcome = rung 0 (bellOf r) s; reply = atFront (responseBytes (status .0) (status .1) r) d }

@@ -20,3 +20,4 @@ pub mod OccWays
 pub mod OccAsks
 pub mod Replies
 pub mod OccDemands
+pub mod SbeDemands

@@ -33,7 +33,7 @@ use Rattle.occ_call.specs.Occ.{OccResult, answered, kept, says, occCall}
 use Rattle.links.specs.Typed.{TypedSession}
 use Rattle.promises.specs.Calls.{occ}
 use Rattle.promises.specs.History.{Deed, keeps, adds, deed}
-use Rattle.promises.specs.Demand1.{NoRoom, OccAnswer, OccDue, OccStatus, errorReply}
+use Rattle.promises.specs.Demand1.{NoRoom, OccAnswer, OccDue, OccStatus, errorReply, occError}
 use Rattle.promises.specs.Demand2.{atFront, HasRoom, KnownSender, WellAsked, occKind, NotPoll, OccAccepted, successData, successReply, OccSucceeds}
 use Rattle.promises.specs.laws.OccAsks.{Asks, asks, poll-type, made-kind}
 use Rattle.promises.specs.laws.OccWays.{judged, edit, Heard, ill-read, declined, polled, no-room, carried, Called, ill-formed, unknown, short-reply, short-command, due, called}
@@ -257,7 +257,7 @@ module _ (s : Session) (typed : TypedSession s) (sender : ℕ) (c d : List ℕ) 
   pub occ-answers : (n : ℕ) → (occCall s sender c d .outcome .answer ≡ n) ↔ OccAnswer s sender c d n
   occ-answers = answer-table _ _ (called s sender c d) .exactly
 
-  pub occ-statuses : OccDue s sender c d → (n : ℕ) → (occCall s sender c d ≡ says s (atFront (errorReply seq type n) d)) ↔ OccStatus s sender c n
+  pub occ-statuses : OccDue s sender c d → (n : ℕ) → (occCall s sender c d ≡ occError s c d n) ↔ OccStatus s sender c n
   occ-statuses p = status-table p _ _ (called s sender c d) .exactly
 
   pub occ-accepted : wellFormed s ≡ true → OccSucceeds s sender c d ↔ OccAccepted s sender c d

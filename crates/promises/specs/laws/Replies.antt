@@ -1,6 +1,6 @@
 -- Replies at the front of a buffer that has room, told apart by their bytes; and the room that an entry has. Assumes nothing.
 use Prim.Native.Nat.{ℕ, _+_, _-_, _%_, _≤_, _<_}
-use mathlib.Core.Bool.{Bool, true, false, cond, not, false≢true}
+use mathlib.Core.Bool.{Bool, true, false, cond, not, false≢true, true≢false}
 use mathlib.Core.Path.{_≡_, refl, sym, ap, subst, _∙_}
 use mathlib.Core.List.{List, [], _++_}
 use native.Mathlib.Nat.{zero-add}
@@ -20,7 +20,7 @@ use Rattle.packet.specs.laws.Packet.{replied-room}
 use Rattle.poll.specs.Poll.{showsCaps, pollData}
 use Rattle.poll.specs.laws.Poll.{length-data}
 use Rattle.record.specs.Record.{workedOf}
-use Rattle.session.specs.Session.{carriedTo, carriedOf}
+use Rattle.session.specs.Session.{withHeld, carriedTo, carriedOf}
 use Rattle.session.specs.declared.Session.{Session}
 use Rattle.links.specs.laws.Links.{kind-of-back}
 use Rattle.promises.specs.Demand1.{NoRoom, errorReply}
@@ -79,6 +79,21 @@ end-full s e b n used f = go (ltb n used) (ltb (n - used) (entryLen b)) refl ref
     go true y p q f = omega (arith, ltb-true n used p)
     go false true p q f = omega (arith, ltb-true (n - used) (entryLen b) q)
     go false false p q f = absurd (false≢true f)
+
+-- one that isn't makes the used journal longer
+end-longer : (s : Session) (e b : Edit) (n : ℕ) → carriedTo s e (endOf n (s .used) b) .full ≡ false → s .used < carriedTo s e (endOf n (s .used) b) .session .used
+unfolding endOf carriedTo withHeld
+end-longer s e b n f = go (ltb n (s .used)) (ltb (n - s .used) (entryLen b)) f
+  where
+    go : (x y : Bool) → carriedTo s e (cond x Full (cond y Full (At (s .used + entryLen b)))) .full ≡ false
+        → s .used < carriedTo s e (cond x Full (cond y Full (At (s .used + entryLen b)))) .session .used
+    go true y f = absurd (true≢false f)
+    go false true f = absurd (true≢false f)
+    go false false f = omega arith
+
+pub carried-longer : (s : Session) (e : Edit) → carriedOf s e .full ≡ false → s .used < carriedOf s e .session .used
+unfolding carriedOf
+carried-longer s e f = end-longer s e (inverseOf (s .held) e) (length (s .journal)) f
 
 module _ (s : Session) (long : length (s .journal) ≡ 2048) (e : Edit) (kind : ℕ) (is : kindOf (e .change) ≡ kind) where
   entry-long : entryLen (inverseOf (s .held) e) ≡ bodyLen kind + 1

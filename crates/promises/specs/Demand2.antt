@@ -1,5 +1,5 @@
 -- Demand 2 of whole calls, in document 01's words: when a call is accepted, and what an accepted one replies.
-use Prim.Native.Nat.{ℕ, _+_, _≤_}
+use Prim.Native.Nat.{ℕ, _+_, _<_, _≤_}
 use mathlib.Core.Bool.{true, cond}
 use mathlib.Core.Logic.{_⊎_}
 use mathlib.Core.Path.{_≡_}
@@ -105,7 +105,7 @@ pub record Newest (s : Session) (e : Edit) : Type 0 where
 -- answer 7: "a cleared log's place is above the number pending or 4 pend, or the entry says a log was made and none pends". An entry never says
 -- the two changes that only commands make
 abbrev pub TakesBack : Record → Change → Type 0
-TakesBack r (Unclear place log) = (place ≤ pendingOf (r .logs)) and (pendingOf (r .logs) ≤ 3)
+TakesBack r (Unclear place log) = (place ≤ pendingOf (r .logs)) and (pendingOf (r .logs) < 4)
 TakesBack r (Unreset state made) = (made ≡ 0) ⊎ (1 ≤ pendingOf (r .logs))
 TakesBack r (SetState state) = Unit {0}
 TakesBack r (SetRole got role) = Unit {0}
@@ -117,7 +117,7 @@ TakesBack r (SetMask mask) = Unit {0}
 TakesBack r (SetDeadman deadman) = Unit {0}
 TakesBack r (SetAreas areas) = Unit {0}
 TakesBack r (Clear place log) = pendsAt place log (r .logs) ≡ true
-TakesBack r (Reset log) = (log .id ≡ 0) ⊎ (pendingOf (r .logs) ≤ 3)
+TakesBack r (Reset log) = (log .id ≡ 0) ⊎ (pendingOf (r .logs) < 4)
 
 -- none of answer 7's cases: it can be taken back, and the record that it gives is well formed
 abbrev pub Undoable : Session → Edit → Type 0

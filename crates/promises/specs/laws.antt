@@ -21,3 +21,4 @@ pub mod OccAsks
 pub mod Replies
 pub mod OccDemands
 pub mod SbeDemands
+pub mod UndoDemands

@@ -3,6 +3,7 @@ pub mod Calls
 pub mod Outcomes
 pub mod Demand1
 pub mod Demand2
+pub mod Effects
 pub mod History
 pub mod NoTrace
 pub mod Ids

@@ -22,3 +22,4 @@ pub mod Replies
 pub mod OccDemands
 pub mod SbeDemands
 pub mod UndoDemands
+pub mod Effects

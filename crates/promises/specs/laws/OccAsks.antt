@@ -34,10 +34,7 @@ use Rattle.occ.specs.Commands.{pollVerdict, clearAt, clearVerdict, stateFits, n
 use Rattle.occ.specs.Judge.{plainly, setsStatus, setsJudged, throttlesFor, throttlesJudged, frusJudged, thermalFor, thermalJudged, formatJudged, configureJudged, openTo, typeJudged, judgeOf}
 use Rattle.occ.specs.laws.Exactly.{found-exactly, log-due-exactly, sets-status-exactly}
 use Rattle.promises.specs.Demand2.{kindFor}
-
--- "A log is made for reason 1, and for 2 on a master"
-abbrev pub LogDue : ℕ → ℕ → Type 0
-LogDue role reason = (reason ≡ 1) ⊎ ((reason ≡ 2) and (role ≡ 1))
+use Rattle.promises.specs.Effects.{LogDue}
 
 module _ (r : Record) (next type : ℕ) (d : List ℕ) where
   abbrev pub place : ℕ

@@ -77,7 +77,7 @@ module _ (s : Session) (typed : TypedSession s) (sender : ℕ) (c d : List ℕ) 
     unfolding WellAsked
     asked-well z h = let g = good-exactly c .0 z in (g .0, (g .1, accepted-exactly .0 h))
 
-    well-read : WellAsked s sender c → packetStatus c ≡ 0
+    pub well-read : WellAsked s sender c → packetStatus c ≡ 0
     unfolding WellAsked
     well-read h = good-exactly c .1 (h .0, h .1 .0)
 
@@ -86,7 +86,7 @@ module _ (s : Session) (typed : TypedSession s) (sender : ℕ) (c d : List ℕ) 
     well-judged h = accepted-exactly .1 (h .1 .1)
 
     -- a verdict that refuses, polls, makes a change
-    not-refused : (n : ℕ) → verdict ≡ Refuse n → WellAsked s sender c → ⊥
+    pub not-refused : (n : ℕ) → verdict ≡ Refuse n → WellAsked s sender c → ⊥
     unfolding accepts
     not-refused n v h = false≢true (sym (ap accepts v) ∙ well-judged h)
 
@@ -104,7 +104,7 @@ module _ (s : Session) (typed : TypedSession s) (sender : ℕ) (c d : List ℕ) 
     pub asked-as : (v : Verdict) → verdict ≡ v → Asked v
     asked-as v e = subst Asked e (asks (s .held) (s .next) type (dataOf c) (s .worked) sender)
 
-    polled-type : verdict ≡ Poll → type ≡ 0x00
+    pub polled-type : verdict ≡ Poll → type ≡ 0x00
     polled-type v = poll-type (s .held) (s .next) type (dataOf c) _ (asked-as Poll v)
 
     pub made-type : (ch : Change) → verdict ≡ Make ch → NotPoll c
@@ -131,7 +131,7 @@ module _ (s : Session) (typed : TypedSession s) (sender : ℕ) (c d : List ℕ) 
         ∙ ap (λ (w : Worked). atFront (replyBytes seq 0x00 0x00 (pollData (s .held) w)) d) (f .worked-is)
         ∙ ap (λ (t : ℕ). atFront (replyBytes seq t 0x00 (successData s t)) d) (sym e)
 
-    done-is : NotPoll c → replied seq type 0x00 [] d ≡ atFront (successReply s c) d
+    pub done-is : NotPoll c → replied seq type 0x00 [] d ≡ atFront (successReply s c) d
     unfolding successReply successData
     done-is e =
         let room : 7 ≤ length d = omega (arith, p .reply) in
@@ -145,13 +145,13 @@ module _ (s : Session) (typed : TypedSession s) (sender : ℕ) (c d : List ℕ) 
 
     -- ---- demand 2
 
-    abbrev Succeeded : OccResult → Type 0
+    abbrev pub Succeeded : OccResult → Type 0
     Succeeded q = (q .outcome .answer ≡ 0) and (q .reply ≡ atFront (successReply s c) d)
 
-    abbrev Fine : Type 0
+    abbrev pub Fine : Type 0
     Fine = WellAsked s sender c and (NotPoll c → HasRoom s (occKind c))
 
-    heard-exactly : (q : OccResult) (e : Deed) → Heard s sender c d q e → Succeeded q ↔ Fine
+    pub heard-exactly : (q : OccResult) (e : Deed) → Heard s sender c d q e → Succeeded q ↔ Fine
     unfolding kept says answered
     heard-exactly q e (ill-read z) = (λ h. absurd (told-apart (packetStatus c) (sym (error-is (packetStatus c)) ∙ h .1)), λ h. absurd (z (well-read (h .0))))
     heard-exactly q e (declined z n v) = (λ h. absurd (told-apart n (sym (error-is n) ∙ h .1)), λ h. absurd (not-refused n v (h .0)))

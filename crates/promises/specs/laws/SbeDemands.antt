@@ -163,7 +163,7 @@ module _ (s : Session) (typed : TypedSession s) (r d : List ℕ) where
   made-none : (ch : Change) → requestVerdict r ≡ Make ch → carriedOf s (edit ch) .full ≡ true → NoRoom s (sbeKind r)
   made-none ch v = has-none s (typed .journal) (edit ch) (sbeKind r) (kind-is r ch (asks r ch v))
 
-  told-apart : (p q : ℕ) → requestVerdict r ≡ Refuse p q → atFront (responseBytes p q r) d ≡ atFront (responseBytes 0x00 0x00 r) d → ⊥
+  pub told-apart : (p q : ℕ) → requestVerdict r ≡ Refuse p q → atFront (responseBytes p q r) d ≡ atFront (responseBytes 0x00 0x00 r) d → ⊥
   told-apart p q v e =
       ⊎-elim (λ x. omega (arith, x, same-primary r p q 0x00 0x00 d (omega arith) (omega arith) e)) (λ x. omega (arith, x, same-primary r p q 0x00 0x00 d (omega arith) (omega arith) e))
       (declined-small r p q v .primary)

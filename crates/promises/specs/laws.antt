@@ -23,3 +23,4 @@ pub mod OccDemands
 pub mod SbeDemands
 pub mod UndoDemands
 pub mod Effects
+pub mod Answers

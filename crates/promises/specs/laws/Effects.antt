@@ -1,24 +1,22 @@
 -- What each accepted command makes of the session, and the change that demand 3 counts. Assumes nothing.
-use Prim.Native.Nat.{ℕ, _+_, _%_, _<_, _≤_}
+use Prim.Native.Nat.{ℕ, _+_, _<_}
 use mathlib.Core.Bool.{Bool, true, false, cond, not, false≢true, true≢false}
 use mathlib.Core.Logic.{_↔_}
 use mathlib.Core.Path.{_≡_, refl, sym, ap, subst, _∙_}
 use mathlib.Core.List.{List, [], _∷_}
 use native.Mathlib.Nat.{add-zero}
 use native.Mathlib.Omega.{arith}
-use lib.Dec.{eqb, leb}
-use lib.ListN.{length, getD, take, drop}
-use Rattle.wire.specs.Wire.{Bytes, pasted}
+use lib.Dec.{eqb}
+use lib.ListN.{length, getD}
+use Rattle.wire.specs.Wire.{Bytes}
 use Rattle.wire.specs.Conditions.{_and_}
 use Rattle.wire.specs.laws.Cases.{else-b, else-eq, else-le}
-use Rattle.record.specs.Record.{noLog}
 use Rattle.record.specs.declared.Log.{Log}
 use Rattle.record.specs.declared.Record.{Record}
 use Rattle.change.specs.Logs.{pendingOf, removeAt, insertAt, pendsAt}
 use Rattle.change.specs.With.{withState, withLogs}
-use Rattle.change.specs.Change.{accepted, refused, clearOf, resetOf, putWith, putOf, madeBy, noTables, backOf, kindOf, tablesFor, inverseOf}
+use Rattle.change.specs.Change.{accepted, clearOf, resetOf, putWith, putOf, madeBy, noTables, backOf, kindOf, tablesFor, inverseOf}
 use Rattle.change.specs.declared.Change.{Change}
-use Rattle.change.specs.declared.Change.the-variants.{Clear, SetState, SetRole, SetCaps, SetUser, SetThermal, SetThrottles, Reset, SetMask, SetDeadman, SetAreas}
 use Rattle.change.specs.declared.Changed.{Changed}
 use Rattle.change.specs.declared.Tables.{Tables}
 use Rattle.change.specs.declared.Edit.{Edit}
@@ -44,7 +42,7 @@ use Rattle.promises.specs.Calls.{Call, occ, sbe, undo, said}
 use Rattle.promises.specs.History.{Deed, keeps, adds, strikes, deed}
 use Rattle.promises.specs.Demand1.{OccDue}
 use Rattle.promises.specs.Demand2.{atFront, NotPoll, successReply, OccSucceeds, SbeSucceeds}
-use Rattle.promises.specs.Effects.{becomes, LogDue, OccEffect, poll, clear-log, set-state, set-role, set-caps, set-throttles, set-thermal, set-user, reset, reset-logged, SbeEffect, start-deadman, stop-deadman, set-mask, set-areas}
+use Rattle.promises.specs.Effects.{becomes, OccEffect, poll, clear-log, set-state, set-role, set-caps, set-throttles, set-thermal, set-user, reset, reset-logged, SbeEffect, start-deadman, stop-deadman, set-mask, set-areas}
 use Rattle.promises.specs.laws.Asked.{data-bytes, next-some, occ-made, sbe-made}
 use Rattle.promises.specs.laws.WellFormed.{l, room, session-is}
 use Rattle.promises.specs.laws.OccAsks as occ-asks

@@ -1,19 +1,15 @@
 -- What each OCC command asks for, with what is known of it where it is accepted. Assumes nothing.
-use Prim.Native.Nat.{ℕ, _+_, _-_, _*_, _<_, _≤_}
+use Prim.Native.Nat.{ℕ, _*_, _<_, _≤_}
 use mathlib.Core.Bool.{false, not, true≢false}
 use mathlib.Core.Path.{_≡_, refl, sym, ap, _∙_}
 use mathlib.Core.List.{List}
-use mathlib.Core.Logic.{_⊎_}
 use native.Mathlib.Omega.{arith}
 use borrow.Author.Tests.{not-false, not-true, leb-false, eqb-true}
 use lib.Dec.{eqb, ltb, leb}
 use lib.ListN.{length, getD, take, drop, replicate, length-drop}
 use Rattle.wire.specs.Wire.{beNat}
-use Rattle.wire.specs.Conditions.{_and_}
 use Rattle.wire.specs.laws.Cases.{cond-elim, cond-cases}
-use Rattle.wire.specs.laws.Tables.{fails}
 use Rattle.record.specs.Record.{noLog, noThrottles}
-use Rattle.record.specs.declared.Log.{Log}
 use Rattle.record.specs.declared.Caps.{Caps}
 use Rattle.record.specs.declared.Throttles.{Throttles}
 use Rattle.record.specs.declared.Record.{Record}
@@ -29,10 +25,9 @@ use Rattle.sets.specs.laws.Sent.{sets-sent, frus-sent}
 use Rattle.occ.specs.declared.Verdict.{Verdict}
 use Rattle.occ.specs.declared.Verdict.the-variants.{Refuse, Poll, Make}
 use Rattle.occ.specs.declared.Judged.{Judged}
-use Rattle.occ.specs.Conditions.{Pends}
 use Rattle.occ.specs.Commands.{pollVerdict, clearAt, clearVerdict, stateFits, notReady, stateVerdict, roleVerdict, capsFor, sentCaps, capsVerdict, userAllowed, userFor, userVerdict, logDue, resetFor, resetVerdict}
 use Rattle.occ.specs.Judge.{plainly, setsStatus, setsJudged, throttlesFor, throttlesJudged, frusJudged, thermalFor, thermalJudged, formatJudged, configureJudged, openTo, typeJudged, judgeOf}
-use Rattle.occ.specs.laws.Exactly.{found-exactly, log-due-exactly, sets-status-exactly}
+use Rattle.occ.specs.laws.Exactly.{log-due-exactly, sets-status-exactly}
 use Rattle.promises.specs.Demand2.{kindFor}
 use Rattle.promises.specs.Effects.{LogDue}
 

@@ -1,12 +1,11 @@
 -- Demands 1 and 2 of the call `occ`, read off its ways. Assumes nothing.
-use Prim.Native.Nat.{ℕ, _+_, _%_, _≤_, _<_}
-use mathlib.Core.Bool.{true, false, cond, false≢true}
-use mathlib.Core.Logic.{_↔_, inl, inr, ⊎-elim}
+use Prim.Native.Nat.{ℕ, _+_, _≤_}
+use mathlib.Core.Bool.{true, false, false≢true}
+use mathlib.Core.Logic.{_↔_, _⊎_, inl, inr, ⊎-elim}
 use mathlib.Core.Path.{_≡_, refl, sym, ap, subst, _∙_}
 use mathlib.Core.List.{List, []}
 use native.Mathlib.Omega.{arith}
 use native.Mathlib.Nat.{not-le-of-lt}
-use lib.Dec.{eqb}
 use lib.ListN.{length, getD}
 use Rattle.wire.specs.Conditions.{_and_, is, row}
 use Rattle.wire.specs.laws.Cases.{else-eq}
@@ -20,7 +19,6 @@ use Rattle.packet.specs.laws.Exactly.{status-summed, status-unsummed, status-ov
 use Rattle.poll.specs.Poll.{pollData}
 use Rattle.poll.specs.laws.Poll.{data-fits}
 use Rattle.occ.specs.Conditions.{CommandOk, accepts}
-use Rattle.occ.specs.Judge.{judgeOf}
 use Rattle.occ.specs.declared.Verdict.{Verdict}
 use Rattle.occ.specs.declared.Verdict.the-variants.{Refuse, Poll, Make}
 use Rattle.occ.specs.Statuses.{CommandStatus}
@@ -31,13 +29,12 @@ use Rattle.session.specs.laws.Session.{Formed, formed}
 use Rattle.session.specs.declared.Session.{Session}
 use Rattle.occ_call.specs.Occ.{OccResult, answered, kept, says, occCall}
 use Rattle.links.specs.Typed.{TypedSession}
-use Rattle.promises.specs.Calls.{occ}
-use Rattle.promises.specs.History.{Deed, keeps, adds, deed}
+use Rattle.promises.specs.History.{Deed}
 use Rattle.promises.specs.Demand1.{NoRoom, OccAnswer, OccDue, OccStatus, errorReply, occError}
 use Rattle.promises.specs.Demand2.{atFront, HasRoom, KnownSender, WellAsked, occKind, NotPoll, OccAccepted, successData, successReply, OccSucceeds}
 use Rattle.promises.specs.laws.OccAsks.{Asks, asks, poll-type, made-kind}
 use Rattle.promises.specs.laws.OccWays.{judged, edit, Heard, ill-read, declined, polled, no-room, carried, Called, ill-formed, unknown, short-reply, short-command, due, called}
-use Rattle.promises.specs.laws.Replies.{replied-front, status-byte, length-byte, error-bytes, success-fits, success-other, has-room, has-none}
+use Rattle.promises.specs.laws.Replies.{replied-front, length-byte, error-bytes, success-other, has-room, has-none}
 
 abbrev Answers : OccResult → ℕ → Type 0
 Answers q n = q .outcome .answer ≡ n
@@ -263,3 +260,27 @@ module _ (s : Session) (typed : TypedSession s) (sender : ℕ) (c d : List ℕ) 
   pub occ-accepted : wellFormed s ≡ true → OccSucceeds s sender c d ↔ OccAccepted s sender c d
   unfolding OccSucceeds OccAccepted
   occ-accepted w = success w _ _ (called s sender c d)
+
+  -- ---- answer 0: a reply, good or error, is written
+
+  heard-reply : OccDue s sender c d → (q : OccResult) (e : Deed) → Heard s sender c d q e → q .outcome .answer ≡ 0
+      → (q .reply ≡ atFront (successReply s c) d) ⊎ ((n : ℕ) × (q ≡ occError s c d n))
+  unfolding says kept answered
+  heard-reply p q e (ill-read z) h = inr (packetStatus c, says-error p (packetStatus c) (packetStatus c) refl)
+  heard-reply p q e (declined z n v) h = inr (n, says-error p n n refl)
+  heard-reply p q e (polled z v) h = inl (poll-is p (polled-type p v))
+  heard-reply p q e (no-room z ch v full) h = absurd (omega (arith, h))
+  heard-reply p q e (carried z ch v fits) h = inl (done-is p (made-type p ch v))
+
+  called-reply : (q : OccResult) (e : Deed) → Called s sender c d q e → q .outcome .answer ≡ 0
+      → (q .reply ≡ atFront (successReply s c) d) ⊎ ((n : ℕ) × (q ≡ occError s c d n))
+  unfolding kept answered
+  called-reply q e (ill-formed x) h = absurd (omega (arith, h))
+  called-reply q e (unknown w x) h = absurd (omega (arith, h))
+  called-reply q e (short-reply w k x) h = absurd (omega (arith, h))
+  called-reply q e (short-command w k l x) h = absurd (omega (arith, h))
+  called-reply q e (due p r g x) h = heard-reply p r g x h
+
+  pub occ-reply : occCall s sender c d .outcome .answer ≡ 0
+      → (occCall s sender c d .reply ≡ atFront (successReply s c) d) ⊎ ((n : ℕ) × (occCall s sender c d ≡ occError s c d n))
+  occ-reply = called-reply _ _ (called s sender c d)

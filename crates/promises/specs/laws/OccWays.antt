@@ -1,6 +1,7 @@
 -- The ways of the call `occ`, with the tests that led there, and the deed that each counts as. Assumes nothing.
 use Prim.Native.Nat.{ℕ, _≤_, _<_}
 use mathlib.Core.Bool.{true, false, cond, not, true≢false}
+use mathlib.Core.Logic.{_↔_}
 use mathlib.Core.Path.{_≡_, refl, sym, _∙_}
 use mathlib.Core.List.{List, []}
 use borrow.Author.Tests.{not-false, not-true, eqb-true, eqb-false, ltb-true, ltb-false}
@@ -8,7 +9,6 @@ use lib.Dec.{eqb, ltb}
 use lib.ListN.{length, getD}
 use Rattle.wire.specs.laws.Cases.{cond-cases}
 use Rattle.wire.specs.laws.Chains.{holds, eq-holds, or-else}
-use Rattle.wire.specs.laws.Tables.{fails}
 use Rattle.change.specs.declared.Change.{Change}
 use Rattle.change.specs.declared.Edit.{Edit}
 use Rattle.packet.specs.Packet.{packetStatus, dataOf, noLogId, replied}
@@ -26,13 +26,9 @@ use Rattle.promises.specs.Demand2.{KnownSender}
 use Rattle.promises.specs.History.{Deed, keeps, adds, adding, occVerdict, occJudgement, deed}
 use Rattle.promises.specs.laws.Demand3.{by-both}
 
-known-exactly : (sender : ℕ) → (knownSender sender ≡ true) → KnownSender sender
+known-exactly : (sender : ℕ) → (knownSender sender ≡ true) ↔ KnownSender sender
 unfolding knownSender
-known-exactly sender = or-else holds {x = true} refl (eq-holds sender 0x10) (eq-holds sender 0x20) .0
-
-unknown-exactly : (sender : ℕ) → KnownSender sender → knownSender sender ≡ true
-unfolding knownSender
-unknown-exactly sender = or-else holds {x = true} refl (eq-holds sender 0x10) (eq-holds sender 0x20) .1
+known-exactly sender = or-else holds {x = true} refl (eq-holds sender 0x10) (eq-holds sender 0x20)
 
 module _ (s : Session) (sender : ℕ) (c d : List ℕ) where
   abbrev pub judged : Judged
@@ -80,8 +76,8 @@ module _ (s : Session) (sender : ℕ) (c d : List ℕ) where
   called =
       cond-cases Refused (not (wellFormed s)) (λ f. ill-formed (λ w. true≢false (sym w ∙ not-true _ f)))
       (λ f. let w = not-false _ f in
-      cond-cases Refused (not (knownSender sender)) (λ g. unknown w (λ k. true≢false (sym (unknown-exactly sender k) ∙ not-true _ g)))
-      (λ g. let k = known-exactly sender (not-false _ g) in
+      cond-cases Refused (not (knownSender sender)) (λ g. unknown w (λ k. true≢false (sym (known-exactly sender .1 k) ∙ not-true _ g)))
+      (λ g. let k = known-exactly sender .0 (not-false _ g) in
       cond-cases Refused (ltb (length d) 4096) (λ h. short-reply w k (ltb-true _ _ h))
       (λ h. cond-cases Refused (ltb (length c) 4) (λ l. short-command w k (ltb-false _ _ h) (ltb-true _ _ l))
       (λ l. due (record { formed = w; known = k; reply = ltb-false _ _ h; command = ltb-false _ _ l }) _ _ heard))))

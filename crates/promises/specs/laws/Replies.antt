@@ -2,7 +2,7 @@
 use Prim.Native.Nat.{ℕ, _+_, _-_, _%_, _≤_, _<_}
 use mathlib.Core.Bool.{Bool, true, false, cond, not, false≢true, true≢false}
 use mathlib.Core.Path.{_≡_, refl, sym, ap, subst, _∙_}
-use mathlib.Core.List.{List, [], _++_}
+use mathlib.Core.List.{List, _++_}
 use native.Mathlib.Nat.{zero-add}
 use native.Mathlib.Omega.{arith}
 use borrow.Author.Tests.{ltb-true}
@@ -38,10 +38,6 @@ module _ (seq kind status : ℕ) (part d : List ℕ) where
   pub replied-front : 7 + length part ≤ length d → replied seq kind status part d ≡ atFront (replyBytes seq kind status part) d
   replied-front h = replied-room seq kind status part d h ∙ front-is (replyBytes seq kind status part) d
 
-  pub status-byte : getD (atFront (replyBytes seq kind status part) d) 2 0 ≡ status
-  unfolding replyBytes unsummed
-  status-byte = refl
-
   pub length-byte : getD (atFront (replyBytes seq kind status part) d) 4 0 ≡ length part % 256
   unfolding replyBytes unsummed toBE
   length-byte = refl
@@ -61,9 +57,6 @@ module _ (s : Session) (type : ℕ) where
       cond-elim (λ (l : List ℕ). P (length l)) (eqb type 0x00)
       (subst P (sym (length-data (s .held) (workedOf (s .held)))) (cond-elim P (not (showsCaps (s .held .role) (s .held .received .caps))) plain caps))
       none
-
-  pub success-fits : length (successData s type) ≤ 60
-  success-fits = success-length (λ (n : ℕ). n ≤ 60) (omega arith) (omega arith) (omega arith)
 
   pub success-other : length (successData s type) % 256 ≡ 1 → ⊥
   success-other = success-length (λ (n : ℕ). n % 256 ≡ 1 → ⊥) (λ e. omega (arith, e)) (λ e. omega (arith, e)) (λ e. omega (arith, e))

@@ -9,8 +9,8 @@ use native.Mathlib.Nat.{not-le-of-lt}
 use borrow.Author.Tests.{not-false, not-true, ltb-true, ltb-false}
 use lib.Dec.{eqb, ltb}
 use lib.ListN.{length, getD}
-use Rattle.wire.specs.Wire.{toBE, pasted}
-use Rattle.wire.specs.Conditions.{_and_, is, Rows, here, later, row}
+use Rattle.wire.specs.Wire.{toBE}
+use Rattle.wire.specs.Conditions.{_and_, is, here, later, row}
 use Rattle.wire.specs.laws.Cases.{cond-cases}
 use Rattle.wire.specs.laws.Tables.{ByTable, by-is, hit, miss}
 use Rattle.change.specs.Change.{noTables, kindOf}
@@ -18,7 +18,7 @@ use Rattle.change.specs.declared.Change.{Change}
 use Rattle.change.specs.declared.Change.the-variants.{SetMask, SetDeadman, SetAreas}
 use Rattle.change.specs.declared.Edit.{Edit}
 use Rattle.sbe.specs.Mailbox.{flagsOf, wordAt, requestVerdict, bellOf, responseBytes}
-use Rattle.sbe.specs.Conditions.{grants, Names, CoresAsked, AreasAsked, Accepted, startAsked, stopAsked, areasAsked}
+use Rattle.sbe.specs.Conditions.{grants, Names, Accepted, startAsked, stopAsked, areasAsked}
 use Rattle.sbe.specs.Statuses.{Status, RequestStatus}
 use Rattle.sbe.specs.declared.Verdict.{Verdict}
 use Rattle.sbe.specs.declared.Verdict.the-variants.{Refuse, Make}
@@ -242,3 +242,17 @@ module _ (s : Session) (typed : TypedSession s) (r d : List ℕ) where
 
   pub sbe-statuses : SbeDue s r d → (p q : ℕ) → p < 65536 → q < 65536 → (sbeCall s r d ≡ sbeError s r d (p, q)) ↔ RequestStatus r (p, q)
   sbe-statuses y p q m n = status-table y p q m n _ _ called
+
+  -- ---- answer 0: a response, good or error, is written
+
+  called-reply : (x : SbeResult) (e : Deed) → Called x e → x .outcome .answer ≡ 0 → (x .reply ≡ atFront (responseBytes 0x00 0x00 r) d) ⊎ ((n : Status) × (x ≡ sbeError s r d n))
+  unfolding kept responds rung
+  called-reply x e (ill-formed h) z = absurd (omega (arith, z))
+  called-reply x e (short-reply w h) z = absurd (omega (arith, z))
+  called-reply x e (short-request w l h) z = absurd (omega (arith, z))
+  called-reply x e (due _ _ _ (declined a b v)) z = inr ((a, b), error-is a b a b (refl, refl))
+  called-reply x e (due _ _ _ (no-room ch v full)) z = absurd (omega (arith, z))
+  called-reply x e (due _ _ _ (carried ch v fits)) z = inl (front-is (responseBytes 0x00 0x00 r) d)
+
+  pub sbe-reply : sbeCall s r d .outcome .answer ≡ 0 → (sbeCall s r d .reply ≡ atFront (responseBytes 0x00 0x00 r) d) ⊎ ((n : Status) × (sbeCall s r d ≡ sbeError s r d n))
+  sbe-reply = called-reply _ _ called

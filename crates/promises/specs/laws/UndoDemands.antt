@@ -1,5 +1,5 @@
 -- The ways of the call `undo`, and demands 1 and 2 read off them. Assumes nothing.
-use Prim.Native.Nat.{ℕ, suc, _+_, _-_, _≤_, _<_}
+use Prim.Native.Nat.{ℕ, suc, _+_, _-_, _≤_}
 use mathlib.Core.Bool.{Bool, true, false, cond, not, false≢true, true≢false}
 use mathlib.Core.Logic.{_↔_}
 use mathlib.Core.Path.{_≡_, refl, sym, ap, subst, _∙_}
@@ -9,13 +9,12 @@ use borrow.Author.Tests.{not-false, not-true, eqb-true, eqb-false}
 use lib.Dec.{eqb}
 use lib.ListN.{length, take, drop}
 use lib.Seq.{length-take-le}
-use Rattle.wire.specs.Conditions.{_and_, is, here, later}
+use Rattle.wire.specs.Conditions.{is}
 use Rattle.wire.specs.laws.Cases.{else-eq, else-ne, cond-cases}
 use Rattle.wire.specs.laws.Chains.{eq-holds, lt-passes, le-passes, zero-passes, not-passes, unless, unless-last, or-else}
 use Rattle.wire.specs.laws.Tables.{ByTable, by-is, hit, miss}
 use Rattle.wire.specs.laws.Wire.{tail-part, part-of-part}
 use Rattle.record.specs.declared.Record.{Record}
-use Rattle.change.specs.Logs.{pendingOf, pendsAt}
 use Rattle.change.specs.Change.{accepted, refused, clearOf, unclearOf, resetOf, unresetOf, putWith, putOf, kindOf}
 use Rattle.change.specs.declared.Change.{Change}
 use Rattle.change.specs.declared.Change.the-variants.{Clear, Unclear, SetState, SetRole, SetCaps, SetUser, SetThermal, SetThrottles, Reset, Unreset, SetMask, SetDeadman, SetAreas}
@@ -23,21 +22,18 @@ use Rattle.change.specs.declared.Changed.{Changed}
 use Rattle.change.specs.declared.Tables.{Tables}
 use Rattle.change.specs.declared.Edit.{Edit}
 use Rattle.formed.specs.Formed.{recordOk}
-use Rattle.entries.specs.Entries.{Entry, bodyLen, bytesOf, written, Scan, between, within, unknown, scan, newestAt, readingOf}
+use Rattle.entries.specs.Entries.{Entry, bodyLen, bytesOf, written, Scan, between, scan, newestAt, readingOf}
 use Rattle.entries.specs.laws.Entries.{scan-written, scan-proper, drop-newest, length-written, newest-written}
-use Rattle.entries.specs.declared.Reading.{Reading}
-use Rattle.entries.specs.declared.Reading.the-variants.{Whole}
 use Rattle.journal.specs.Read.{foundFor, tablesIn, badGot, gotFor, gotOf, valuesOk, entryOk, allOk}
 use Rattle.journal.specs.declared.Found.{Found}
 use Rattle.journal.specs.declared.Found.the-variants.{Good, Bad}
-use Rattle.journal.specs.declared.Got.{Got}
 use Rattle.session.specs.Session.{wellFormed}
-use Rattle.session.specs.laws.Session.{Formed, formed}
+use Rattle.session.specs.laws.Session.{formed}
 use Rattle.session.specs.declared.Session.{Session}
 use Rattle.undo_call.specs.Undo.{Undone, notUndone, undone, undonePut, undoneWith, undoneFound, undoneGot, undoneAt, undoneRead, undoneNewest, undoCall}
 use Rattle.promises.specs.Demand1.{UndoAnswer}
 use Rattle.promises.specs.Demand2.{Newest, TakesBack, Undoable, UndoAccepted}
-use Rattle.promises.specs.laws.WellFormed.{Reads, reads}
+use Rattle.promises.specs.laws.WellFormed.{reads}
 
 -- ---- what can be put in
 

@@ -2,12 +2,17 @@
 use Prim.Native.Nat.{ℕ, _+_, _*_, _%_}
 use mathlib.Core.Bool.{cond, not}
 use mathlib.Core.List.{List, []}
+use mathlib.Core.Path.{_≡_}
 use lib.ListN.{length}
 use lib.Dec.{eqb}
+use Rattle.wire.specs.Conditions.{_and_}
 use Rattle.session.specs.Session.{freshSession}
 use Rattle.image.specs.Image.{imageLength, imageOf}
 use Rattle.inplace.specs.declared.Told.{Told}
 use Rattle.inplace.specs.InPlace.{Left, noImage}
+use Rattle.occ_call.specs.Occ.{occOn}
+use Rattle.sbe_call.specs.Sbe.{sbeOn}
+use Rattle.undo_call.specs.Undo.{undoOn}
 
 -- the answer in the low 16 bits, what stands beside it in the high 16
 unfoldable pub packed : Told → ℕ
@@ -20,3 +25,19 @@ answerIn result = result % 65536
 unfoldable pub freshOn : List ℕ → Left
 freshOn b =
     cond (not (eqb (length b) imageLength)) (noImage b []) (record { told = record { answer = 0; beside = 0 }; image = imageOf freshSession; reply = [] })
+
+-- ---- what the contracts allow: the result, and the lent bytes and the reply buffer as they are left
+
+abbrev pub FreshReturns : List ℕ → ℕ → List ℕ → Type 0
+FreshReturns b result image = (result ≡ packed (freshOn b .told)) and (image ≡ freshOn b .image)
+
+abbrev pub OccReturns : List ℕ → ℕ → List ℕ → List ℕ → ℕ → List ℕ → List ℕ → Type 0
+OccReturns b sender c d result image reply =
+    (result ≡ packed (occOn b sender c d .told)) and (image ≡ occOn b sender c d .image) and (reply ≡ occOn b sender c d .reply)
+
+abbrev pub SbeReturns : List ℕ → List ℕ → List ℕ → ℕ → List ℕ → List ℕ → Type 0
+SbeReturns b r d result image reply =
+    (result ≡ packed (sbeOn b r d .told)) and (image ≡ sbeOn b r d .image) and (reply ≡ sbeOn b r d .reply)
+
+abbrev pub UndoReturns : List ℕ → ℕ → List ℕ → Type 0
+UndoReturns b result image = (result ≡ packed (undoOn b .told)) and (image ≡ undoOn b .image)

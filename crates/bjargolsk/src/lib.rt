@@ -1,10 +1,7 @@
 // The calls for C: those of `occ_call`, `sbe_call` and `undo_call` under C names. A result has the answer in its low 16 bits and what stands
 // beside it in the high 16.
 ghost use mathlib.Core.Path.{_≡_};
-ghost use Rattle.occ_call.specs.Occ.{occOn};
-ghost use Rattle.sbe_call.specs.Sbe.{sbeOn};
-ghost use Rattle.undo_call.specs.Undo.{undoOn};
-ghost use Rattle.bjargolsk.specs.Calls.{packed, freshOn};
+ghost use Rattle.bjargolsk.specs.Calls.{packed, FreshReturns, OccReturns, SbeReturns, UndoReturns};
 use inplace::Told;
 
 fn pack(t: Told) -> u32
@@ -16,8 +13,7 @@ fn pack(t: Told) -> u32
 // The fresh session; bytes of another length than an image's are answered by 1 and kept.
 #[no_mangle]
 pub extern "C" fn bjargolsk_fresh(lent: &mut [u8]) -> u32
-    ensures { λ x. ⌜ x ≡ packed (freshOn (now (lent .entry)) .told) ⌝ }
-    ensures { λ _. ⌜ now (lent .exit) ≡ freshOn (now (lent .entry)) .image ⌝ }
+    ensures { λ x. ⌜ FreshReturns (now (lent .entry)) x (now (lent .exit)) ⌝ }
 {
     if lent.len() != image::LENGTH {
         return pack(inplace::answer_with(1, 0));
@@ -34,9 +30,7 @@ pub extern "C" fn bjargolsk_occ(
     command: &[u8],
     reply: &mut [u8],
 ) -> u32
-    ensures { λ x. ⌜ x ≡ packed (occOn (now (lent .entry)) sender (now (command .entry)) (now (reply .entry)) .told) ⌝ }
-    ensures { λ _. ⌜ now (lent .exit) ≡ occOn (now (lent .entry)) sender (now (command .entry)) (now (reply .entry)) .image ⌝ }
-    ensures { λ _. ⌜ now (reply .exit) ≡ occOn (now (lent .entry)) sender (now (command .entry)) (now (reply .entry)) .reply ⌝ }
+    ensures { λ x. ⌜ OccReturns (now (lent .entry)) sender (now (command .entry)) (now (reply .entry)) x (now (lent .exit)) (now (reply .exit)) ⌝ }
 {
     pack(occ_call::occ(lent, sender, command, reply))
 }
@@ -44,9 +38,7 @@ pub extern "C" fn bjargolsk_occ(
 // A mailbox request, answered; the high 16 bits are the doorbell.
 #[no_mangle]
 pub extern "C" fn bjargolsk_sbe(lent: &mut [u8], request: &[u8], reply: &mut [u8]) -> u32
-    ensures { λ x. ⌜ x ≡ packed (sbeOn (now (lent .entry)) (now (request .entry)) (now (reply .entry)) .told) ⌝ }
-    ensures { λ _. ⌜ now (lent .exit) ≡ sbeOn (now (lent .entry)) (now (request .entry)) (now (reply .entry)) .image ⌝ }
-    ensures { λ _. ⌜ now (reply .exit) ≡ sbeOn (now (lent .entry)) (now (request .entry)) (now (reply .entry)) .reply ⌝ }
+    ensures { λ x. ⌜ SbeReturns (now (lent .entry)) (now (request .entry)) (now (reply .entry)) x (now (lent .exit)) (now (reply .exit)) ⌝ }
 {
     pack(sbe_call::sbe(lent, request, reply))
 }
@@ -54,8 +46,7 @@ pub extern "C" fn bjargolsk_sbe(lent: &mut [u8], request: &[u8], reply: &mut [u8
 // The newest change taken back; the high 16 bits are its kind.
 #[no_mangle]
 pub extern "C" fn bjargolsk_undo(lent: &mut [u8]) -> u32
-    ensures { λ x. ⌜ x ≡ packed (undoOn (now (lent .entry)) .told) ⌝ }
-    ensures { λ _. ⌜ now (lent .exit) ≡ undoOn (now (lent .entry)) .image ⌝ }
+    ensures { λ x. ⌜ UndoReturns (now (lent .entry)) x (now (lent .exit)) ⌝ }
 {
     pack(undo_call::undo(lent))
 }

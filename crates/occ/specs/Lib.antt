@@ -1,4 +1,5 @@
 pub mod Commands
 pub mod Judge
 pub mod Conditions
+pub mod Statuses
 pub mod laws

@@ -2,8 +2,10 @@
 use Prim.Native.Nat.{ℕ}
 use mathlib.Core.Bool.{Bool, true, cond, not}
 use mathlib.Core.List.{List, []}
+use mathlib.Core.Path.{_≡_}
 use lib.ListN.{length, getD}
 use lib.Dec.{ltb, eqb}
+use Rattle.wire.specs.Conditions.{_and_}
 use Rattle.change.specs.declared.Tables.{Tables}
 use Rattle.change.specs.declared.Edit.{Edit}
 use Rattle.packet.specs.Packet.{packetStatus, dataOf, noLogId, replied}
@@ -17,6 +19,7 @@ use Rattle.occ.specs.declared.Judged.{Judged}
 use Rattle.session.specs.Session.{Carried, wellFormed, carriedOf}
 use Rattle.session.specs.declared.Session.{Session}
 use Rattle.image.specs.Image.{imageLength, imageOf, sessionOf}
+use Rattle.inplace.specs.declared.Told.{Told}
 use Rattle.inplace.specs.InPlace.{Left, noImage}
 
 pub record Outcome : Type 0 where
@@ -100,3 +103,8 @@ occLeft q = record { told = record { answer = q .outcome .answer; beside = 0 }; 
 
 unfoldable pub occOn : List ℕ → ℕ → List ℕ → List ℕ → Left
 occOn b sender c d = cond (not (eqb (length b) imageLength)) (noImage b d) (occLeft (occCall (sessionOf b) sender c d))
+
+-- what the contract allows: what is told, and the lent bytes and the reply buffer as they are left
+abbrev pub OccAllows : List ℕ → ℕ → List ℕ → List ℕ → Told → List ℕ → List ℕ → Type 0
+OccAllows b sender c d told image reply =
+    (told ≡ occOn b sender c d .told) and (image ≡ occOn b sender c d .image) and (reply ≡ occOn b sender c d .reply)

@@ -2,7 +2,7 @@
 ghost use mathlib.Core.Path.{_≡_};
 ghost use Prim.Native.Nat.{_≤_};
 ghost use lib.ListN.{length};
-ghost use Rattle.occ_call.specs.Occ.{knownSender, refusalOf, askedOf, toldOf, occRead, occLeft, occOn};
+ghost use Rattle.occ_call.specs.Occ.{knownSender, refusalOf, askedOf, toldOf, occRead, occLeft, OccAllows};
 ghost use Rattle.image.specs.Image.{journalIn, sessionAt};
 ghost use Rattle.inplace.specs.InPlace.{Stands};
 use change::Edit;
@@ -102,9 +102,7 @@ fn hear(lent: &mut [u8], h: Head, sender: u8, command: &[u8], reply: &mut [u8]) 
 
 // The public call, on a session that is lent as its image's bytes.
 pub fn occ(lent: &mut [u8], sender: u8, command: &[u8], reply: &mut [u8]) -> Told
-    ensures { λ x. ⌜ x ≡ occOn (now (lent .entry)) sender (now (command .entry)) (now (reply .entry)) .told ⌝ }
-    ensures { λ _. ⌜ now (lent .exit) ≡ occOn (now (lent .entry)) sender (now (command .entry)) (now (reply .entry)) .image ⌝ }
-    ensures { λ _. ⌜ now (reply .exit) ≡ occOn (now (lent .entry)) sender (now (command .entry)) (now (reply .entry)) .reply ⌝ }
+    ensures { λ x. ⌜ OccAllows (now (lent .entry)) sender (now (command .entry)) (now (reply .entry)) x (now (lent .exit)) (now (reply .exit)) ⌝ }
 {
     if lent.len() != image::LENGTH {
         return inplace::answer_with(1, 0);

@@ -1,5 +1,9 @@
 pub mod Promises
 pub mod Calls
+pub mod Outcomes
+pub mod Demand1
+pub mod Demand2
+pub mod Effects
 pub mod History
 pub mod NoTrace
 pub mod Ids

@@ -1,37 +1,42 @@
 -- What the stand-in promises, each in a few lines, each proved by pointing at the file that does the work.
 -- s, p: a session, a run of calls; c: a call with any bytes and any buffer. The calls are those of the public contracts (Calls.antt).
-use Prim.Native.Nat.{ℕ, _+_}
+use Prim.Native.Nat.{ℕ, _+_, _<_}
 use mathlib.Core.Bool.{true}
 use mathlib.Core.Logic.{_↔_, _⊎_}
-use mathlib.Core.Path.{_≡_, sym, ap, _∙_}
+use mathlib.Core.Path.{_≡_, ap, _∙_}
 use mathlib.Core.List.{List, []}
 use native.Mathlib.Omega.{arith}
 use lib.ListN.{length, getD}
-use Rattle.wire.specs.Wire.{Bytes}
+use Rattle.wire.specs.Wire.{Bytes, pasted}
 use Rattle.record.specs.Record.{freshRecord, workedOf}
-use Rattle.record.specs.declared.Record.{Record}
-use Rattle.record.specs.declared.Worked.{Worked}
+use Rattle.wire.specs.Conditions.{_and_}
+use Rattle.change.specs.Change.{putOf}
 use Rattle.change.specs.declared.Edit.{Edit}
-use Rattle.packet.specs.Packet.{packetStatus, replied}
-use Rattle.packet.specs.laws.Exactly.{good-exactly}
-use Rattle.packet.specs.Conditions.{Fits, Summed}
-use Rattle.occ.specs.Judge.{judgeOf}
-use Rattle.occ.specs.laws.Exactly.{judge-exactly}
-use Rattle.occ.specs.Conditions.{CommandOk, accepts}
+use Rattle.packet.specs.Packet.{dataOf, replied}
 use Rattle.sbe.specs.Mailbox as mailbox
-use Rattle.sbe.specs.Conditions.{grants, Accepted}
-use Rattle.sbe.specs.laws.Exactly.{accepted-exactly}
+use Rattle.sbe.specs.Statuses.{Status, RequestStatus}
 use Rattle.session.specs.Session.{freshSession, wellFormed, madeOf}
 use Rattle.session.specs.declared.Session.{Session}
-use Rattle.occ_call.specs.Occ.{occCall}
+use Rattle.inplace.specs.declared.Told.{Told}
+use Rattle.occ_call.specs.Occ.{occCall, OccAllows}
 use Rattle.occ_call.specs.laws.Came as occ-came
-use Rattle.sbe_call.specs.Sbe.{sbeCall}
+use Rattle.sbe_call.specs.Sbe.{sbeCall, SbeAllows}
 use Rattle.sbe_call.specs.laws.Came as sbe-came
-use Rattle.undo_call.specs.Undo.{undoCall}
+use Rattle.undo_call.specs.Undo.{undoCall, UndoAllows}
 use Rattle.undo_call.specs.laws.Came as undo-came
-use Rattle.promises.specs.Calls.{Call, said}
+use Rattle.promises.specs.Calls.{Call, occ, sbe, said}
+use Rattle.promises.specs.Demand1.{OccAnswer, SbeAnswer, UndoAnswer, OccDue, SbeDue, OccStatus, occError, sbeError}
+use Rattle.promises.specs.Demand2.{atFront, NotPoll, successReply, OccSucceeds, OccAccepted, SbeSucceeds, SbeAccepted, UndoAccepted}
+use Rattle.promises.specs.Effects.{OccEffect, SbeEffect}
+use Rattle.promises.specs.laws.OccDemands.{occ-answers, occ-statuses, occ-reply, occ-accepted}
+use Rattle.promises.specs.laws.SbeDemands.{sbe-answers, sbe-statuses, sbe-reply, sbe-accepted}
+use Rattle.promises.specs.laws.UndoDemands.{undo-answers, undo-accepted}
+use Rattle.promises.specs.laws.Answers.{one-exactly}
+use Rattle.promises.specs.laws.Effects.{occ-effect, sbe-effect, occ-deed, sbe-deed, deed-shown}
 use Rattle.promises.specs.History.{adds, deed, logsMade, run, start, OfBytes, AllOfBytes, Demand3}
 use Rattle.promises.specs.Ids.{idsMade, countdown}
+use Rattle.promises.specs.Outcomes.{OneOutcome}
+use Rattle.promises.specs.laws.Outcomes.{one-value, one-pair, one-triple}
 use Rattle.promises.specs.laws.Fresh.{fresh-start, fresh-still}
 use Rattle.promises.specs.laws.Demand3.{demand3, ids-in-order, invariant, next-is}
 use Rattle.links.specs.Typed.{TypedSession}
@@ -40,11 +45,44 @@ use Rattle.promises.specs.Later.{Wish, AsIf}
 use Rattle.promises.specs.laws.NoTrace.{trace-free, no-log-no-trace, later-alike}
 use Rattle.promises.specs.NoTrace.{withNext, after, tried}
 use Rattle.image.specs.Image.{imageLength, imageOf}
-use Rattle.bjargolsk.specs.Calls.{freshOn}
+use Rattle.bjargolsk.specs.Calls.{freshOn, FreshReturns, OccReturns, SbeReturns, UndoReturns}
 use Rattle.promises.specs.laws.Lent.{fresh-image, lent-run, lent-next}
 use Rattle.promises.specs.Lent.{lent, carriedOver, lentRun}
 use Rattle.promises.specs.Examples.{All, holds, table}
 use Rattle.promises.specs.laws.Examples.{examples}
+
+-- ---- demand 1, document 01's tables (Demand1.antt): a number is given exactly when its row holds and none before it
+
+-- the session answers; 1 exactly when the session isn't well formed, from every call
+pub answer-of-occ : (s : Session) → TypedSession s → (sender : ℕ) (c d : List ℕ) (n : ℕ) → (occCall s sender c d .outcome .answer ≡ n) ↔ OccAnswer s sender c d n
+answer-of-occ = occ-answers
+
+pub answer-of-sbe : (s : Session) → TypedSession s → (r d : List ℕ) (n : ℕ) → (sbeCall s r d .outcome .answer ≡ n) ↔ SbeAnswer s r d n
+answer-of-sbe = sbe-answers
+
+pub answer-of-undo : (s : Session) (n : ℕ) → (undoCall s .answer ≡ n) ↔ UndoAnswer s n
+answer-of-undo = undo-answers
+
+pub answer-1-exactly-when : (s : Session) → TypedSession s → (c : Call) → (said s c .answer ≡ 1) ↔ (wellFormed s ≡ true → ⊥)
+answer-1-exactly-when = one-exactly
+
+-- the statuses, where none of answers 1 to 4 is due: the session as it was, and every byte of the error reply. p, q: primary, secondary
+pub status-of-occ : (s : Session) → TypedSession s → (sender : ℕ) (c d : List ℕ) → OccDue s sender c d → (n : ℕ)
+    → (occCall s sender c d ≡ occError s c d n) ↔ OccStatus s sender c n
+status-of-occ = occ-statuses
+
+pub status-of-sbe : (s : Session) → TypedSession s → (r d : List ℕ) → SbeDue s r d → (p q : ℕ) → p < 65536 → q < 65536
+    → (sbeCall s r d ≡ sbeError s r d (p, q)) ↔ RequestStatus r (p, q)
+status-of-sbe = sbe-statuses
+
+-- answer 0: a reply, good or error, is written, and stands at the front of the buffer
+pub reply-of-occ : (s : Session) → TypedSession s → (sender : ℕ) (c d : List ℕ) → occCall s sender c d .outcome .answer ≡ 0
+    → (occCall s sender c d .reply ≡ atFront (successReply s c) d) ⊎ ((n : ℕ) × (occCall s sender c d ≡ occError s c d n))
+reply-of-occ = occ-reply
+
+pub reply-of-sbe : (s : Session) → TypedSession s → (r d : List ℕ) → sbeCall s r d .outcome .answer ≡ 0
+    → (sbeCall s r d .reply ≡ atFront (mailbox.responseBytes 0x00 0x00 r) d) ⊎ ((n : Status) × (sbeCall s r d ≡ sbeError s r d n))
+reply-of-sbe = sbe-reply
 
 -- ---- demand 1: a refusal changes nothing, for every session, right or damaged
 
@@ -64,10 +102,41 @@ pub error-of-occ-keeps : (s : Session) (sender : ℕ) (c d : List ℕ)
     → (occCall s sender c d .outcome .session ≡ s) ⊎ (occCall s sender c d .reply ≡ replied (getD c 0 0) (getD c 1 0) 0x00 [] d)
 error-of-occ-keeps s sender c d = occ-came.error-keeps s sender c d (occCall s sender c d) (occ-came.came s sender c d)
 
--- ---- the contracts determine everything: two outcomes that one allows are equal (they are functions of what is handed in)
+-- the same of the SBE's error statuses
+pub error-of-sbe-keeps : (s : Session) (r d : List ℕ)
+    → (sbeCall s r d .outcome .session ≡ s) ⊎ (sbeCall s r d .reply ≡ pasted 0 (mailbox.responseBytes 0x00 0x00 r) d)
+error-of-sbe-keeps s r d = sbe-came.error-keeps s r d (sbeCall s r d) (sbe-came.came s r d)
 
-pub one-outcome : {A : Type 0} (allowed x y : A) → x ≡ allowed → y ≡ allowed → x ≡ y
-one-outcome allowed x y p q = p ∙ sym q
+-- the doorbell is rung as asked on every answer 0, refused or not, and never else
+pub bell-rung-as-asked : (s : Session) (r d : List ℕ)
+    → (sbeCall s r d .outcome .answer ≡ 0 → sbeCall s r d .outcome .bell ≡ mailbox.bellOf r) × ((sbeCall s r d .outcome .answer ≡ 0 → ⊥) → sbeCall s r d .outcome .bell ≡ 0)
+bell-rung-as-asked s r d = (sbe-came.bell-rung s r d (sbeCall s r d) (sbe-came.came s r d), λ h. refusal-of-sbe-keeps s r d h .2)
+
+-- ---- the contracts determine everything: two outcomes that one allows are equal. b is the lent session; for C the result is one number
+
+pub one-outcome-of-fresh : OneOutcome (λ (o : Session). o ≡ freshSession)
+one-outcome-of-fresh = one-value freshSession
+
+pub one-outcome-of-occ : (b : List ℕ) (sender : ℕ) (c d : List ℕ) → OneOutcome (λ (o : Told × List ℕ × List ℕ). OccAllows b sender c d (o .0) (o .1) (o .2))
+one-outcome-of-occ b sender c d = one-triple _ _ _
+
+pub one-outcome-of-sbe : (b r d : List ℕ) → OneOutcome (λ (o : Told × List ℕ × List ℕ). SbeAllows b r d (o .0) (o .1) (o .2))
+one-outcome-of-sbe b r d = one-triple _ _ _
+
+pub one-outcome-of-undo : (b : List ℕ) → OneOutcome (λ (o : Told × List ℕ). UndoAllows b (o .0) (o .1))
+one-outcome-of-undo b = one-pair _ _
+
+pub one-outcome-of-fresh-for-c : (b : List ℕ) → OneOutcome (λ (o : ℕ × List ℕ). FreshReturns b (o .0) (o .1))
+one-outcome-of-fresh-for-c b = one-pair _ _
+
+pub one-outcome-of-occ-for-c : (b : List ℕ) (sender : ℕ) (c d : List ℕ) → OneOutcome (λ (o : ℕ × List ℕ × List ℕ). OccReturns b sender c d (o .0) (o .1) (o .2))
+one-outcome-of-occ-for-c b sender c d = one-triple _ _ _
+
+pub one-outcome-of-sbe-for-c : (b r d : List ℕ) → OneOutcome (λ (o : ℕ × List ℕ × List ℕ). SbeReturns b r d (o .0) (o .1) (o .2))
+one-outcome-of-sbe-for-c b r d = one-triple _ _ _
+
+pub one-outcome-of-undo-for-c : (b : List ℕ) → OneOutcome (λ (o : ℕ × List ℕ). UndoReturns b (o .0) (o .1))
+one-outcome-of-undo-for-c b = one-pair _ _
 
 -- ---- well-formed in, well-formed out, on every session of the type; and what is worked out is the record's
 
@@ -90,17 +159,35 @@ worked-out-after-sbe s r d = sbe-came.worked-after s r d (sbeCall s r d) (sbe-ca
 pub worked-out-after-undo : (s : Session) → wellFormed s ≡ true → undoCall s .session .worked ≡ workedOf (undoCall s .session .held)
 worked-out-after-undo s = undo-came.worked-after s (undoCall s) (undo-came.came s)
 
--- ---- demand 2: accepted exactly when (the conditions: packet, occ and sbe, specs/Exactly.antt)
+-- ---- demand 2: accepted exactly when (the conditions: Demand2.antt), and what is then done (Effects.antt)
 
-pub packet-read-exactly-when : (c : List ℕ) → (packetStatus c ≡ 0) ↔ (Fits c × Summed c)
-packet-read-exactly-when = good-exactly
+pub occ-accepted-exactly-when : (s : Session) → TypedSession s → (sender : ℕ) (c d : List ℕ) → wellFormed s ≡ true
+    → OccSucceeds s sender c d ↔ OccAccepted s sender c d
+occ-accepted-exactly-when = occ-accepted
 
-pub command-accepted-exactly-when : (r : Record) (w : Worked) (next sender kind : ℕ) (d : List ℕ) → length (r .logs) ≡ 4
-    → (accepts (judgeOf r w next sender kind d .verdict) ≡ true) ↔ CommandOk r w next sender kind d
-command-accepted-exactly-when = judge-exactly
+pub sbe-accepted-exactly-when : (s : Session) → TypedSession s → (r d : List ℕ) → wellFormed s ≡ true → SbeSucceeds s r d ↔ SbeAccepted s r d
+sbe-accepted-exactly-when = sbe-accepted
 
-pub request-accepted-exactly-when : (r : List ℕ) → (grants (mailbox.requestVerdict r) ≡ true) ↔ Accepted r
-request-accepted-exactly-when = accepted-exactly
+pub undo-accepted-exactly-when : (s : Session) → wellFormed s ≡ true → (undoCall s .answer ≡ 0) ↔ UndoAccepted s
+undo-accepted-exactly-when = undo-accepted
+
+pub effect-of-occ : (s : Session) → TypedSession s → (sender : ℕ) (c d : List ℕ) → Bytes c → OccSucceeds s sender c d
+    → OccEffect s (getD c 1 0) (dataOf c) (occCall s sender c d .outcome .session)
+effect-of-occ = occ-effect
+
+pub effect-of-sbe : (s : Session) → TypedSession s → (r d : List ℕ) → Bytes r → SbeSucceeds s r d → SbeEffect s r (sbeCall s r d .outcome .session)
+effect-of-sbe = sbe-effect
+
+-- the changes that demand 3 counts: those calls that succeed, but for polls; and what a call counts as is what its record shows
+pub counted-of-occ : (s : Session) → TypedSession s → (sender : ℕ) (c d : List ℕ)
+    → ((e : Edit) × (deed s (occ sender c d) ≡ adds e)) ↔ (OccSucceeds s sender c d and NotPoll c)
+counted-of-occ = occ-deed
+
+pub counted-of-sbe : (s : Session) → TypedSession s → (r d : List ℕ) → ((e : Edit) × (deed s (sbe r d) ≡ adds e)) ↔ SbeSucceeds s r d
+counted-of-sbe = sbe-deed
+
+pub counted-is-shown : (s : Session) → TypedSession s → (e : Edit) (c : Call) → deed s c ≡ adds e → said s c .session .held ≡ putOf (s .held) e .after
+counted-is-shown = deed-shown
 
 -- ---- demand 3: start fresh, and hand each session on unchanged through any calls
 

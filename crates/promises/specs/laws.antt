@@ -15,3 +15,12 @@ pub mod Examples
 pub mod ComputedSession
 pub mod ComputedOcc
 pub mod ComputedSbe
+pub mod Outcomes
+pub mod OccWays
+pub mod OccAsks
+pub mod Replies
+pub mod OccDemands
+pub mod SbeDemands
+pub mod UndoDemands
+pub mod Effects
+pub mod Answers

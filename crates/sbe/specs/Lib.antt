@@ -1,3 +1,4 @@
 pub mod Mailbox
 pub mod Conditions
+pub mod Statuses
 pub mod laws

@@ -2,9 +2,11 @@
 use Prim.Native.Nat.{ℕ}
 use mathlib.Core.Bool.{Bool, cond, not}
 use mathlib.Core.List.{List}
+use mathlib.Core.Path.{_≡_}
 use lib.ListN.{length}
 use lib.Dec.{ltb, eqb}
 use Rattle.wire.specs.Wire.{pasted}
+use Rattle.wire.specs.Conditions.{_and_}
 use Rattle.change.specs.Change.{noTables}
 use Rattle.change.specs.declared.Change.{Change}
 use Rattle.sbe.specs.Mailbox.{requestVerdict, bellOf, responseBytes}
@@ -13,6 +15,7 @@ use Rattle.sbe.specs.declared.Verdict.the-variants.{Refuse, Make}
 use Rattle.session.specs.Session.{Carried, wellFormed, carriedOf}
 use Rattle.session.specs.declared.Session.{Session}
 use Rattle.image.specs.Image.{imageLength, imageOf, sessionOf}
+use Rattle.inplace.specs.declared.Told.{Told}
 use Rattle.inplace.specs.InPlace.{Left, noImage}
 
 pub record Rung : Type 0 where
@@ -76,3 +79,7 @@ sbeLeft q = record { told = record { answer = q .outcome .answer; beside = q .ou
 
 unfoldable pub sbeOn : List ℕ → List ℕ → List ℕ → Left
 sbeOn b r d = cond (not (eqb (length b) imageLength)) (noImage b d) (sbeLeft (sbeCall (sessionOf b) r d))
+
+-- what the contract allows: what is told, and the lent bytes and the reply buffer as they are left
+abbrev pub SbeAllows : List ℕ → List ℕ → List ℕ → Told → List ℕ → List ℕ → Type 0
+SbeAllows b r d told image reply = (told ≡ sbeOn b r d .told) and (image ≡ sbeOn b r d .image) and (reply ≡ sbeOn b r d .reply)

@@ -2,7 +2,7 @@
 ghost use mathlib.Core.Path.{_≡_};
 ghost use Prim.Native.Nat.{_≤_};
 ghost use lib.ListN.{length};
-ghost use Rattle.sbe_call.specs.Sbe.{refusalOf, toldOf, sbeRead, sbeLeft, sbeOn};
+ghost use Rattle.sbe_call.specs.Sbe.{refusalOf, toldOf, sbeRead, sbeLeft, SbeAllows};
 ghost use Rattle.image.specs.Image.{journalIn, sessionAt};
 ghost use Rattle.inplace.specs.InPlace.{Stands};
 use change::Edit;
@@ -68,9 +68,7 @@ fn hear(lent: &mut [u8], h: Head, request: &[u8], reply: &mut [u8]) -> Told
 
 // The public call, on a session that is lent as its image's bytes; the doorbell stands beside the answer.
 pub fn sbe(lent: &mut [u8], request: &[u8], reply: &mut [u8]) -> Told
-    ensures { λ x. ⌜ x ≡ sbeOn (now (lent .entry)) (now (request .entry)) (now (reply .entry)) .told ⌝ }
-    ensures { λ _. ⌜ now (lent .exit) ≡ sbeOn (now (lent .entry)) (now (request .entry)) (now (reply .entry)) .image ⌝ }
-    ensures { λ _. ⌜ now (reply .exit) ≡ sbeOn (now (lent .entry)) (now (request .entry)) (now (reply .entry)) .reply ⌝ }
+    ensures { λ x. ⌜ SbeAllows (now (lent .entry)) (now (request .entry)) (now (reply .entry)) x (now (lent .exit)) (now (reply .exit)) ⌝ }
 {
     if lent.len() != image::LENGTH {
         return inplace::answer_with(1, 0);

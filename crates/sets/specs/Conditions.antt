@@ -1,9 +1,11 @@
--- Document 01, formats 0x12 and 0x13: the conditions on the sets that follow the count.
-use Prim.Native.Nat.{ℕ, zero, suc, _+_, _*_, _<_, _≤_}
+-- Document 01, formats 0x12 and 0x13: the conditions on the sets that follow the count, and the tables that they give.
+use Prim.Native.Nat.{ℕ, zero, suc, _+_, _*_, _^_, _<_, _≤_}
 use mathlib.Core.Path.{_≡_}
 use mathlib.Core.List.{List}
-use lib.ListN.{getD, take, drop}
+use lib.ListN.{length, getD, take, drop, replicate}
 use Rattle.wire.specs.Conditions.{_and_}
+use Rattle.record.specs.declared.Throttles.{Throttles}
+use Rattle.sets.specs.Sets.{bitOf}
 
 -- the i-th part of w bytes
 unfoldable pub setAt : ℕ → ℕ → List ℕ → List ℕ
@@ -28,6 +30,17 @@ pairOf s = getD s 0 0 * 2 + getD s 1 0
 unfoldable pub SetsOk : ℕ → List ℕ → Type 0
 SetsOk n l = Each 12 InPairs n l and NoneTwice 12 pairOf n l
 
+-- a pair of the table: its bit, and its ten bytes
+abbrev pub PairIs : Throttles → ℕ → ℕ → List ℕ → Type 0
+PairIs t pair bit v = (bitOf (t .present) pair ≡ bit) and (setAt 10 pair (t .sets) ≡ v)
+
+-- "Replaces the whole table; pairs not sent become absent and zero": a pair that was sent is present with its ten bytes as sent
+pub record SentPairs (n : ℕ) (l : List ℕ) (t : Throttles) : Type 0 where
+  pub sent : (i : ℕ) → i < n → PairIs t (pairOf (setAt 12 i l)) 1 (drop 2 (setAt 12 i l))
+  pub others : (pair : ℕ) → pair < 16 → ((i : ℕ) → i < n → pairOf (setAt 12 i l) ≡ pair → ⊥) → PairIs t pair 0 (replicate 10 0)
+  pub pairs : t .present < 2 ^ 16
+  pub long : length (t .sets) ≡ 160
+
 -- "FRU 0 to 2, none twice, DVFS at most ERROR (H)": four bytes a set, FRU, DVFS and ERROR first
 abbrev pub InFrus : List ℕ → Type 0
 InFrus s = (getD s 0 0 ≤ 2) and (getD s 1 0 ≤ getD s 2 0)
@@ -37,3 +50,9 @@ fruOf s = getD s 0 0
 
 unfoldable pub FrusOk : ℕ → List ℕ → Type 0
 FrusOk n l = Each 4 InFrus n l and NoneTwice 4 fruOf n l
+
+-- "FRU types not sent become 0xFF, 0xFF, 0xFF": one that was sent has its three bytes as sent
+pub record SentFrus (n : ℕ) (l t : List ℕ) : Type 0 where
+  pub sent : (i : ℕ) → i < n → setAt 3 (fruOf (setAt 4 i l)) t ≡ drop 1 (setAt 4 i l)
+  pub others : (fru : ℕ) → fru < 3 → ((i : ℕ) → i < n → fruOf (setAt 4 i l) ≡ fru → ⊥) → setAt 3 fru t ≡ replicate 3 0xFF
+  pub long : length t ≡ 9

@@ -2,8 +2,10 @@
 use Prim.Native.Nat.{ℕ, _-_}
 use mathlib.Core.Bool.{cond, not}
 use mathlib.Core.List.{List, []}
+use mathlib.Core.Path.{_≡_}
 use lib.ListN.{length, take, drop}
 use lib.Dec.{eqb}
+use Rattle.wire.specs.Conditions.{_and_}
 use Rattle.change.specs.Change.{kindOf, putOf}
 use Rattle.change.specs.declared.Tables.{Tables}
 use Rattle.change.specs.declared.Edit.{Edit}
@@ -20,6 +22,7 @@ use Rattle.journal.specs.declared.Got.{Got}
 use Rattle.session.specs.Session.{wellFormed, withHeld}
 use Rattle.session.specs.declared.Session.{Session}
 use Rattle.image.specs.Image.{imageLength, imageOf, sessionOf}
+use Rattle.inplace.specs.declared.Told.{Told}
 use Rattle.inplace.specs.InPlace.{Left, noImage}
 
 -- answer, the kind taken back (0 when refused), and session
@@ -77,3 +80,7 @@ undoLeft u = record { told = record { answer = u .answer; beside = u .kind }; im
 
 unfoldable pub undoOn : List ℕ → Left
 undoOn b = cond (not (eqb (length b) imageLength)) (noImage b []) (undoLeft (undoCall (sessionOf b)))
+
+-- what the contract allows: what is told, and the lent bytes as they are left
+abbrev pub UndoAllows : List ℕ → Told → List ℕ → Type 0
+UndoAllows b told image = (told ≡ undoOn b .told) and (image ≡ undoOn b .image)

@@ -5,7 +5,7 @@ ghost use Prim.Native.Nat.{_≤_};
 ghost use Rattle.session.specs.Session.{wellFormed};
 ghost use Rattle.image.specs.Image.{journalIn, sessionAt};
 ghost use Rattle.inplace.specs.InPlace.{Stands};
-ghost use Rattle.undo_call.specs.Undo.{undoneWith, undoneNewest, undoLeft, undoOn};
+ghost use Rattle.undo_call.specs.Undo.{undoneWith, undoneNewest, undoLeft, UndoAllows};
 use change::Edit;
 use entries::Reading;
 use image::Head;
@@ -77,8 +77,7 @@ fn take_newest(lent: &mut [u8], h: Head) -> Told
 
 // The public call, on a session that is lent as its image's bytes; the kind stands beside the answer.
 pub fn undo(lent: &mut [u8]) -> Told
-    ensures { λ x. ⌜ x ≡ undoOn (now (lent .entry)) .told ⌝ }
-    ensures { λ _. ⌜ now (lent .exit) ≡ undoOn (now (lent .entry)) .image ⌝ }
+    ensures { λ x. ⌜ UndoAllows (now (lent .entry)) x (now (lent .exit)) ⌝ }
 {
     if lent.len() != image::LENGTH {
         return inplace::answer_with(1, 0);

@@ -1,3 +1,4 @@
 pub mod Cases
 pub mod Wire
 pub mod Chains
+pub mod Tables

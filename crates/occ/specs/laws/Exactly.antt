@@ -113,7 +113,7 @@ clear-log-exactly logs d four =
     ends-unless accepts (refuses 0x12) (not-passes (eq-holds _ _))
     (ends-when accepts (found-exactly (getD d 0 0) logs four) (ends-last accepts (refuses 0x13) (le-passes 4 _) (makes _)))
 
-state-fits-exactly : (version state last : ℕ) → (stateFits version state last ≡ true) ↔ ((version ≡ 0) and (1 ≤ state) and (state ≤ 3) and (last ≡ 0))
+pub state-fits-exactly : (version state last : ℕ) → (stateFits version state last ≡ true) ↔ ((version ≡ 0) and (1 ≤ state) and (state ≤ 3) and (last ≡ 0))
 unfolding stateFits
 state-fits-exactly version state last =
     unless holds refl (not-passes (eq-holds _ _)) (unless holds refl (lt-passes _ _) (unless holds refl (lt-passes _ _) (eq-holds _ _)))
@@ -145,7 +145,7 @@ caps-format-exactly role d =
     (ends-unless accepts (refuses 0x13) (lt-passes _ _)
     (ends-last accepts (refuses 0x16) (eq-passes _ _) (makes _))))
 
-user-allowed-exactly : (got : ℕ) (caps : Caps) (user : ℕ)
+pub user-allowed-exactly : (got : ℕ) (caps : Caps) (user : ℕ)
     → (userAllowed got caps user ≡ true) ↔ ((user ≡ 0) ⊎ ((got ≡ 0 → ⊥) and (caps .min ≤ user) and (user ≤ caps .max)))
 unfolding userAllowed
 user-allowed-exactly got caps user =
@@ -182,7 +182,7 @@ reset-prep-exactly role logs next d =
 -- ---- the formats with tables beside the change
 
 -- three bytes and then k more
-counted : (l k : ℕ) → ((3 ≤ l) and (l - 3 ≡ k)) ↔ (l ≡ 3 + k)
+pub counted : (l k : ℕ) → ((3 ≤ l) and (l - 3 ≡ k)) ↔ (l ≡ 3 + k)
 counted l k = (λ h. omega arith, λ h. (omega arith, omega arith))
 
 abbrev good : ℕ → Bool

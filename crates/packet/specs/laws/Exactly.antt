@@ -59,7 +59,7 @@ module _ (c : List ℕ) where
 
   -- ---- so the status tells the row
 
-  by-row : {A : Type 0} → (Overlong c → A) → (Fits c → Summed c → A) → (Fits c → (Summed c → ⊥) → A) → A
+  pub by-row : {A : Type 0} → (Overlong c → A) → (Fits c → Summed c → A) → (Fits c → (Summed c → ⊥) → A) → A
   by-row over good bad = ⊎-elim over (λ f. ⊎-elim (good f) (bad f) summed-or-not) fits-or-not
 
   clash : {A : Type 0} {m n : ℕ} → packetStatus c ≡ m → packetStatus c ≡ n → (m ≡ n → ⊥) → A

@@ -187,7 +187,7 @@ module _ (d : List ℕ) (bytes : Bytes d) where
 
 -- ---- OCC: the change is one that can be undone
 
-next-some : (r : Record) (n : ℕ) → recordOk r n ≡ true → 1 ≤ n
+pub next-some : (r : Record) (n : ℕ) → recordOk r n ≡ true → 1 ≤ n
 unfolding nextOk
 next-some r n ok = ltb-false n 1 (passed (ltb n 1) _ (sound ok .next))
   where

@@ -59,14 +59,14 @@ module _ (s : Session) (f : Formed s) (y : TypedRecord (s .held)) (e : Edit) (m 
   abbrev b : Edit
   b = inverseOf (s .held) e
 
-  l : Link (s .held) (s .next) e
+  pub l : Link (s .held) (s .next) e
   l = link (s .held) (s .next) e (f .record-ok) y m
 
-  room : s .used + entryLen b ≤ length (s .journal)
+  pub room : s .used + entryLen b ≤ length (s .journal)
   unfolding carriedOf
   room = end-room s e b (length (s .journal)) (s .used) fits
 
-  session-is : carriedOf s e .session ≡ withHeld (putOf (s .held) e .after) (s .next + madeOf (e .change)) (addedTo (s .used) b (s .journal)) (s .used + entryLen b)
+  pub session-is : carriedOf s e .session ≡ withHeld (putOf (s .held) e .after) (s .next + madeOf (e .change)) (addedTo (s .used) b (s .journal)) (s .used + entryLen b)
   unfolding carriedOf carriedTo
   session-is = ap (λ (x : End). carriedTo s e x .session) (end-at b (s .used) (s .journal) (l .back-writable) room)
 

@@ -39,7 +39,7 @@ same-change p q = cc
 
 -- ---- the flags and an area's status
 
-plain-exactly : (flags : ℕ) → plainFlags flags ≡ true ↔ Plain flags
+pub plain-exactly : (flags : ℕ) → plainFlags flags ≡ true ↔ Plain flags
 unfolding plainFlags
 plain-exactly flags = (go (leb 0x0400 flags) refl, λ h. sym (else-le _ _ (h .0) (sym (eq-eqb (flags % 0x0100) 0 (h .1)))))
   where

@@ -27,7 +27,7 @@ bit-low : (x : ℕ) → bitOf x 0 ≡ x % 2
 unfolding bitOf
 bit-low x = ap (λ (n : ℕ). n % 2) (div-one x)
 
-bit-none : (i : ℕ) → bitOf 0 i ≡ 0
+pub bit-none : (i : ℕ) → bitOf 0 i ≡ 0
 unfolding bitOf
 bit-none i = ap (λ (n : ℕ). n % 2) (zero-div (2 ^ i)) ∙ zero-mod 2
 
@@ -35,13 +35,13 @@ half-more : (x i : ℕ) → (x + 2 ^ suc i) / 2 ≡ x / 2 + 2 ^ i
 half-more x i = omega (arith, two-pow-succ i)
 
 -- a free bit that is added is set
-bit-added : (i x : ℕ) → bitOf x i ≡ 0 → bitOf (x + 2 ^ i) i ≡ 1
+pub bit-added : (i x : ℕ) → bitOf x i ≡ 0 → bitOf (x + 2 ^ i) i ≡ 1
 bit-added zero x h = bit-low (x + 1) ∙ omega (arith, sym (bit-low x) ∙ h)
 bit-added (suc i) x h =
     bit-half (x + 2 ^ suc i) i ∙ ap (λ (n : ℕ). bitOf n i) (half-more x i) ∙ bit-added i (x / 2) (sym (bit-half x i) ∙ h)
 
 -- the others stay
-bit-kept : (i j x : ℕ) → bitOf x i ≡ 0 → (i ≡ j → ⊥) → bitOf (x + 2 ^ i) j ≡ bitOf x j
+pub bit-kept : (i j x : ℕ) → bitOf x i ≡ 0 → (i ≡ j → ⊥) → bitOf (x + 2 ^ i) j ≡ bitOf x j
 bit-kept zero zero x h ne = absurd (ne refl)
 bit-kept zero (suc j) x h ne =
     let e : (x + 1) / 2 ≡ x / 2 = omega (arith, sym (bit-low x) ∙ h) in
@@ -99,11 +99,11 @@ module _ {A : Type 0} {one : A → List ℕ → A} {w : ℕ} {all : ℕ → A �
     pub adds : (t : A) (s : List ℕ) → ok (one t s) ≡ true → held (one t s) ≡ held t + 2 ^ number s
 
   -- the bit of a part's number is free
-  abbrev Free : ℕ → List ℕ → Type 0
+  abbrev pub Free : ℕ → List ℕ → Type 0
   Free x s = bitOf x (number s) ≡ 0
 
   -- what is asked of n parts, with what is held
-  abbrev Right : ℕ → A → List ℕ → Type 0
+  abbrev pub Right : ℕ → A → List ℕ → Type 0
   Right n t l = (ok t ≡ true) and Each w InRange n l and Each w (Free (held t)) n l and NoneTwice w number n l
 
   -- two numbers of which one's bit was added and the other's is free differ
@@ -148,7 +148,7 @@ module _ {A : Type 0} {one : A → List ℕ → A} {w : ℕ} {all : ℕ → A �
           ),
         )
 
-    all-exactly : (n : ℕ) (t : A) (l : List ℕ) → (ok (all n t l) ≡ true) ↔ Right n t l
+    pub all-exactly : (n : ℕ) (t : A) (l : List ℕ) → (ok (all n t l) ≡ true) ↔ Right n t l
     all-exactly zero t l =
         let nothing : (i : ℕ) → i < 0 → ⊥ = λ i k. not-suc-le-zero k in (
           λ h. (subst (λ (x : A). ok x ≡ true) (parted .none t l) h, ((λ i k. absurd (nothing i k)), ((λ i k. absurd (nothing i k)), (λ i j h k. absurd (nothing j k))))),
@@ -187,13 +187,13 @@ ends-on ok t {y} {z} {Q} q = cond-cases (λ v. Ends ok v ((ok t ≡ true) and Q)
 grouped : {X A B C D : Type 0} → X ↔ (A and B and C and D) → X ↔ (A and (B and C) and D)
 grouped h = (λ x. let p = h .0 x in (p .0, ((p .1 .0, p .1 .1 .0), p .1 .1 .1)), λ p. h .1 (p .0, (p .1 .0 .0, (p .1 .0 .1, p .1 .1))))
 
-abbrev setsRead : Sets → Bool
+abbrev pub setsRead : Sets → Bool
 setsRead t = t .ok
 
-abbrev pairsHeld : Sets → ℕ
+abbrev pub pairsHeld : Sets → ℕ
 pairsHeld t = t .table .present
 
-one-set : (t : Sets) (s : List ℕ)
+pub one-set : (t : Sets) (s : List ℕ)
     → Ends setsRead (oneSet t s) ((t .ok ≡ true) and (getD s 0 0 ≤ 7) and (getD s 1 0 ≤ 1) and (bitOf (t .table .present) (pairOf s) ≡ 0)) (withPair t (pairOf s) (take 10 (drop 2 s)))
 unfolding oneSet badSets withPair
 one-set t s =
@@ -202,7 +202,7 @@ one-set t s =
     (ends-unless setsRead refl (lt-passes _ _)
     (ends-last setsRead refl (not-passes (eq-holds _ _)) refl)))
 
-set-stepped : Stepped sets-parted setsRead pairsHeld InPairs pairOf
+pub set-stepped : Stepped sets-parted setsRead pairsHeld InPairs pairOf
 unfolding withPair
 set-stepped = record { exactly = λ t s. grouped (one-set t s .exactly); adds = λ t s h. ap pairsHeld (one-set t s .is h) }
 
@@ -210,13 +210,13 @@ pub sets-exactly : (n : ℕ) (l : List ℕ) → (setsOf n emptySets l .ok ≡ tr
 unfolding SetsOk emptySets
 sets-exactly n l = from-none sets-parted setsRead pairsHeld InPairs pairOf set-stepped n emptySets l refl refl
 
-abbrev frusRead : Frus → Bool
+abbrev pub frusRead : Frus → Bool
 frusRead t = t .ok
 
-abbrev frusHeld : Frus → ℕ
+abbrev pub frusHeld : Frus → ℕ
 frusHeld t = t .seen
 
-one-fru : (t : Frus) (s : List ℕ)
+pub one-fru : (t : Frus) (s : List ℕ)
     → Ends frusRead (oneFru t s) ((t .ok ≡ true) and (getD s 0 0 ≤ 2) and (getD s 1 0 ≤ getD s 2 0) and (bitOf (t .seen) (fruOf s) ≡ 0)) (withFru t (fruOf s) (take 3 (drop 1 s)))
 unfolding oneFru badFrus withFru
 one-fru t s =
@@ -225,7 +225,7 @@ one-fru t s =
     (ends-unless frusRead refl (lt-passes _ _)
     (ends-last frusRead refl (not-passes (eq-holds _ _)) refl)))
 
-fru-stepped : Stepped frus-parted frusRead frusHeld InFrus fruOf
+pub fru-stepped : Stepped frus-parted frusRead frusHeld InFrus fruOf
 unfolding withFru
 fru-stepped = record { exactly = λ t s. grouped (one-fru t s .exactly); adds = λ t s h. ap frusHeld (one-fru t s .is h) }
 

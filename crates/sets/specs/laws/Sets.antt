@@ -42,12 +42,12 @@ parts-keep {one = one} {w = w} P p keep (suc n) t l h =
     subst P (sym (p .more n t l)) (parts-keep P p keep n (one t (take w l)) (drop w l) (keep t (take w l) h))
 
 -- bytes pasted past the first k
-paste-past : (k at : ℕ) (v d : List ℕ) → pasted (k + at) v d ≡ take k d ++ pasted at v (drop k d)
+pub paste-past : (k at : ℕ) (v d : List ℕ) → pasted (k + at) v d ≡ take k d ++ pasted at v (drop k d)
 unfolding pasted
 paste-past k at v d = rw (take-add, append-assoc, drop-drop, add-assoc)
 
 -- past those pasted to the front, all is as it was
-past-front : (k : ℕ) (v d : List ℕ) → length v ≤ k → drop k (pasted 0 v d) ≡ drop k d
+pub past-front : (k : ℕ) (v d : List ℕ) → length v ≤ k → drop k (pasted 0 v d) ≡ drop k d
 unfolding pasted
 past-front k v d h =
     let e : k ≡ length v + (k - length v) = omega arith in

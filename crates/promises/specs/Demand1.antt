@@ -1,0 +1,86 @@
+-- Demand 1, as document 01's tables: each session answer, and with answer 0 each status, when its row holds and none before it.
+use Prim.Native.Nat.{ℕ, _+_, _≤_, _<_}
+use mathlib.Core.Bool.{true}
+use mathlib.Core.Path.{_≡_}
+use mathlib.Core.List.{List, [], _∷_, _++_}
+use lib.ListN.{length, getD}
+use Rattle.wire.specs.Wire.{toBE, packetSum}
+use Rattle.wire.specs.Conditions.{_and_, is, row}
+use Rattle.record.specs.Record.{workedOf}
+use Rattle.change.specs.declared.Edit.{Edit}
+use Rattle.packet.specs.Packet.{dataOf}
+use Rattle.packet.specs.Conditions.{Overlong, Summed}
+use Rattle.occ.specs.Statuses.{CommandStatus}
+use Rattle.sbe.specs.Mailbox.{bellOf, responseBytes}
+use Rattle.sbe.specs.Conditions.{Accepted}
+use Rattle.sbe.specs.Statuses.{Status}
+use Rattle.session.specs.Session.{wellFormed}
+use Rattle.session.specs.declared.Session.{Session}
+use Rattle.occ_call.specs.Occ.{OccResult, says}
+use Rattle.sbe_call.specs.Sbe.{SbeResult, rung}
+use Rattle.promises.specs.Demand2.{atFront, entryLength, KnownSender, WellAsked, occKind, NotPoll, sbeKind, Newest, Undoable}
+
+-- ---- session answers
+
+-- "an otherwise accepted change whose entry is longer than the unused journal"
+abbrev pub NoRoom : Session → ℕ → Type 0
+NoRoom s kind = 2048 < s .used + entryLength kind
+
+unfoldable pub OccAnswer : Session → ℕ → List ℕ → List ℕ → ℕ → Type 0
+OccAnswer s sender c d =
+    row 1 (wellFormed s ≡ true → ⊥)
+    (row 2 (KnownSender sender → ⊥)
+    (row 3 (length d < 4096)
+    (row 4 (length c < 4)
+    (row 5 (WellAsked s sender c and NotPoll c and NoRoom s (occKind c))
+    (is 0)))))
+
+unfoldable pub SbeAnswer : Session → List ℕ → List ℕ → ℕ → Type 0
+SbeAnswer s r d =
+    row 1 (wellFormed s ≡ true → ⊥)
+    (row 3 (length d < 32)
+    (row 4 (length r < 32)
+    (row 5 (Accepted r and NoRoom s (sbeKind r))
+    (is 0))))
+
+-- 7: the newest entry is there, and one of the cases holds
+unfoldable pub UndoAnswer : Session → ℕ → Type 0
+UndoAnswer s =
+    row 1 (wellFormed s ≡ true → ⊥)
+    (row 6 (s .used ≡ 0)
+    (row 7 ((e : Edit) × (Newest s e and (Undoable s e → ⊥)))
+    (is 0)))
+
+-- ---- statuses, where none of answers 1 to 4 is due
+
+pub record OccDue (s : Session) (sender : ℕ) (c d : List ℕ) : Type 0 where
+  pub formed : wellFormed s ≡ true
+  pub known : KnownSender sender
+  pub reply : 4096 ≤ length d
+  pub command : 4 ≤ length c
+
+pub record SbeDue (s : Session) (r d : List ℕ) : Type 0 where
+  pub formed : wellFormed s ≡ true
+  pub reply : 32 ≤ length d
+  pub request : 32 ≤ length r
+
+-- the packet's own two, then those of its command (occ/specs/Statuses.antt)
+unfoldable pub OccStatus : Session → ℕ → List ℕ → ℕ → Type 0
+OccStatus s sender c =
+    row 0x12 (Overlong c)
+    (row 0x14 (Summed c → ⊥)
+    (CommandStatus (s .held) (workedOf (s .held)) (s .next) sender (getD c 1 0) (dataOf c)))
+
+-- "An error reply has one data byte, log id 0x00": sequence, type, status, 00 01, 00, and the checksum
+abbrev pub errorBytes : ℕ → ℕ → ℕ → List ℕ
+errorBytes seq type status = seq ∷ type ∷ status ∷ 0x00 ∷ 0x01 ∷ 0x00 ∷ []
+
+abbrev pub errorReply : ℕ → ℕ → ℕ → List ℕ
+errorReply seq type status = errorBytes seq type status ++ toBE 2 (packetSum (errorBytes seq type status))
+
+-- answer 0 with an error reply: the session as it was, the reply at the front of the buffer, and the doorbell rung as asked
+abbrev pub occError : Session → List ℕ → List ℕ → ℕ → OccResult
+occError s c d status = says s (atFront (errorReply (getD c 0 0) (getD c 1 0) status) d)
+
+abbrev pub sbeError : Session → List ℕ → List ℕ → Status → SbeResult
+sbeError s r d status = record { outcome = rung 0 (bellOf r) s; reply = atFront (responseBytes (status .0) (status .1) r) d }

@@ -1,0 +1,127 @@
+-- Demand 2 of whole calls, in document 01's words: when a call is accepted, and what an accepted one replies.
+use Prim.Native.Nat.{ℕ, _+_, _<_, _≤_}
+use mathlib.Core.Bool.{true, cond}
+use mathlib.Core.Logic.{_⊎_}
+use mathlib.Core.Path.{_≡_}
+use mathlib.Core.List.{List, [], _∷_, _++_}
+use lib.Dec.{eqb}
+use lib.ListN.{length, getD, take, drop}
+use Rattle.wire.specs.Conditions.{_and_}
+use Rattle.record.specs.Record.{workedOf}
+use Rattle.record.specs.declared.Record.{Record}
+use Rattle.change.specs.Change.{putOf}
+use Rattle.change.specs.Logs.{pendingOf, pendsAt}
+use Rattle.change.specs.declared.Change.{Change}
+use Rattle.change.specs.declared.Change.the-variants.{Clear, Unclear, SetState, SetRole, SetCaps, SetUser, SetThermal, SetThrottles, Reset, Unreset, SetMask, SetDeadman, SetAreas}
+use Rattle.change.specs.declared.Edit.{Edit}
+use Rattle.formed.specs.Formed.{recordOk}
+use Rattle.entries.specs.Entries.{Entry, bodyLen, between, scan}
+use Rattle.journal.specs.Read.{foundFor, tablesIn}
+use Rattle.journal.specs.declared.Found.the-variants.{Good}
+use Rattle.packet.specs.Packet.{dataOf, replyBytes}
+use Rattle.packet.specs.Conditions.{Fits, Summed}
+use Rattle.poll.specs.Poll.{pollData}
+use Rattle.occ.specs.Conditions.{CommandOk}
+use Rattle.sbe.specs.Mailbox.{responseBytes}
+use Rattle.sbe.specs.Conditions.{Accepted}
+use Rattle.session.specs.declared.Session.{Session}
+use Rattle.occ_call.specs.Occ.{occCall}
+use Rattle.sbe_call.specs.Sbe.{sbeCall}
+
+-- "reply; bytes past it kept": a reply at the front of the buffer
+abbrev pub atFront : List ℕ → List ℕ → List ℕ
+atFront y d = y ++ drop (length y) d
+
+-- "The journal": an entry is one byte of kind and a body whose length the kind fixes; it has room in the 2,048 bytes
+abbrev pub entryLength : ℕ → ℕ
+entryLength kind = 1 + bodyLen kind
+
+abbrev pub HasRoom : Session → ℕ → Type 0
+HasRoom s kind = s .used + entryLength kind ≤ 2048
+
+-- ---- OCC
+
+abbrev pub KnownSender : ℕ → Type 0
+KnownSender sender = (sender ≡ 0x10) ⊎ (sender ≡ 0x20)
+
+-- the packet fits, its sum is right, and the command's conditions hold of the session's record, its readiness and the next id
+unfoldable pub WellAsked : Session → ℕ → List ℕ → Type 0
+WellAsked s sender c =
+    Fits c and Summed c and CommandOk (s .held) (workedOf (s .held)) (s .next) sender (getD c 1 0) (dataOf c)
+
+-- the kind of a command's entry, by its type and, for 0x21, its format
+unfoldable pub kindFor : ℕ → ℕ → ℕ
+kindFor type format =
+    cond (eqb type 0x12) 0x01
+    (cond (eqb type 0x20) 0x02
+    (cond (eqb type 0x21) (cond (eqb format 0x03) 0x03 (cond (eqb format 0x07) 0x04 (cond (eqb format 0x12) 0x07 0x06)))
+    (cond (eqb type 0x22) 0x05 0x08)))
+
+abbrev pub occKind : List ℕ → ℕ
+occKind c = kindFor (getD c 1 0) (getD (dataOf c) 0 0)
+
+-- any command but poll adds an entry
+abbrev pub NotPoll : List ℕ → Type 0
+NotPoll c = getD c 1 0 ≡ 0x00 → ⊥
+
+unfoldable pub OccAccepted : Session → ℕ → List ℕ → List ℕ → Type 0
+OccAccepted s sender c d =
+    KnownSender sender and (4096 ≤ length d) and (4 ≤ length c) and WellAsked s sender c and (NotPoll c → HasRoom s (occKind c))
+
+-- "Success has no data, but for poll"
+unfoldable pub successData : Session → ℕ → List ℕ
+successData s type = cond (eqb type 0x00) (pollData (s .held) (workedOf (s .held))) []
+
+unfoldable pub successReply : Session → List ℕ → List ℕ
+successReply s c = replyBytes (getD c 0 0) (getD c 1 0) 0x00 (successData s (getD c 1 0))
+
+-- answer 0 with the reply of success
+unfoldable pub OccSucceeds : Session → ℕ → List ℕ → List ℕ → Type 0
+OccSucceeds s sender c d =
+    (occCall s sender c d .outcome .answer ≡ 0) and (occCall s sender c d .reply ≡ atFront (successReply s c) d)
+
+-- ---- SBE
+
+-- D1 01 adds an entry of kind 0A, D1 03 one of 09, D7 04 one of 0B
+unfoldable pub sbeKind : List ℕ → ℕ
+sbeKind r = cond (eqb (getD r 6 0) 0xD7) 0x0B (cond (eqb (getD r 7 0) 0x01) 0x0A 0x09)
+
+unfoldable pub SbeAccepted : Session → List ℕ → List ℕ → Type 0
+SbeAccepted s r d = (32 ≤ length d) and (32 ≤ length r) and Accepted r and HasRoom s (sbeKind r)
+
+unfoldable pub SbeSucceeds : Session → List ℕ → List ℕ → Type 0
+SbeSucceeds s r d = (sbeCall s r d .outcome .answer ≡ 0) and (sbeCall s r d .reply ≡ atFront (responseBytes 0x00 0x00 r) d)
+
+-- ---- undo
+
+-- the newest entry of the used journal says that this was before
+pub record Newest (s : Session) (e : Edit) : Type 0 where
+  pub entry : Entry
+  pub older : List Entry
+  pub read : scan (take (s .used) (s .journal)) ≡ between (entry ∷ older)
+  pub change : foundFor (entry .kind) (entry .body) ≡ Good (e .change)
+  pub tables : tablesIn (entry .kind) (entry .body) ≡ e .tables
+
+-- answer 7: "a cleared log's place is above the number pending or 4 pend, or the entry says a log was made and none pends". An entry never says
+-- the two changes that only commands make
+abbrev pub TakesBack : Record → Change → Type 0
+TakesBack r (Unclear place log) = (place ≤ pendingOf (r .logs)) and (pendingOf (r .logs) < 4)
+TakesBack r (Unreset state made) = (made ≡ 0) ⊎ (1 ≤ pendingOf (r .logs))
+TakesBack r (SetState state) = Unit {0}
+TakesBack r (SetRole got role) = Unit {0}
+TakesBack r (SetCaps got caps) = Unit {0}
+TakesBack r (SetUser user) = Unit {0}
+TakesBack r (SetThermal got) = Unit {0}
+TakesBack r (SetThrottles got) = Unit {0}
+TakesBack r (SetMask mask) = Unit {0}
+TakesBack r (SetDeadman deadman) = Unit {0}
+TakesBack r (SetAreas areas) = Unit {0}
+TakesBack r (Clear place log) = pendsAt place log (r .logs) ≡ true
+TakesBack r (Reset log) = (log .id ≡ 0) ⊎ (pendingOf (r .logs) < 4)
+
+-- none of answer 7's cases: it can be taken back, and the record that it gives is well formed
+abbrev pub Undoable : Session → Edit → Type 0
+Undoable s e = TakesBack (s .held) (e .change) and (recordOk (putOf (s .held) e .after) (s .next) ≡ true)
+
+abbrev pub UndoAccepted : Session → Type 0
+UndoAccepted s = (e : Edit) × (Newest s e and Undoable s e)

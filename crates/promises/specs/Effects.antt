@@ -1,0 +1,66 @@
+-- Demand 2, the effects: what the session is after each accepted command, one row a command. All that a row doesn't name is as before.
+use Prim.Native.Nat.{ℕ, _+_, _%_, _<_}
+use mathlib.Core.Logic.{_⊎_}
+use mathlib.Core.Path.{_≡_}
+use mathlib.Core.List.{List, [], _∷_}
+use lib.ListN.{length, getD, take, drop}
+use Rattle.wire.specs.Wire.{beNat, toBE, pasted}
+use Rattle.wire.specs.Conditions.{_and_}
+use Rattle.record.specs.Record.{noLog}
+use Rattle.record.specs.declared.Throttles.{Throttles}
+use Rattle.record.specs.declared.Record.{Record}
+use Rattle.change.specs.Logs.{pendingOf, removeAt, insertAt}
+use Rattle.change.specs.With.{withState, withRole, withCaps, withThrottles, withUser, withThermal, withLogs, withMask, withDeadman, withAreas}
+use Rattle.journal.specs.Bytes.{clearedBody, capsBody, throttlesBody, deadmanBody, areasBody}
+use Rattle.sets.specs.Conditions.{SentPairs, SentFrus}
+use Rattle.occ.specs.Commands.{sentCaps}
+use Rattle.sbe.specs.Mailbox.{flagsOf, wordAt}
+use Rattle.sbe.specs.Conditions.{Names, startAsked, stopAsked, areasAsked}
+use Rattle.session.specs.Session.{withHeld}
+use Rattle.session.specs.declared.Session.{Session}
+
+-- the session with this record, what is worked out of it, this next id, and one entry more after the used journal
+abbrev pub becomes : Session → Record → ℕ → List ℕ → Session
+becomes s held next entry = withHeld held next (pasted (s .used) entry (s .journal)) (s .used + length entry)
+
+-- "A log is made for reason 1, and for 2 on a master"
+abbrev pub LogDue : ℕ → ℕ → Type 0
+LogDue role reason = (reason ≡ 1) ⊎ ((reason ≡ 2) and (role ≡ 1))
+
+-- an accepted command of a type, with the data d; an entry is its kind, and what was before
+pub data OccEffect (s : Session) (type : ℕ) (d : List ℕ) : Session → Type 0 where
+  -- 0x00: nothing changes
+  poll : type ≡ 0x00 → OccEffect s type d s
+  -- 0x12: the log with the id that was sent leaves its place, those above move down
+  clear-log : (place : ℕ) → type ≡ 0x12 → place < 4 → getD (s .held .logs) place noLog .id ≡ getD d 0 0
+      → OccEffect s type d (becomes s (withLogs (s .held) (removeAt place (s .held .logs))) (s .next) (0x01 ∷ clearedBody place (getD (s .held .logs) place noLog)))
+  -- 0x20: the state is the one sent
+  set-state : type ≡ 0x20 → OccEffect s type d (becomes s (withState (s .held) (getD d 1 0)) (s .next) (0x02 ∷ s .held .state ∷ []))
+  -- 0x21, 0x03 and 0x07: role and caps are those sent, and received
+  set-role : type ≡ 0x21 → getD d 0 0 ≡ 0x03
+      → OccEffect s type d (becomes s (withRole (s .held) 1 (getD d 1 0)) (s .next) (0x03 ∷ s .held .received .role ∷ s .held .role ∷ []))
+  set-caps : type ≡ 0x21 → getD d 0 0 ≡ 0x07
+      → OccEffect s type d (becomes s (withCaps (s .held) 1 (sentCaps d)) (s .next) (0x04 ∷ capsBody (s .held .received .caps) (s .held .caps)))
+  -- 0x21, 0x12 and 0x13: the tables hold what was sent, and what wasn't is as fresh (sets/specs/Conditions.antt)
+  set-throttles : type ≡ 0x21 → getD d 0 0 ≡ 0x12 → (t : Throttles) → SentPairs (getD d 2 0) (drop 3 d) t
+      → OccEffect s type d (becomes s (withThrottles (s .held) 1 t) (s .next) (0x07 ∷ throttlesBody (s .held .received .throttles) (s .held .throttles)))
+  set-thermal : type ≡ 0x21 → getD d 0 0 ≡ 0x13 → (t : List ℕ) → SentFrus (getD d 2 0) (drop 3 d) t
+      → OccEffect s type d (becomes s (withThermal (s .held) 1 t) (s .next) (0x06 ∷ s .held .received .thermal ∷ s .held .thermal))
+  -- 0x22: the user cap is the one sent
+  set-user : type ≡ 0x22 → OccEffect s type d (becomes s (withUser (s .held) (beNat (take 2 d))) (s .next) (0x05 ∷ toBE 2 (s .held .user)))
+  -- 0x25: the state is 1; where a log is due, it is the last pending, with the next id and the reason sent
+  reset : type ≡ 0x25 → (LogDue (s .held .role) (getD d 1 0) → ⊥) → OccEffect s type d (becomes s (withState (s .held) 1) (s .next) (0x08 ∷ s .held .state ∷ 0 ∷ []))
+  reset-logged : type ≡ 0x25 → LogDue (s .held .role) (getD d 1 0)
+      → OccEffect s type d (becomes s (withLogs (withState (s .held) 1) (insertAt (pendingOf (s .held .logs)) (record { id = s .next; reason = getD d 1 0 }) (s .held .logs))) (s .next + 1) (0x08 ∷ s .held .state ∷ 1 ∷ []))
+
+-- an accepted request
+pub data SbeEffect (s : Session) (r : List ℕ) : Session → Type 0 where
+  -- D1 01: the deadman runs with the time in register 1, or is off with time 0
+  start-deadman : Names 0xD1 0x01 r → flagsOf r % 0x0100 ≡ 0x01
+      → SbeEffect s r (becomes s (withDeadman (s .held) (startAsked r)) (s .next) (0x0A ∷ deadmanBody (s .held .deadman)))
+  stop-deadman : Names 0xD1 0x01 r → flagsOf r % 0x0100 ≡ 0x02
+      → SbeEffect s r (becomes s (withDeadman (s .held) stopAsked) (s .next) (0x0A ∷ deadmanBody (s .held .deadman)))
+  -- D1 03: register 1's first four bytes become the mask
+  set-mask : Names 0xD1 0x03 r → SbeEffect s r (becomes s (withMask (s .held) (wordAt 8 r)) (s .next) (0x09 ∷ toBE 4 (s .held .mask)))
+  -- D7 04: both areas are those sent; size 0 makes address and size 0
+  set-areas : Names 0xD7 0x04 r → SbeEffect s r (becomes s (withAreas (s .held) (areasAsked r)) (s .next) (0x0B ∷ areasBody (s .held .areas)))

@@ -1,0 +1,50 @@
+-- Answer 1, of every call: read off the tables. Assumes nothing.
+use Prim.Native.Nat.{ℕ}
+use mathlib.Core.Bool.{true}
+use mathlib.Core.Logic.{_↔_, Iff·trans}
+use mathlib.Core.Path.{_≡_, refl}
+use mathlib.Core.List.{List}
+use native.Mathlib.Omega.{arith}
+use Rattle.wire.specs.Conditions.{here, later}
+use Rattle.session.specs.Session.{wellFormed}
+use Rattle.session.specs.declared.Session.{Session}
+use Rattle.links.specs.Typed.{TypedSession}
+use Rattle.promises.specs.Calls.{Call, occ, sbe, undo, said}
+use Rattle.promises.specs.Demand1.{OccAnswer, SbeAnswer, UndoAnswer}
+use Rattle.promises.specs.laws.OccDemands.{occ-answers}
+use Rattle.promises.specs.laws.SbeDemands.{sbe-answers}
+use Rattle.promises.specs.laws.UndoDemands.{undo-answers}
+
+module _ (s : Session) (typed : TypedSession s) where
+  abbrev IllFormed : Type 0
+  IllFormed = wellFormed s ≡ true → ⊥
+
+  occ-one : (sender : ℕ) (c d : List ℕ) → OccAnswer s sender c d 1 → IllFormed
+  unfolding OccAnswer
+  occ-one sender c d (here h e) = h
+  occ-one sender c d (later _ (here h e)) = absurd (omega (arith, e))
+  occ-one sender c d (later _ (later _ (here h e))) = absurd (omega (arith, e))
+  occ-one sender c d (later _ (later _ (later _ (here h e)))) = absurd (omega (arith, e))
+  occ-one sender c d (later _ (later _ (later _ (later _ (here h e))))) = absurd (omega (arith, e))
+  occ-one sender c d (later _ (later _ (later _ (later _ (later _ e))))) = absurd (omega (arith, e))
+
+  sbe-one : (r d : List ℕ) → SbeAnswer s r d 1 → IllFormed
+  unfolding SbeAnswer
+  sbe-one r d (here h e) = h
+  sbe-one r d (later _ (here h e)) = absurd (omega (arith, e))
+  sbe-one r d (later _ (later _ (here h e))) = absurd (omega (arith, e))
+  sbe-one r d (later _ (later _ (later _ (here h e)))) = absurd (omega (arith, e))
+  sbe-one r d (later _ (later _ (later _ (later _ e)))) = absurd (omega (arith, e))
+
+  undo-one : UndoAnswer s 1 → IllFormed
+  unfolding UndoAnswer
+  undo-one (here h e) = h
+  undo-one (later _ (here h e)) = absurd (omega (arith, e))
+  undo-one (later _ (later _ (here h e))) = absurd (omega (arith, e))
+  undo-one (later _ (later _ (later _ e))) = absurd (omega (arith, e))
+
+  pub one-exactly : (c : Call) → (said s c .answer ≡ 1) ↔ IllFormed
+  unfolding said OccAnswer SbeAnswer UndoAnswer
+  one-exactly (occ sender c d) = Iff·trans (occ-answers s typed sender c d 1) (occ-one sender c d, λ h. here h refl)
+  one-exactly (sbe r d) = Iff·trans (sbe-answers s typed r d 1) (sbe-one r d, λ h. here h refl)
+  one-exactly undo = Iff·trans (undo-answers s 1) (undo-one, λ h. here h refl)

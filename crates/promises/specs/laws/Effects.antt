@@ -1,0 +1,293 @@
+-- What each accepted command makes of the session, and the change that demand 3 counts. Assumes nothing.
+use Prim.Native.Nat.{ℕ, _+_, _<_}
+use mathlib.Core.Bool.{Bool, true, false, cond, not, false≢true, true≢false}
+use mathlib.Core.Logic.{_↔_}
+use mathlib.Core.Path.{_≡_, refl, sym, ap, subst, _∙_}
+use mathlib.Core.List.{List, [], _∷_}
+use native.Mathlib.Nat.{add-zero}
+use native.Mathlib.Omega.{arith}
+use lib.Dec.{eqb}
+use lib.ListN.{length, getD}
+use Rattle.wire.specs.Wire.{Bytes}
+use Rattle.wire.specs.Conditions.{_and_}
+use Rattle.wire.specs.laws.Cases.{else-b, else-eq, else-le}
+use Rattle.record.specs.declared.Log.{Log}
+use Rattle.record.specs.declared.Record.{Record}
+use Rattle.change.specs.Logs.{pendingOf, removeAt, insertAt, pendsAt}
+use Rattle.change.specs.With.{withState, withLogs}
+use Rattle.change.specs.Change.{accepted, clearOf, resetOf, putWith, putOf, madeBy, noTables, backOf, kindOf, tablesFor, inverseOf}
+use Rattle.change.specs.declared.Change.{Change}
+use Rattle.change.specs.declared.Changed.{Changed}
+use Rattle.change.specs.declared.Tables.{Tables}
+use Rattle.change.specs.declared.Edit.{Edit}
+use Rattle.entries.specs.Entries.{bytesOf}
+use Rattle.journal.specs.Bytes.{bodyOf, entryFor, entryBytes}
+use Rattle.journal.specs.Add.{endOf}
+use Rattle.journal.specs.laws.Ends.{length-entry, added}
+use Rattle.journal.specs.declared.End.{End}
+use Rattle.journal.specs.declared.End.the-variants.{At, Full}
+use Rattle.packet.specs.Packet.{dataOf}
+use Rattle.occ.specs.declared.Verdict.the-variants.{Make}
+use Rattle.occ.specs.laws.Exactly.{found-there}
+use Rattle.sbe.specs.Mailbox.{responseBytes}
+use Rattle.session.specs.Session.{withHeld, madeOf, carriedTo, carriedOf}
+use Rattle.session.specs.laws.Session.{Formed, formed}
+use Rattle.session.specs.declared.Session.{Session}
+use Rattle.occ_call.specs.Occ as occs
+use Rattle.sbe_call.specs.Sbe as sbes
+use Rattle.undo_call.specs.Undo.{undoCall}
+use Rattle.links.specs.Typed.{TypedSession}
+use Rattle.links.specs.laws.Made.{Made}
+use Rattle.promises.specs.Calls.{Call, occ, sbe, undo, said}
+use Rattle.promises.specs.History.{Deed, keeps, adds, strikes, deed}
+use Rattle.promises.specs.Demand1.{OccDue}
+use Rattle.promises.specs.Demand2.{atFront, NotPoll, successReply, OccSucceeds, SbeSucceeds}
+use Rattle.promises.specs.Effects.{becomes, OccEffect, poll, clear-log, set-state, set-role, set-caps, set-throttles, set-thermal, set-user, reset, reset-logged, SbeEffect, start-deadman, stop-deadman, set-mask, set-areas}
+use Rattle.promises.specs.laws.Asked.{data-bytes, next-some, occ-made, sbe-made}
+use Rattle.promises.specs.laws.WellFormed.{l, room, session-is}
+use Rattle.promises.specs.laws.OccAsks as occ-asks
+use Rattle.promises.specs.laws.OccWays as occ-ways
+use Rattle.promises.specs.laws.OccDemands.{well-read, not-refused, asked-as, polled-type, made-type, done-is, heard-exactly}
+use Rattle.promises.specs.laws.SbeDemands as sbe-demands
+use Rattle.promises.specs.laws.Replies.{front-is}
+
+-- ---- a change carried out
+
+module _ (s : Session) (f : Formed s) (typed : TypedSession s) (e : Edit) (made : Made (s .held) (s .next) (e .tables) (e .change)) (fits : carriedOf s e .full ≡ false) where
+  abbrev back : Edit
+  back = inverseOf (s .held) e
+
+  carried-becomes : carriedOf s e .session ≡ becomes s (putOf (s .held) e .after) (s .next + madeOf (e .change)) (entryBytes back)
+  carried-becomes =
+      let w = l s f (typed .held) e made fits .back-writable in
+      let j = added back (s .used) (s .journal) w (room s f (typed .held) e made fits) in
+      session-is s f (typed .held) e made fits
+      ∙ (λ i. withHeld (putOf (s .held) e .after) (s .next + madeOf (e .change)) (j i) (s .used + sym (length-entry back w) i))
+
+  becomes-row : (held : Record) (next : ℕ) (entry : List ℕ) → putOf (s .held) e .after ≡ held → s .next + madeOf (e .change) ≡ next → entryBytes back ≡ entry
+      → carriedOf s e .session ≡ becomes s held next entry
+  becomes-row held next entry p q r = carried-becomes ∙ (λ i. becomes s (p i) (q i) (r i))
+
+-- ---- OCC
+
+module _ (s : Session) (f : Formed s) (typed : TypedSession s) where
+  abbrev r : Record
+  r = s .held
+
+  some-next : s .next ≡ 0 → ⊥
+  some-next z = omega (arith, z, next-some (s .held) (s .next) (f .record-ok))
+
+  -- a cleared log that pends leaves; a reset with a log that has room makes it, and draws one id
+  cleared : (place : ℕ) (log : Log) → pendsAt place log (r .logs) ≡ true → clearOf r place log ≡ accepted (withLogs r (removeAt place (r .logs)))
+  unfolding clearOf
+  cleared place log h = sym (else-b _ _ (ap not h) refl)
+
+  logged : (reason : ℕ) → pendingOf (r .logs) < 4
+      → resetOf r (record { id = s .next; reason = reason }) ≡ accepted (withLogs (withState r 1) (insertAt (pendingOf (r .logs)) (record { id = s .next; reason = reason }) (r .logs)))
+  unfolding resetOf
+  logged reason h = sym (else-eq _ _ some-next (else-le _ _ h refl))
+
+  drawn : (reason : ℕ) → madeBy (record { id = s .next; reason = reason }) ≡ 1
+  unfolding madeBy
+  drawn reason = sym (else-eq 0 1 some-next refl)
+
+  module _ (type : ℕ) (d : List ℕ) where
+    abbrev Effect : Session → Type 0
+    Effect = OccEffect s type d
+
+    module _ (ch : Change) (t : Tables) (made : Made (s .held) (s .next) t ch) (fits : carriedOf s (record { change = ch; tables = t }) .full ≡ false) where
+      abbrev edit : Edit
+      edit = record { change = ch; tables = t }
+
+      by-row : (held : Record) (next : ℕ) (entry : List ℕ) → putWith r t ch .after ≡ held → s .next + madeOf ch ≡ next → entryBytes (inverseOf r edit) ≡ entry
+          → Effect (becomes s held next entry) → Effect (carriedOf s edit .session)
+      unfolding putOf
+      by-row held next entry p q x e = subst Effect (sym (becomes-row s f typed edit made fits held next entry p q x)) e
+
+    effect : (ch : Change) (t : Tables) → occ-asks.Asks r (s .next) type d (Make ch) t → Made r (s .next) t ch
+        → (fits : carriedOf s (record { change = ch; tables = t }) .full ≡ false) → Effect (carriedOf s (record { change = ch; tables = t }) .session)
+    unfolding putWith accepted madeOf entryBytes entryFor bytesOf bodyOf inverseOf backOf tablesFor kindOf resetOf madeBy
+    effect ch t (occ-asks.clears e low) made fits =
+        by-row ch t made fits _ _ _ (ap (λ (x : Changed). x .after) (cleared _ _ (made .0))) (add-zero _) refl
+        (clear-log _ e low (found-there (getD d 0 0) (r .logs) (typed .held .logs) low .1))
+    effect ch t (occ-asks.sets-state e) made fits = by-row ch t made fits _ _ _ refl (add-zero _) refl (set-state e)
+    effect ch t (occ-asks.sets-role e g) made fits = by-row ch t made fits _ _ _ refl (add-zero _) refl (set-role e g)
+    effect ch t (occ-asks.sets-caps e g) made fits = by-row ch t made fits _ _ _ refl (add-zero _) refl (set-caps e g)
+    effect ch t (occ-asks.sets-throttles e g x y) made fits = by-row ch t made fits _ _ _ refl (add-zero _) refl (set-throttles e g x y)
+    effect ch t (occ-asks.sets-thermal e g x y) made fits = by-row ch t made fits _ _ _ refl (add-zero _) refl (set-thermal e g x y)
+    effect ch t (occ-asks.sets-user e) made fits = by-row ch t made fits _ _ _ refl (add-zero _) refl (set-user e)
+    effect ch t (occ-asks.resets e none) made fits = by-row ch t made fits _ _ _ refl (add-zero _) refl (reset e none)
+    effect ch t (occ-asks.resets-logged e due low) made fits =
+        by-row ch t made fits _ _ _ (ap (λ (x : Changed). x .after) (logged _ low)) (ap (λ (n : ℕ). s .next + n) (drawn (getD d 1 0))) (ap (λ (n : ℕ). 0x08 ∷ r .state ∷ n ∷ []) (drawn (getD d 1 0)))
+        (reset-logged e due)
+
+-- two deeds that differ
+abbrev adding : Deed → Bool
+adding keeps = false
+adding (adds e) = true
+adding strikes = false
+
+keeps-not : (e : Edit) → keeps ≡ adds e → ⊥
+keeps-not e p = false≢true (ap adding p)
+
+strikes-not : (e : Edit) → strikes ≡ adds e → ⊥
+strikes-not e p = false≢true (ap adding p)
+
+same-edit : (a b : Edit) → adds a ≡ adds b → a ≡ b
+same-edit a b p = cc
+
+carried-held : (s : Session) (e : Edit) → carriedOf s e .full ≡ false → carriedOf s e .session .held ≡ putOf (s .held) e .after
+unfolding carriedOf carriedTo withHeld
+carried-held s e fits = go (endOf (length (s .journal)) (s .used) (inverseOf (s .held) e)) fits
+  where
+    go : (x : End) → carriedTo s e x .full ≡ false → carriedTo s e x .session .held ≡ putOf (s .held) e .after
+    go (At used) h = refl
+    go Full h = absurd (true≢false h)
+
+module _ (s : Session) (typed : TypedSession s) (sender : ℕ) (c d : List ℕ) where
+  abbrev OccLeft : Session → Type 0
+  OccLeft = OccEffect s (getD c 1 0) (dataOf c)
+
+  abbrev Done : occs.OccResult → Type 0
+  Done q = (q .outcome .answer ≡ 0) and (q .reply ≡ atFront (successReply s c) d)
+
+  heard-effect : Bytes c → OccDue s sender c d → (q : occs.OccResult) (e : Deed) → occ-ways.Heard s sender c d q e → Done q → OccLeft (q .outcome .session)
+  unfolding occs.kept occs.says occs.answered
+  heard-effect b p q e (occ-ways.ill-read z) ok =
+      absurd (z (well-read s typed sender c d p (heard-exactly s typed sender c d p q e (occ-ways.ill-read z) .0 ok .0)))
+  heard-effect b p q e (occ-ways.declined z n v) ok =
+      absurd (not-refused s typed sender c d p n v (heard-exactly s typed sender c d p q e (occ-ways.declined z n v) .0 ok .0))
+  heard-effect b p q e (occ-ways.polled z v) ok = poll (polled-type s typed sender c d p v)
+  heard-effect b p q e (occ-ways.no-room z ch v full) ok = absurd (omega (arith, ok .0))
+  heard-effect b p q e (occ-ways.carried z ch v fits) ok =
+      let f = formed s (p .formed) in
+      effect s f typed (getD c 1 0) (dataOf c) ch _ (asked-as s typed sender c d p (Make ch) v)
+      (occ-made (s .held) (s .worked) (s .next) sender (getD c 1 0) (dataOf c) (data-bytes c b) (f .record-ok) (typed .held) ch v) fits
+
+  called-effect : Bytes c → (q : occs.OccResult) (e : Deed) → occ-ways.Called s sender c d q e → Done q → OccLeft (q .outcome .session)
+  unfolding occs.kept occs.answered
+  called-effect b q e (occ-ways.ill-formed h) ok = absurd (omega (arith, ok .0))
+  called-effect b q e (occ-ways.unknown w h) ok = absurd (omega (arith, ok .0))
+  called-effect b q e (occ-ways.short-reply w k h) ok = absurd (omega (arith, ok .0))
+  called-effect b q e (occ-ways.short-command w k g h) ok = absurd (omega (arith, ok .0))
+  called-effect b q e (occ-ways.due p x y h) ok = heard-effect b p x y h ok
+
+  pub occ-effect : Bytes c → OccSucceeds s sender c d → OccLeft (occs.occCall s sender c d .outcome .session)
+  unfolding OccSucceeds
+  occ-effect b ok = called-effect b _ _ (occ-ways.called s sender c d) ok
+
+  -- ---- the change that is counted
+
+  abbrev Adds : Deed → Type 0
+  Adds e = (x : Edit) × (e ≡ adds x)
+
+  kept-never : {P : Type 0} → Adds keeps → P
+  kept-never a = absurd (keeps-not (a .0) (a .1))
+
+  called-deed : (q : occs.OccResult) (e : Deed) → occ-ways.Called s sender c d q e → Adds e ↔ (Done q and NotPoll c)
+  unfolding occs.kept occs.says occs.answered
+  called-deed q e (occ-ways.ill-formed h) = (kept-never, λ x. absurd (omega (arith, x .0 .0)))
+  called-deed q e (occ-ways.unknown w h) = (kept-never, λ x. absurd (omega (arith, x .0 .0)))
+  called-deed q e (occ-ways.short-reply w k h) = (kept-never, λ x. absurd (omega (arith, x .0 .0)))
+  called-deed q e (occ-ways.short-command w k g h) = (kept-never, λ x. absurd (omega (arith, x .0 .0)))
+  called-deed q e (occ-ways.due p y g (occ-ways.ill-read z)) =
+      (kept-never, λ x. absurd (z (well-read s typed sender c d p (heard-exactly s typed sender c d p y g (occ-ways.ill-read z) .0 (x .0) .0))))
+  called-deed q e (occ-ways.due p y g (occ-ways.declined z n v)) =
+      (kept-never, λ x. absurd (not-refused s typed sender c d p n v (heard-exactly s typed sender c d p y g (occ-ways.declined z n v) .0 (x .0) .0)))
+  called-deed q e (occ-ways.due p y g (occ-ways.polled z v)) = (kept-never, λ x. absurd (x .1 (polled-type s typed sender c d p v)))
+  called-deed q e (occ-ways.due p y g (occ-ways.no-room z ch v full)) = (kept-never, λ x. absurd (omega (arith, x .0 .0)))
+  called-deed q e (occ-ways.due p y g (occ-ways.carried z ch v fits)) =
+      let n = made-type s typed sender c d p ch v in
+      (λ a. ((refl, done-is s typed sender c d p n), n), λ x. (occ-ways.edit s sender c d ch, refl))
+
+  pub occ-deed : ((x : Edit) × (deed s (occ sender c d) ≡ adds x)) ↔ (OccSucceeds s sender c d and NotPoll c)
+  unfolding OccSucceeds
+  occ-deed = called-deed _ _ (occ-ways.called s sender c d)
+
+-- ---- SBE
+
+module _ (s : Session) (typed : TypedSession s) (r d : List ℕ) where
+  module _ (f : Formed s) (ch : Change) (made : Made (s .held) (s .next) noTables ch) (fits : carriedOf s (sbe-demands.edit ch) .full ≡ false) where
+    by-request : (held : Record) (entry : List ℕ) → putWith (s .held) noTables ch .after ≡ held → s .next + madeOf ch ≡ s .next → entryBytes (inverseOf (s .held) (sbe-demands.edit ch)) ≡ entry
+        → SbeEffect s r (becomes s held (s .next) entry) → SbeEffect s r (carriedOf s (sbe-demands.edit ch) .session)
+    unfolding putOf
+    by-request held entry p q x e = subst (SbeEffect s r) (sym (becomes-row s f typed (sbe-demands.edit ch) made fits held (s .next) entry p q x)) e
+
+  request-effect : (f : Formed s) (ch : Change) → sbe-demands.Asks r ch → Made (s .held) (s .next) noTables ch
+      → (fits : carriedOf s (sbe-demands.edit ch) .full ≡ false) → SbeEffect s r (carriedOf s (sbe-demands.edit ch) .session)
+  unfolding putWith accepted madeOf entryBytes entryFor bytesOf bodyOf inverseOf backOf tablesFor kindOf
+  request-effect f ch (sbe-demands.starts n e) made fits = by-request f ch made fits _ _ refl (add-zero _) refl (start-deadman n e)
+  request-effect f ch (sbe-demands.stops n e) made fits = by-request f ch made fits _ _ refl (add-zero _) refl (stop-deadman n e)
+  request-effect f ch (sbe-demands.masks n) made fits = by-request f ch made fits _ _ refl (add-zero _) refl (set-mask n)
+  request-effect f ch (sbe-demands.sets-areas n) made fits = by-request f ch made fits _ _ refl (add-zero _) refl (set-areas n)
+
+  abbrev Responded : sbes.SbeResult → Type 0
+  Responded q = (q .outcome .answer ≡ 0) and (q .reply ≡ atFront (responseBytes 0x00 0x00 r) d)
+
+  called-request : Bytes r → (q : sbes.SbeResult) (e : Deed) → sbe-demands.Called s typed r d q e → Responded q → SbeEffect s r (q .outcome .session)
+  unfolding sbes.kept sbes.responds sbes.rung
+  called-request b q e (sbe-demands.ill-formed h) ok = absurd (omega (arith, ok .0))
+  called-request b q e (sbe-demands.short-reply w h) ok = absurd (omega (arith, ok .0))
+  called-request b q e (sbe-demands.short-request w g h) ok = absurd (omega (arith, ok .0))
+  called-request b q e (sbe-demands.due p y g (sbe-demands.declined m n v)) ok = absurd (sbe-demands.told-apart s typed r d m n v (sym (front-is _ d) ∙ ok .1))
+  called-request b q e (sbe-demands.due p y g (sbe-demands.no-room ch v full)) ok = absurd (omega (arith, ok .0))
+  called-request b q e (sbe-demands.due p y g (sbe-demands.carried ch v fits)) ok =
+      request-effect (formed s (p .formed)) ch (sbe-demands.asks r ch v) (sbe-made (s .held) (s .next) r b ch v) fits
+
+  pub sbe-effect : Bytes r → SbeSucceeds s r d → SbeEffect s r (sbes.sbeCall s r d .outcome .session)
+  unfolding SbeSucceeds
+  sbe-effect b ok = called-request b _ _ (sbe-demands.called s typed r d) ok
+
+  request-deed : (q : sbes.SbeResult) (e : Deed) → sbe-demands.Called s typed r d q e → ((x : Edit) × (e ≡ adds x)) ↔ Responded q
+  unfolding sbes.kept sbes.responds sbes.rung
+  request-deed q e (sbe-demands.ill-formed h) = (λ a. absurd (keeps-not (a .0) (a .1)), λ x. absurd (omega (arith, x .0)))
+  request-deed q e (sbe-demands.short-reply w h) = (λ a. absurd (keeps-not (a .0) (a .1)), λ x. absurd (omega (arith, x .0)))
+  request-deed q e (sbe-demands.short-request w g h) = (λ a. absurd (keeps-not (a .0) (a .1)), λ x. absurd (omega (arith, x .0)))
+  request-deed q e (sbe-demands.due p y g (sbe-demands.declined m n v)) =
+      (λ a. absurd (keeps-not (a .0) (a .1)), λ x. absurd (sbe-demands.told-apart s typed r d m n v (sym (front-is _ d) ∙ x .1)))
+  request-deed q e (sbe-demands.due p y g (sbe-demands.no-room ch v full)) = (λ a. absurd (keeps-not (a .0) (a .1)), λ x. absurd (omega (arith, x .0)))
+  request-deed q e (sbe-demands.due p y g (sbe-demands.carried ch v fits)) = (λ a. (refl, front-is _ d), λ x. (sbe-demands.edit ch, refl))
+
+  pub sbe-deed : ((x : Edit) × (deed s (sbe r d) ≡ adds x)) ↔ SbeSucceeds s r d
+  unfolding SbeSucceeds
+  sbe-deed = request-deed _ _ (sbe-demands.called s typed r d)
+
+-- ---- the change that a call counts as is the one that its record shows
+
+module _ (s : Session) (typed : TypedSession s) (x : Edit) where
+  abbrev Shown : Session → Type 0
+  Shown t = t .held ≡ putOf (s .held) x .after
+
+  counted : (e : Edit) → adds e ≡ adds x → carriedOf s e .full ≡ false → Shown (carriedOf s e .session)
+  counted e p fits = carried-held s e fits ∙ ap (λ (y : Edit). putOf (s .held) y .after) (same-edit e x p)
+
+  occ-shown : (sender : ℕ) (c d : List ℕ) (q : occs.OccResult) (e : Deed) → occ-ways.Called s sender c d q e → e ≡ adds x → Shown (q .outcome .session)
+  unfolding occs.says occs.answered
+  occ-shown sender c d q e (occ-ways.ill-formed h) p = absurd (keeps-not x p)
+  occ-shown sender c d q e (occ-ways.unknown w h) p = absurd (keeps-not x p)
+  occ-shown sender c d q e (occ-ways.short-reply w k h) p = absurd (keeps-not x p)
+  occ-shown sender c d q e (occ-ways.short-command w k g h) p = absurd (keeps-not x p)
+  occ-shown sender c d q e (occ-ways.due y g k (occ-ways.ill-read z)) p = absurd (keeps-not x p)
+  occ-shown sender c d q e (occ-ways.due y g k (occ-ways.declined z n v)) p = absurd (keeps-not x p)
+  occ-shown sender c d q e (occ-ways.due y g k (occ-ways.polled z v)) p = absurd (keeps-not x p)
+  occ-shown sender c d q e (occ-ways.due y g k (occ-ways.no-room z ch v full)) p = absurd (keeps-not x p)
+  occ-shown sender c d q e (occ-ways.due y g k (occ-ways.carried z ch v fits)) p = counted _ p fits
+
+  sbe-shown : (r d : List ℕ) (q : sbes.SbeResult) (e : Deed) → sbe-demands.Called s typed r d q e → e ≡ adds x → Shown (q .outcome .session)
+  unfolding sbes.responds sbes.rung
+  sbe-shown r d q e (sbe-demands.ill-formed h) p = absurd (keeps-not x p)
+  sbe-shown r d q e (sbe-demands.short-reply w h) p = absurd (keeps-not x p)
+  sbe-shown r d q e (sbe-demands.short-request w g h) p = absurd (keeps-not x p)
+  sbe-shown r d q e (sbe-demands.due y g k (sbe-demands.declined m n v)) p = absurd (keeps-not x p)
+  sbe-shown r d q e (sbe-demands.due y g k (sbe-demands.no-room ch v full)) p = absurd (keeps-not x p)
+  sbe-shown r d q e (sbe-demands.due y g k (sbe-demands.carried ch v fits)) p = counted _ p fits
+
+  undo-never : (b : Bool) → cond b strikes keeps ≡ adds x → ⊥
+  undo-never true p = strikes-not x p
+  undo-never false p = keeps-not x p
+
+  pub deed-shown : (c : Call) → deed s c ≡ adds x → said s c .session .held ≡ putOf (s .held) x .after
+  unfolding said deed
+  deed-shown (occ sender c d) p = occ-shown sender c d _ _ (occ-ways.called s sender c d) p
+  deed-shown (sbe r d) p = sbe-shown r d _ _ (sbe-demands.called s typed r d) p
+  deed-shown undo p = absurd (undo-never (eqb (undoCall s .answer) 0) p)

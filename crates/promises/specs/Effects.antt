@@ -1,9 +1,9 @@
 -- Demand 2, the effects: what the session is after each accepted command, one row a command. All that a row doesn't name is as before.
-use Prim.Native.Nat.{ℕ, _+_, _%_, _<_}
+use Prim.Native.Nat.{ℕ, _+_, _-_, _%_, _<_}
 use mathlib.Core.Logic.{_⊎_}
 use mathlib.Core.Path.{_≡_}
 use mathlib.Core.List.{List, [], _∷_}
-use lib.ListN.{length, getD, take, drop}
+use lib.ListN.{length, getD, take, drop, replicate}
 use Rattle.wire.specs.Wire.{beNat, toBE, pasted}
 use Rattle.wire.specs.Conditions.{_and_}
 use Rattle.record.specs.Record.{noLog}
@@ -11,6 +11,9 @@ use Rattle.record.specs.declared.Throttles.{Throttles}
 use Rattle.record.specs.declared.Record.{Record}
 use Rattle.change.specs.Logs.{pendingOf, removeAt, insertAt}
 use Rattle.change.specs.With.{withState, withRole, withCaps, withThrottles, withUser, withThermal, withLogs, withMask, withDeadman, withAreas}
+use Rattle.change.specs.Change.{kindOf, putOf}
+use Rattle.change.specs.declared.Edit.{Edit}
+use Rattle.entries.specs.Entries.{written}
 use Rattle.journal.specs.Bytes.{clearedBody, capsBody, throttlesBody, deadmanBody, areasBody}
 use Rattle.sets.specs.Conditions.{SentPairs, SentFrus}
 use Rattle.occ.specs.Commands.{sentCaps}
@@ -18,10 +21,16 @@ use Rattle.sbe.specs.Mailbox.{flagsOf, wordAt}
 use Rattle.sbe.specs.Conditions.{Names, startAsked, stopAsked, areasAsked}
 use Rattle.session.specs.Session.{withHeld}
 use Rattle.session.specs.declared.Session.{Session}
+use Rattle.undo_call.specs.Undo.{Undone}
+use Rattle.promises.specs.Demand2.{Newest}
 
 -- the session with this record, what is worked out of it, this next id, and one entry more after the used journal
 abbrev pub becomes : Session → Record → ℕ → List ℕ → Session
 becomes s held next entry = withHeld held next (pasted (s .used) entry (s .journal)) (s .used + length entry)
+
+-- the session with this record, what is worked out of it, and zeros from the place on where the newest entry begins
+abbrev pub withoutNewest : Session → Record → ℕ → Session
+withoutNewest s held at = withHeld held (s .next) (pasted at (replicate (s .used - at) 0) (s .journal)) at
 
 -- "A log is made for reason 1, and for 2 on a master"
 abbrev pub LogDue : ℕ → ℕ → Type 0
@@ -64,3 +73,10 @@ pub data SbeEffect (s : Session) (r : List ℕ) : Session → Type 0 where
   set-mask : Names 0xD1 0x03 r → SbeEffect s r (becomes s (withMask (s .held) (wordAt 8 r)) (s .next) (0x09 ∷ toBE 4 (s .held .mask)))
   -- D7 04: both areas are those sent; size 0 makes address and size 0
   set-areas : Names 0xD7 0x04 r → SbeEffect s r (becomes s (withAreas (s .held) (areasAsked r)) (s .next) (0x0B ∷ areasBody (s .held .areas)))
+
+-- an accepted undo: what the newest entry says was before is in the record again, the entry is zeroed, its kind reported; the next id stays
+pub record UndoEffect (s : Session) (q : Undone) : Type 0 where
+  pub before : Edit
+  pub newest : Newest s before
+  pub kind-is : q .kind ≡ kindOf (before .change)
+  pub session-is : q .session ≡ withoutNewest s (putOf (s .held) before .after) (length (written (newest .older)))

@@ -27,10 +27,10 @@ use Rattle.undo_call.specs.laws.Came as undo-came
 use Rattle.promises.specs.Calls.{Call, occ, sbe, said}
 use Rattle.promises.specs.Demand1.{OccAnswer, SbeAnswer, UndoAnswer, OccDue, SbeDue, OccStatus, occError, sbeError}
 use Rattle.promises.specs.Demand2.{atFront, NotPoll, successReply, OccSucceeds, OccAccepted, SbeSucceeds, SbeAccepted, UndoAccepted}
-use Rattle.promises.specs.Effects.{OccEffect, SbeEffect}
+use Rattle.promises.specs.Effects.{OccEffect, SbeEffect, UndoEffect}
 use Rattle.promises.specs.laws.OccDemands.{occ-answers, occ-statuses, occ-reply, occ-accepted}
 use Rattle.promises.specs.laws.SbeDemands.{sbe-answers, sbe-statuses, sbe-reply, sbe-accepted}
-use Rattle.promises.specs.laws.UndoDemands.{undo-answers, undo-accepted}
+use Rattle.promises.specs.laws.UndoDemands.{undo-answers, undo-accepted, undo-effect}
 use Rattle.promises.specs.laws.Answers.{one-exactly}
 use Rattle.promises.specs.laws.Effects.{occ-effect, sbe-effect, occ-deed, sbe-deed, deed-shown}
 use Rattle.promises.specs.History.{adds, deed, logsMade, run, start, OfBytes, AllOfBytes, Demand3}
@@ -177,6 +177,9 @@ effect-of-occ = occ-effect
 
 pub effect-of-sbe : (s : Session) → TypedSession s → (r d : List ℕ) → Bytes r → SbeSucceeds s r d → SbeEffect s r (sbeCall s r d .outcome .session)
 effect-of-sbe = sbe-effect
+
+pub effect-of-undo : (s : Session) → undoCall s .answer ≡ 0 → UndoEffect s (undoCall s)
+effect-of-undo = undo-effect
 
 -- the changes that demand 3 counts: those calls that succeed, but for polls; and what a call counts as is what its record shows
 pub counted-of-occ : (s : Session) → TypedSession s → (sender : ℕ) (c d : List ℕ)

@@ -80,9 +80,9 @@ module _ (r : List ℕ) where
 
   -- ---- the statuses: primary 1 or 2, and two bytes each
 
-  pub record Small (n : Status) : Type 0 where
-    pub primary : (n .0 ≡ 1) ⊎ (n .0 ≡ 2)
-    pub secondary : n .1 < 65536
+  record Small (n : Status) : Type 0 where
+    primary : (n .0 ≡ 1) ⊎ (n .0 ≡ 2)
+    secondary : n .1 < 65536
 
   small : (n : Status) (p q : ℕ) → (p ≡ 1) ⊎ (p ≡ 2) → q < 65536 → n ≡ (p, q) → Small n
   small n p q a b e = subst Small (sym e) (record { primary = a; secondary = b })

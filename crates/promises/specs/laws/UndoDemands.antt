@@ -7,10 +7,11 @@ use mathlib.Core.List.{List, [], _∷_}
 use native.Mathlib.Omega.{arith}
 use borrow.Author.Tests.{not-false, not-true, eqb-true, eqb-false}
 use lib.Dec.{eqb}
-use lib.ListN.{length, take, drop}
+use lib.ListN.{length, take, drop, replicate}
 use lib.Seq.{length-take-le}
 use Rattle.wire.specs.Conditions.{is}
-use Rattle.wire.specs.laws.Cases.{else-eq, else-ne, cond-cases}
+use Rattle.wire.specs.Wire.{pasted}
+use Rattle.wire.specs.laws.Cases.{else-eq, else-ne, else-lt, cond-cases}
 use Rattle.wire.specs.laws.Chains.{eq-holds, lt-passes, le-passes, zero-passes, not-passes, unless, unless-last, or-else}
 use Rattle.wire.specs.laws.Tables.{ByTable, by-is, hit, miss}
 use Rattle.wire.specs.laws.Wire.{tail-part, part-of-part}
@@ -25,14 +26,16 @@ use Rattle.formed.specs.Formed.{recordOk}
 use Rattle.entries.specs.Entries.{Entry, bodyLen, bytesOf, written, Scan, between, scan, newestAt, readingOf}
 use Rattle.entries.specs.laws.Entries.{scan-written, scan-proper, drop-newest, length-written, newest-written}
 use Rattle.journal.specs.Read.{foundFor, tablesIn, badGot, gotFor, gotOf, valuesOk, entryOk, allOk}
+use Rattle.journal.specs.Add.{cutFrom}
 use Rattle.journal.specs.declared.Found.{Found}
 use Rattle.journal.specs.declared.Found.the-variants.{Good, Bad}
-use Rattle.session.specs.Session.{wellFormed}
+use Rattle.session.specs.Session.{wellFormed, withHeld}
 use Rattle.session.specs.laws.Session.{formed}
 use Rattle.session.specs.declared.Session.{Session}
 use Rattle.undo_call.specs.Undo.{Undone, notUndone, undone, undonePut, undoneWith, undoneFound, undoneGot, undoneAt, undoneRead, undoneNewest, undoCall}
 use Rattle.promises.specs.Demand1.{UndoAnswer}
 use Rattle.promises.specs.Demand2.{Newest, TakesBack, Undoable, UndoAccepted}
+use Rattle.promises.specs.Effects.{UndoEffect}
 use Rattle.promises.specs.laws.WellFormed.{reads}
 
 -- ---- what can be put in
@@ -116,17 +119,17 @@ module _ (s : Session) where
     ill-formed : (wellFormed s ≡ true → ⊥) → Called (notUndone 1 s)
     empty : wellFormed s ≡ true → s .used ≡ 0 → Called (notUndone 6 s)
     kept : wellFormed s ≡ true → (e : Edit) → Newest s e → (Undoable s e → ⊥) → Called (notUndone 7 s)
-    taken : wellFormed s ≡ true → (e : Edit) (at : ℕ) → Newest s e → Undoable s e → Called (undone s at (kindOf (e .change)) (putOf (s .held) e))
+    taken : wellFormed s ≡ true → (e : Edit) (n : Newest s e) → Undoable s e → Called (undone s (length (written (n .older))) (kindOf (e .change)) (putOf (s .held) e))
 
   module _ (w : wellFormed s ≡ true) where
-    called-with : (e : Edit) (at : ℕ) → Newest s e → Called (undoneWith s at e)
+    called-with : (e : Edit) (n : Newest s e) → Called (undoneWith s (length (written (n .older))) e)
     unfolding undoneWith undonePut putOf
-    called-with e at n =
+    called-with e n =
         let exactly = takes-exactly (s .held) (e .tables) (e .change) in
         let fine = recordOk (putOf (s .held) e .after) (s .next) in
         cond-cases Called (not (putOf (s .held) e .ok)) (λ h. kept w e n (λ u. true≢false (sym (exactly .1 (u .0)) ∙ not-true _ h)))
         (λ h. cond-cases Called (not fine) (λ g. kept w e n (λ u. true≢false (sym (u .1) ∙ not-true _ g)))
-        (λ g. taken w e at n (exactly .0 (not-false _ h), not-false _ g)))
+        (λ g. taken w e n (exactly .0 (not-false _ h), not-false _ g)))
 
     -- entries that were read, the newest first
     module _ (x : Entry) (es : List Entry) (read : scan used-part ≡ between (x ∷ es)) (good : allOk (x ∷ es) ≡ true) where
@@ -161,10 +164,10 @@ module _ (s : Session) where
       at-is = ap (undoneGot s at) says ∙ ap (undoneFound s at (tablesIn (x .kind) (x .body))) (change-there .1)
 
       called-newest : Called (undoneRead s (readingOf (scan used-part)))
-      unfolding undoneRead readingOf
+      unfolding undoneRead readingOf newestAt
       called-newest =
           subst Called (sym (ap (λ (v : Scan). undoneRead s (readingOf v)) read ∙ at-is))
-          (called-with newest at (record { entry = x; older = es; read = read; change = change-there .1; tables = refl }))
+          (called-with newest (record { entry = x; older = es; read = read; change = change-there .1; tables = refl }))
 
     called-read : (es : List Entry) → (s .used ≡ 0 → ⊥) → scan used-part ≡ between es → allOk es ≡ true → Called (undoneRead s (readingOf (scan used-part)))
     unfolding written
@@ -189,7 +192,7 @@ module _ (s : Session) where
   success x q (ill-formed h) = absurd (h x)
   success x q (empty w z) = (λ e. absurd (omega (arith, e)), λ a. absurd (newest-used (a .0) (a .1 .0) z))
   success x q (kept w e n bar) = (λ e. absurd (omega (arith, e)), λ a. absurd (bar (subst (Undoable s) (newest-one (a .0) e (a .1 .0) n) (a .1 .1))))
-  success x q (taken w e place n u) = (λ z. (e, (n, u)), λ a. refl)
+  success x q (taken w e n u) = (λ z. (e, (n, u)), λ a. refl)
 
   pub undo-accepted : wellFormed s ≡ true → (undoCall s .answer ≡ 0) ↔ UndoAccepted s
   undo-accepted w = success w _ called
@@ -208,9 +211,33 @@ module _ (s : Session) where
   answer-table q (ill-formed h) = hit Answers h (refuses 1)
   answer-table q (empty w z) = miss Answers (λ h. h w) (hit Answers z (refuses 6))
   answer-table q (kept w e n bar) = miss Answers (λ h. h w) (miss Answers (newest-used e n) (hit Answers (e, (n, bar)) (refuses 7)))
-  answer-table q (taken w e place n u) =
+  answer-table q (taken w e n u) =
       miss Answers (λ h. h w) (miss Answers (newest-used e n)
       (miss Answers (λ a. a .1 .1 (subst (Undoable s) (newest-one e (a .0) n (a .1 .0)) u)) (by-is Answers refl (λ m e. sym e))))
 
   pub undo-answers : (n : ℕ) → (undoCall s .answer ≡ n) ↔ UndoAnswer s n
   undo-answers = answer-table _ called .exactly
+
+  -- ---- the effect
+
+  zeroed : (at : ℕ) → at ≤ s .used → s .used ≤ length (s .journal) → cutFrom at (s .used) (s .journal) ≡ pasted at (replicate (s .used - at) 0) (s .journal)
+  unfolding cutFrom
+  zeroed at low high = sym (else-lt _ _ high (else-lt _ _ low refl))
+
+  newest-low : wellFormed s ≡ true → (e : Edit) (n : Newest s e) → length (written (n .older)) ≤ s .used
+  newest-low w e n =
+      let all = ap length (scan-written used-part (n .entry ∷ n .older) (n .read)) in
+      omega (arith, all, length-written (n .entry) (n .older), length-take-le (s .used) (s .journal) (formed s w .fits))
+
+  effect : (q : Undone) → Called q → q .answer ≡ 0 → UndoEffect s q
+  unfolding notUndone undone
+  effect q (ill-formed h) z = absurd (omega (arith, z))
+  effect q (empty w h) z = absurd (omega (arith, z))
+  effect q (kept w e n bar) z = absurd (omega (arith, z))
+  effect q (taken w e n u) z =
+      let at = length (written (n .older)) in
+      let cut = zeroed at (newest-low w e n) (formed s w .fits) in
+      record { before = e; newest = n; kind-is = refl; session-is = λ i. withHeld (putOf (s .held) e .after) (s .next) (cut i) at }
+
+  pub undo-effect : undoCall s .answer ≡ 0 → UndoEffect s (undoCall s)
+  undo-effect = effect _ called

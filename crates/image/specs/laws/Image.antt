@@ -9,11 +9,9 @@ use lib.ListN.{length, getD, take, drop, length-drop}
 use lib.Seq.{take-all, length-take-le, drop-cons, getD-take, getD-drop}
 use Rattle.wire.specs.Wire.{sumOf, beNat, toBE, Bytes}
 use Rattle.wire.specs.laws.Wire.{bytes-take, bytes-drop, be-toBE, toBE-be}
-use Rattle.wire.specs.laws.Cases.{else-lt}
 use Rattle.record.specs.Record.{noLog}
 use Rattle.record.specs.declared.Log.{Log}
 use Rattle.record.specs.declared.Record.{Record}
-use Rattle.session.specs.Session.{freshSession}
 use Rattle.session.specs.declared.Session.{Session}
 use Rattle.links.specs.Typed.{TypedSession}
 use Rattle.image.specs.Rows.{joined, widthsOf, rowsFrom}

@@ -5,7 +5,6 @@ use mathlib.Core.List.{List}
 use Rattle.inplace.specs.declared.Told.{Told}
 use lib.ListN.{length}
 use Rattle.wire.specs.Wire.{Bytes}
-use Rattle.session.specs.declared.Session.{Session}
 use Rattle.image.specs.declared.Head.{Head}
 use Rattle.image.specs.Image.{imageLength, imageOf, headIn, journalIn, sessionAt, sessionOf}
 use Rattle.image.specs.laws.Image.{image-session}

@@ -1,7 +1,6 @@
 -- `standin::serve` meets its contract: the lengths are kept; the turns left fall. Assumes nothing.
 use borrow.Author.Needs.{needs}
 use mathlib.Core.Path.{_≡_}
-use native.Mathlib.Omega.{arith}
 use lib.ListN.{length}
 use Rattle.standin.proofs.serve.Statement.{statement}
 use Rattle.standin.proofs.serve.Tie as tie

@@ -1,7 +1,7 @@
 -- Each change that a command makes is undone by its entry. Assumes nothing.
 use Prim.Native.Nat.{ℕ, _+_, _≤_}
 use mathlib.Core.Bool.{true}
-use mathlib.Core.Path.{_≡_, refl, sym, subst}
+use mathlib.Core.Path.{_≡_, refl, sym, ap, subst, _∙_}
 use mathlib.Core.Logic.{⊎-elim}
 use native.Mathlib.Omega.{arith}
 use borrow.Author.Tests.{ltb-false}
@@ -9,7 +9,8 @@ use lib.Dec.{ltb, leb}
 use Rattle.wire.specs.laws.Cases.{else-eq}
 use Rattle.record.specs.declared.Log.{Log}
 use Rattle.record.specs.declared.Record.{Record}
-use Rattle.change.specs.Change.{accepted, putOf, backOf, kindOf, tablesFor, inverseOf}
+use Rattle.change.specs.With.{withThrottles, withThermal}
+use Rattle.change.specs.Change.{accepted, putWith, putOf, backOf, kindOf, tablesFor, inverseOf}
 use Rattle.change.specs.declared.Change.{Change}
 use Rattle.change.specs.declared.Change.the-variants.{Clear, Unclear, SetState, SetRole, SetCaps, SetUser, SetThermal, SetThrottles, Reset, Unreset, SetMask, SetDeadman, SetAreas}
 use Rattle.change.specs.declared.Tables.{Tables}
@@ -20,6 +21,7 @@ use Rattle.journal.specs.Bytes.{entryFor, entryBytes}
 use Rattle.journal.specs.Read.{gotOf, entryOk}
 use Rattle.journal.specs.laws.Bodies.{Writable}
 use Rattle.journal.specs.declared.Found.the-variants.{Good}
+use Rattle.journal.specs.declared.Way.the-variants.{Before, After}
 use Rattle.session.specs.Session.{madeOf}
 use Rattle.links.specs.Typed.{TypedRecord}
 use Rattle.links.specs.laws.Logs.{passed}
@@ -64,9 +66,9 @@ made-ok r n t (SetDeadman deadman) s m = m .ok
 made-ok r n t (SetAreas areas) s m = m .ok
 
 -- what was before has the widths of the record's fields
-writable-back : (r : Record) (n : ℕ) (t : Tables) (ch : Change) → TypedRecord r → Made r n t ch → Writable (tablesFor (kindOf ch) r) (backOf r ch)
+writable-back : (r : Record) (n : ℕ) (t : Tables) (ch : Change) → TypedRecord r → Made r n t ch → Writable Before (tablesFor (kindOf ch) r) (backOf r ch)
 unfolding tablesFor kindOf backOf
-writable-back r n t (Clear place log) y m = refl
+writable-back r n t (Clear place log) y m = (refl, refl)
 writable-back r n t (Unclear place log) y m = absurd m
 writable-back r n t (SetState state) y m = refl
 writable-back r n t (SetRole got role) y m = refl
@@ -74,11 +76,44 @@ writable-back r n t (SetCaps got caps) y m = (y .caps, refl)
 writable-back r n t (SetUser user) y m = (y .user, refl)
 writable-back r n t (SetThermal got) y m = (y .thermal, refl)
 writable-back r n t (SetThrottles got) y m = (y .present, y .sets, refl)
-writable-back r n t (Reset log) y m = refl
+writable-back r n t (Reset log) y m = (refl, refl)
 writable-back r n t (Unreset state made) y m = absurd m
 writable-back r n t (SetMask mask) y m = (y .mask, refl)
 writable-back r n t (SetDeadman deadman) y m = (y .time, refl)
 writable-back r n t (SetAreas areas) y m = (y .ffdc, y .pass, refl)
+
+-- and so has the change itself
+writable-made : (r : Record) (n : ℕ) (t : Tables) (ch : Change) → Made r n t ch → Writable After t ch
+writable-made r n t (Clear place log) m = (refl, m .1)
+writable-made r n t (Unclear place log) m = absurd m
+writable-made r n t (SetState state) m = m .fits
+writable-made r n t (SetRole got role) m = m .fits
+writable-made r n t (SetCaps got caps) m = m .fits
+writable-made r n t (SetUser user) m = m .fits
+writable-made r n t (SetThermal got) m = m .fits
+writable-made r n t (SetThrottles got) m = m .fits
+writable-made r n t (Reset log) m = (refl, m .1)
+writable-made r n t (Unreset state made) m = absurd m
+writable-made r n t (SetMask mask) m = m .fits
+writable-made r n t (SetDeadman deadman) m = m .fits
+writable-made r n t (SetAreas areas) m = m .fits
+
+-- the tables beside it are those that the record after it has
+tables-again : (r : Record) (n : ℕ) (t : Tables) (ch : Change) → Made r n t ch → tablesFor (kindOf ch) (putWith r t ch .after) ≡ t
+unfolding tablesFor kindOf putWith accepted withThermal withThrottles
+tables-again r n t (Clear place log) m = sym (m .1)
+tables-again r n t (Unclear place log) m = absurd m
+tables-again r n t (SetState state) m = sym (m .fits)
+tables-again r n t (SetRole got role) m = sym (m .fits)
+tables-again r n t (SetCaps got caps) m = sym (m .fits .1)
+tables-again r n t (SetUser user) m = sym (m .fits .1)
+tables-again r n t (SetThermal got) m = λ i. record { thermal = t .thermal; throttles = sym (m .fits .1) i }
+tables-again r n t (SetThrottles got) m = λ i. record { thermal = sym (m .fits .2) i; throttles = t .throttles }
+tables-again r n t (Reset log) m = sym (m .1)
+tables-again r n t (Unreset state made) m = absurd m
+tables-again r n t (SetMask mask) m = sym (m .fits .1)
+tables-again r n t (SetDeadman deadman) m = sym (m .fits .1)
+tables-again r n t (SetAreas areas) m = sym (m .fits .2)
 
 -- a change and what takes it back are of one kind
 pub kind-of-back : (r : Record) (ch : Change) → kindOf (backOf r ch) ≡ kindOf ch
@@ -97,34 +132,47 @@ kind-of-back r (SetMask mask) = refl
 kind-of-back r (SetDeadman deadman) = refl
 kind-of-back r (SetAreas areas) = refl
 
--- ---- all that is known of a change e that is made on the record r with the next id n, whose entry holds inverseOf r e
+-- ---- all that is known of a change e that is made on the record r with the next id n: its entry holds inverseOf r e, and once it is undone, the
+-- redo store e itself
 
 pub record Link (r : Record) (n : ℕ) (e : Edit) : Type 0 where
   pub put-accepted : putOf r e .ok ≡ true
   pub put-sound : recordOk (putOf r e .after) (n + madeOf (e .change)) ≡ true
   pub put-typed : TypedRecord (putOf r e .after)
-  pub back-writable : Writable (inverseOf r e .tables) (inverseOf r e .change)
+  pub back-writable : Writable Before (inverseOf r e .tables) (inverseOf r e .change)
+  pub here-writable : Writable After (e .tables) (e .change)
   pub back-ok : editOk (inverseOf r e) ≡ true
   pub put-back : putOf (putOf r e .after) (inverseOf r e) ≡ accepted r
+  pub again : inverseOf (putOf r e .after) (inverseOf r e) ≡ e
   pub kind-back : kindOf (inverseOf r e .change) ≡ kindOf (e .change)
-  pub entry-good : entryOk (entryFor (inverseOf r e)) ≡ true
-  pub entry-reads : gotOf (entryBytes (inverseOf r e)) ≡ record { found = Good (inverseOf r e .change); tables = inverseOf r e .tables }
+  pub entry-good : entryOk Before (entryFor (inverseOf r e)) ≡ true
+  pub entry-reads : gotOf Before (entryBytes (inverseOf r e)) ≡ record { found = Good (inverseOf r e .change); tables = inverseOf r e .tables }
+  pub redo-good : entryOk After (entryFor e) ≡ true
+  pub redo-reads : gotOf After (entryBytes e) ≡ record { found = Good (e .change); tables = e .tables }
 
 pub link : (r : Record) (n : ℕ) (e : Edit) → recordOk r n ≡ true → TypedRecord r → Made r n (e .tables) (e .change) → Link r n e
 unfolding putOf inverseOf editOk
 link r n e ok y m =
     let s = sound ok in
     let l = lands r n s y (e .tables) (e .change) m in
-    let back : Writable (inverseOf r e .tables) (inverseOf r e .change) = writable-back r n (e .tables) (e .change) y m in
-    let good : editOk (inverseOf r e) ≡ true = inverse-ok r n e s (made-ok r n (e .tables) (e .change) s m) in
+    let back : Writable Before (inverseOf r e .tables) (inverseOf r e .change) = writable-back r n (e .tables) (e .change) y m in
+    let here = writable-made r n (e .tables) (e .change) m in
+    let ok-here : editOk e ≡ true = made-ok r n (e .tables) (e .change) s m in
+    let good : editOk (inverseOf r e) ≡ true = inverse-ok r n e s ok-here in
+    let kind = kind-of-back r (e .change) in
+    let tables = ap (λ (k : ℕ). tablesFor k (putOf r e .after)) kind ∙ tables-again r n (e .tables) (e .change) m in
     record {
       put-accepted = l .ok;
       put-sound = sound-ok (l .sound);
       put-typed = l .typed;
       back-writable = back;
+      here-writable = here;
       back-ok = good;
       put-back = l .back;
-      kind-back = kind-of-back r (e .change);
-      entry-good = entry-ok (inverseOf r e) back good;
-      entry-reads = entry-got (inverseOf r e) back;
+      again = λ i. record { change = l .again i; tables = tables i };
+      kind-back = kind;
+      entry-good = entry-ok Before (inverseOf r e) back good;
+      entry-reads = entry-got Before (inverseOf r e) back;
+      redo-good = entry-ok After e here ok-here;
+      redo-reads = entry-got After e here;
     }

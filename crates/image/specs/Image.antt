@@ -168,6 +168,13 @@ unfoldable pub storeAt : Way → ℕ
 storeAt Before = 239
 storeAt After = 2289
 
+abbrev pub storeIn : Way → List ℕ → List ℕ
+storeIn w b = partAt 2048 (storeAt w) b
+
+-- the bytes with x for the store at a place
+abbrev pub withStore : ℕ → List ℕ → List ℕ → List ℕ
+withStore at x b = take at b ++ (x ++ drop 2048 (drop at b))
+
 abbrev pub journalIn : List ℕ → List ℕ
 journalIn b = partAt 2048 239 b
 

@@ -10,11 +10,7 @@ use Rattle.wire.specs.Wire.{pasted}
 use Rattle.wire.specs.laws.Wire.{part-of-part}
 use Rattle.journal.specs.declared.Way.{Way}
 use Rattle.journal.specs.declared.Way.the-variants.{Before, After}
-use Rattle.image.specs.Image.{imageLength, partAt, storeAt}
-
--- the bytes with x for the store at a place
-abbrev pub withStore : ℕ → List ℕ → List ℕ → List ℕ
-withStore at x b = take at b ++ (x ++ drop 2048 (drop at b))
+use Rattle.image.specs.Image.{imageLength, partAt, storeAt, withStore}
 
 pub store-low : (w : Way) → storeAt w ≤ 2289
 unfolding storeAt

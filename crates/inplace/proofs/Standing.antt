@@ -143,3 +143,11 @@ lent-fits w at n is long = omega (arith, is, store-low w)
 
 pub lent-room : (b : List ℕ) (w : Way) (at used n : ℕ) → at ≡ storeAt w → length b ≡ imageLength → used + n ≤ 2048 → used + n ≤ length (take (at + 2048 - at) (drop at b))
 lent-room b w at used n is long room = omega (arith, ap length (lent-part b at), length-store b long at (omega (arith, is, store-low w)))
+
+pub appended-in : (b x : List ℕ) (w : Way) (at used : ℕ) (e : Edit) → length b ≡ imageLength → at ≡ storeAt w → x ≡ pasted used (entryBytes e) (take (at + 2048 - at) (drop at b))
+    → length x ≡ length (take (at + 2048 - at) (drop at b))
+    → (take at b ++ (x ++ drop (at + 2048 - at) (drop at b)) ≡ withStore (storeAt w) (pasted used (entryBytes e) (storeIn w b)) b)
+    × (length (pasted used (entryBytes e) (storeIn w b)) ≡ 2048)
+appended-in b x w at used e long is p wide =
+    let part : take (at + 2048 - at) (drop at b) ≡ storeIn w b = lent-part b at ∙ ap (λ (n : ℕ). partAt 2048 n b) is in
+    (lent-on b x w at (pasted used (entryBytes e)) is p, ap (λ (l : List ℕ). length (pasted used (entryBytes e) l)) (sym part) ∙ sym (ap length p) ∙ wide ∙ ap length part ∙ length-store b long (storeAt w) (store-low w))

@@ -75,6 +75,7 @@ pub fn cut(lent: &mut [u8], way: Way, at: usize, used: usize)
 pub fn append(lent: &mut [u8], way: Way, used: usize, e: Edit)
     requires { ⌜ (length (now lent) ≡ imageLength) × (used + entryLen e ≤ 2048) ⌝ }
     ensures { λ _. ⌜ now (lent .exit) ≡ withStore (storeAt way) (pasted used (entryBytes e) (storeIn way (now (lent .entry)))) (now (lent .entry)) ⌝ }
+    ensures { λ _. ⌜ length (pasted used (entryBytes e) (storeIn way (now (lent .entry)))) ≡ 2048 ⌝ }
 {
     let start = image::store_at(way);
     let end = start + 2048;

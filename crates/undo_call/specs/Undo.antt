@@ -8,6 +8,8 @@ use lib.ListN.{length, take, drop}
 use lib.Dec.{eqb}
 use Rattle.wire.specs.Wire.{pasted}
 use Rattle.wire.specs.Conditions.{_and_}
+use Rattle.record.specs.Record.{workedOf}
+use Rattle.record.specs.declared.Record.{Record}
 use Rattle.change.specs.Change.{kindOf, putOf, inverseOf}
 use Rattle.change.specs.declared.Tables.{Tables}
 use Rattle.change.specs.declared.Edit.{Edit}
@@ -16,6 +18,7 @@ use Rattle.formed.specs.Formed.{recordOk}
 use Rattle.entries.specs.Entries.{scan, readingOf}
 use Rattle.entries.specs.declared.Reading.{Reading}
 use Rattle.entries.specs.declared.Reading.the-variants.{Whole, Unknown, Cut}
+use Rattle.journal.specs.Ways.{byWay, other}
 use Rattle.journal.specs.Bytes.{entryBytes}
 use Rattle.journal.specs.Read.{gotOf}
 use Rattle.journal.specs.Add.{entryLen, cutFrom}
@@ -26,24 +29,18 @@ use Rattle.journal.specs.declared.Way.{Way}
 use Rattle.journal.specs.declared.Way.the-variants.{Before, After}
 use Rattle.session.specs.Session.{wellFormed, withHeld}
 use Rattle.session.specs.declared.Session.{Session}
+use Rattle.image.specs.declared.Head.{Head}
 use Rattle.image.specs.Image.{imageLength, imageOf, sessionOf}
 use Rattle.inplace.specs.declared.Told.{Told}
 use Rattle.inplace.specs.InPlace.{Left, noImage}
 
--- ---- the two stores: undo takes from the journal, which holds what was before, redo from the redo store, which holds what was after
-
-unfoldable pub byWay : {A : Type 0} → Way → A → A → A
-byWay Before undo redo = undo
-byWay After undo redo = redo
+-- ---- the two stores: undo takes from the journal, redo from the redo store
 
 unfoldable pub storeOf : Way → Session → List ℕ
 storeOf w s = byWay w (s .journal) (s .redo)
 
 unfoldable pub usedOf : Way → Session → ℕ
 usedOf w s = byWay w (s .used) (s .ahead)
-
-unfoldable pub other : Way → Way
-other w = byWay w After Before
 
 -- ---- the newest entry moves from one to the other
 
@@ -71,15 +68,16 @@ grownTo w s e = usedOf (other w) s + entryLen (inverseOf (s .held) e)
 
 -- "Undo restores, re-inserts a cleared log at its place, removes the log a reset made, zeroes the entry, and reports its kind"; "Redo puts the newest
 -- back". The record is the one put together, its limit, readiness and wanted format with it; the next id stays
+unfoldable pub sessionMoved : Way → Session → ℕ → Edit → Record → Session
+sessionMoved w s at e held =
+    withHeld held (s .next) (byWay w (lessened w s at) (grown w s e)) (byWay w at (grownTo w s e)) (byWay w (grown w s e) (lessened w s at)) (byWay w (grownTo w s e) at)
+
+unfoldable pub headMoved : Head → Way → Record → ℕ → ℕ → Head
+headMoved h w held at end =
+    record { held = held; worked = workedOf held; next = h .next; used = byWay w at end; ahead = byWay w end at }
+
 unfoldable pub moved : Way → Session → ℕ → Edit → Changed → Moved
-moved w s at e p =
-    record {
-      answer = 0;
-      kind = kindOf (e .change);
-      session =
-          withHeld (p .after) (s .next) (byWay w (lessened w s at) (grown w s e)) (byWay w at (grownTo w s e))
-          (byWay w (grown w s e) (lessened w s at)) (byWay w (grownTo w s e) at);
-    }
+moved w s at e p = record { answer = 0; kind = kindOf (e .change); session = sessionMoved w s at e (p .after) }
 
 -- 7: it would give an ill-formed record, or what the entry says can't be put in: "7 covers redo alike, a clear whose log isn't at its place included"
 unfoldable pub movedPut : Way → Session → ℕ → Edit → Changed → Moved

@@ -1,7 +1,5 @@
 use native.Mathlib.Omega.{arith}
-use Rattle.inplace.proofs.Standing.{lent-on, lent-fits, lent-room}
-use Rattle.wire.specs.Wire.{pasted}
-use Rattle.journal.specs.Bytes.{entryBytes}
+use Rattle.inplace.proofs.Standing.{lent-fits, lent-room, appended-in}
 use borrow.Author.Needs.{needs}
 use Rattle.inplace.proofs.append.Statement.{statement}
 use Rattle.inplace.proofs.append.Tie as tie
@@ -28,7 +26,7 @@ same-length : tie.Need-same-length
 same-length c = search needs
 
 returns : tie.Need-returns
-returns c = lent-on (c .before .before .before .before .before .before .args .lent .now) _ (c .before .before .before .before .before .before .args .way) _ (pasted (c .before .before .before .before .before .before .args .used) (entryBytes (c .before .before .before .before .before .before .args .e))) (c .before .before .before .before .store-at .ensures) (c .before .before .append .ensures)
+returns c = appended-in (c .before .before .before .before .before .before .args .lent .now) _ (c .before .before .before .before .before .before .args .way) _ (c .before .before .before .before .before .before .args .used) (c .before .before .before .before .before .before .args .e) (c .before .before .before .before .before .before .pre .0) (c .before .before .before .before .store-at .ensures) (c .before .before .append .ensures) (search needs)
 
 pub append-spec : {M : Type 1} → statement M
 append-spec =

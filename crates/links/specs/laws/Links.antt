@@ -21,7 +21,10 @@ use Rattle.journal.specs.Bytes.{entryFor, entryBytes}
 use Rattle.journal.specs.Read.{gotOf, entryOk}
 use Rattle.journal.specs.laws.Bodies.{Writable}
 use Rattle.journal.specs.declared.Found.the-variants.{Good}
+use Rattle.journal.specs.declared.Way.{Way}
 use Rattle.journal.specs.declared.Way.the-variants.{Before, After}
+use Rattle.journal.specs.Ways.{byWay, other}
+use Rattle.journal.specs.laws.Says.{Holds}
 use Rattle.session.specs.Session.{madeOf}
 use Rattle.links.specs.Typed.{TypedRecord}
 use Rattle.links.specs.laws.Logs.{passed}
@@ -65,22 +68,22 @@ made-ok r n t (SetMask mask) s m = m .ok
 made-ok r n t (SetDeadman deadman) s m = m .ok
 made-ok r n t (SetAreas areas) s m = m .ok
 
--- what was before has the widths of the record's fields
-writable-back : (r : Record) (n : ℕ) (t : Tables) (ch : Change) → TypedRecord r → Made r n t ch → Writable Before (tablesFor (kindOf ch) r) (backOf r ch)
-unfolding tablesFor kindOf backOf
-writable-back r n t (Clear place log) y m = (refl, refl)
-writable-back r n t (Unclear place log) y m = absurd m
-writable-back r n t (SetState state) y m = refl
-writable-back r n t (SetRole got role) y m = refl
-writable-back r n t (SetCaps got caps) y m = (y .caps, refl)
-writable-back r n t (SetUser user) y m = (y .user, refl)
-writable-back r n t (SetThermal got) y m = (y .thermal, refl)
-writable-back r n t (SetThrottles got) y m = (y .present, y .sets, refl)
-writable-back r n t (Reset log) y m = (refl, refl)
-writable-back r n t (Unreset state made) y m = absurd m
-writable-back r n t (SetMask mask) y m = (y .mask, refl)
-writable-back r n t (SetDeadman deadman) y m = (y .time, refl)
-writable-back r n t (SetAreas areas) y m = (y .ffdc, y .pass, refl)
+-- what takes a change back goes into the other store, and has the widths of the record's fields
+pub writable-back : (w : Way) (r : Record) (ch : Change) → TypedRecord r → Holds w ch → Writable (other w) (tablesFor (kindOf ch) r) (backOf r ch)
+unfolding tablesFor kindOf backOf other byWay
+writable-back w r (Clear place log) y h = (ap other h, refl)
+writable-back w r (Unclear place log) y h = (ap other h, refl)
+writable-back w r (SetState state) y h = refl
+writable-back w r (SetRole got role) y h = refl
+writable-back w r (SetCaps got caps) y h = (y .caps, refl)
+writable-back w r (SetUser user) y h = (y .user, refl)
+writable-back w r (SetThermal got) y h = (y .thermal, refl)
+writable-back w r (SetThrottles got) y h = (y .present, y .sets, refl)
+writable-back w r (Reset log) y h = (ap other h, refl)
+writable-back w r (Unreset state made) y h = (ap other h, refl)
+writable-back w r (SetMask mask) y h = (y .mask, refl)
+writable-back w r (SetDeadman deadman) y h = (y .time, refl)
+writable-back w r (SetAreas areas) y h = (y .ffdc, y .pass, refl)
 
 -- and so has the change itself
 writable-made : (r : Record) (n : ℕ) (t : Tables) (ch : Change) → Made r n t ch → Writable After t ch
@@ -97,6 +100,21 @@ writable-made r n t (Unreset state made) m = absurd m
 writable-made r n t (SetMask mask) m = m .fits
 writable-made r n t (SetDeadman deadman) m = m .fits
 writable-made r n t (SetAreas areas) m = m .fits
+
+holds-made : (w : Way) (t : Tables) (ch : Change) → Writable w t ch → Holds w ch
+holds-made w t (Clear place log) h = h .0
+holds-made w t (Unclear place log) h = h .0
+holds-made w t (SetState state) h = tt
+holds-made w t (SetRole got role) h = tt
+holds-made w t (SetCaps got caps) h = tt
+holds-made w t (SetUser user) h = tt
+holds-made w t (SetThermal got) h = tt
+holds-made w t (SetThrottles got) h = tt
+holds-made w t (Reset log) h = h .0
+holds-made w t (Unreset state made) h = h .0
+holds-made w t (SetMask mask) h = tt
+holds-made w t (SetDeadman deadman) h = tt
+holds-made w t (SetAreas areas) h = tt
 
 -- the tables beside it are those that the record after it has
 tables-again : (r : Record) (n : ℕ) (t : Tables) (ch : Change) → Made r n t ch → tablesFor (kindOf ch) (putWith r t ch .after) ≡ t
@@ -151,12 +169,12 @@ pub record Link (r : Record) (n : ℕ) (e : Edit) : Type 0 where
   pub redo-reads : gotOf After (entryBytes e) ≡ record { found = Good (e .change); tables = e .tables }
 
 pub link : (r : Record) (n : ℕ) (e : Edit) → recordOk r n ≡ true → TypedRecord r → Made r n (e .tables) (e .change) → Link r n e
-unfolding putOf inverseOf editOk
+unfolding putOf inverseOf editOk other byWay
 link r n e ok y m =
     let s = sound ok in
     let l = lands r n s y (e .tables) (e .change) m in
-    let back : Writable Before (inverseOf r e .tables) (inverseOf r e .change) = writable-back r n (e .tables) (e .change) y m in
     let here = writable-made r n (e .tables) (e .change) m in
+    let back : Writable Before (inverseOf r e .tables) (inverseOf r e .change) = writable-back After r (e .change) y (holds-made After (e .tables) (e .change) here) in
     let ok-here : editOk e ≡ true = made-ok r n (e .tables) (e .change) s m in
     let good : editOk (inverseOf r e) ≡ true = inverse-ok r n e s ok-here in
     let kind = kind-of-back r (e .change) in

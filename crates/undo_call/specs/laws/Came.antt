@@ -21,10 +21,11 @@ use Rattle.journal.specs.declared.Found.the-variants.{Good, Bad}
 use Rattle.journal.specs.declared.Got.{Got}
 use Rattle.journal.specs.declared.Way.{Way}
 use Rattle.journal.specs.declared.Way.the-variants.{Before, After}
+use Rattle.journal.specs.Ways.{byWay}
 use Rattle.session.specs.Session.{wellFormed, withHeld}
 use Rattle.session.specs.laws.Session.{formed}
 use Rattle.session.specs.declared.Session.{Session}
-use Rattle.undo_call.specs.Undo.{storeOf, usedOf, byWay, noneLeft, Moved, notMoved, moved, movedPut, movedWith, movedFound, movedGot, movedAt, movedRead, movedNewest, moveCall}
+use Rattle.undo_call.specs.Undo.{storeOf, usedOf, noneLeft, sessionMoved, Moved, notMoved, moved, movedPut, movedWith, movedFound, movedGot, movedAt, movedRead, movedNewest, moveCall}
 
 none-zero : (w : Way) → noneLeft w ≡ 0 → ⊥
 unfolding noneLeft byWay
@@ -40,7 +41,7 @@ module _ (w : Way) (s : Session) where
 
   pub data Came : Moved → Type 0 where
     refused : (n : ℕ) → (n ≡ 0 → ⊥) → Came (notMoved n s)
-    taken-back : (count at : ℕ) (ch : Change) → wellFormed s ≡ true → readingOf (scan (take (usedOf w s) (storeOf w s))) ≡ Whole count at
+    moves : (count at : ℕ) (ch : Change) → wellFormed s ≡ true → readingOf (scan (take (usedOf w s) (storeOf w s))) ≡ Whole count at
         → newest at .found ≡ Good ch → putOf (s .held) (edit at ch) .ok ≡ true → recordOk (putOf (s .held) (edit at ch) .after) (s .next) ≡ true
         → Came (moved w s at (edit at ch) (putOf (s .held) (edit at ch)))
 
@@ -58,7 +59,7 @@ module _ (w : Way) (s : Session) where
     came-put ch g =
         cond-cases Came (not (putOf (s .held) (edit at ch) .ok)) (λ f. refuses 6)
         (λ ok. cond-cases Came (not (recordOk (putOf (s .held) (edit at ch) .after) (s .next))) (λ f. refuses 6)
-        (λ sound. taken-back count at ch whole reads g (not-false _ ok) (not-false _ sound)))
+        (λ sound. moves count at ch whole reads g (not-false _ ok) (not-false _ sound)))
 
     came-found : (x : Found) → newest at .found ≡ x → Came (movedFound w s at (newest at .tables) x)
     unfolding movedFound
@@ -88,16 +89,16 @@ module _ (w : Way) (s : Session) where
   pub refusal-keeps : (q : Moved) → Came q → (q .answer ≡ 0 → ⊥) → (q .session ≡ s) × (q .kind ≡ 0)
   unfolding notMoved moved
   refusal-keeps q (refused n z) h = (refl, refl)
-  refusal-keeps q (taken-back count at ch whole r g ok sound) h = absurd (h refl)
+  refusal-keeps q (moves count at ch whole r g ok sound) h = absurd (h refl)
 
   -- the id counter only goes forward: undo and redo leave it
   pub next-stays : (q : Moved) → Came q → q .session .next ≡ s .next
-  unfolding notMoved moved withHeld
+  unfolding notMoved moved sessionMoved withHeld
   next-stays q (refused n z) = refl
-  next-stays q (taken-back count at ch whole r g ok sound) = refl
+  next-stays q (moves count at ch whole r g ok sound) = refl
 
   -- after undo or redo on a well-formed session, the worked-out values are those of the record
   pub worked-after : (q : Moved) → Came q → wellFormed s ≡ true → q .session .worked ≡ workedOf (q .session .held)
-  unfolding notMoved moved withHeld
+  unfolding notMoved moved sessionMoved withHeld
   worked-after q (refused n z) whole = formed s whole .worked-is
-  worked-after q (taken-back count at ch u r g ok sound) whole = refl
+  worked-after q (moves count at ch u r g ok sound) whole = refl

@@ -8,7 +8,7 @@ use Rattle.promises.specs.History.{Run, run, next-run, start}
 
 -- the session with another next id, all else as it was
 unfoldable pub withNext : Session → ℕ → Session
-withNext s n = record { held = s .held; worked = s .worked; next = n; journal = s .journal; used = s .used }
+withNext s n = record { held = s .held; worked = s .worked; next = n; journal = s .journal; used = s .used; redo = s .redo; ahead = s .ahead }
 
 -- calls made one after the other, from a fresh session
 abbrev pub after : List Call → Run

@@ -1,3 +1,4 @@
+pub mod Stores
 pub mod ByHistory
 pub mod Steps
 pub mod Asked

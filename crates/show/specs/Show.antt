@@ -168,7 +168,7 @@ storeText whole damaged long s used =
 
 -- "`redo N`, `redo damaged at N` or `redo too long`"
 unfoldable pub redoText : List ℕ → ℕ → List (List ℕ)
-redoText s undone = storeText (ascii "redo") (ascii "redo damaged at") (ascii "redo too long\n") s undone
+redoText redo ahead = storeText (ascii "redo") (ascii "redo damaged at") (ascii "redo too long\n") redo ahead
 
 -- "`journal N`, `damaged at N` or `too long`"; "the unused bytes of the journal; 0 if the used length is over 2,048"
 unfoldable pub journalText : List ℕ → ℕ → List (List ℕ)
@@ -176,10 +176,10 @@ journalText j used =
     storeText (ascii "journal") (ascii "damaged at") (ascii "too long\n") j used ++ namedText (ascii "room") (length j - used)
 
 unfoldable pub sessionText : Record → Worked → ℕ → List ℕ → ℕ → List ℕ → ℕ → List (List ℕ)
-sessionText r w next j used s undone =
+sessionText r w next j used redo ahead =
     settingsText r w
     ++ (restText r
-    ++ (redoText s undone
+    ++ (redoText redo ahead
     ++ (namedText (ascii "next id") next
     ++ (journalText j used
     ++ (ascii ".\n" ∷ [])))))

@@ -324,8 +324,8 @@ fn put_store(
     put_reading(out, at, whole, damaged, entries::read(&s[..used]))
 }
 
-fn put_redo(out: &mut [u8], at: usize, s: &[u8], undone: usize) -> usize
-    ensures { λ r. ⌜ sheet (now (out .exit)) r ≡ putAll (sheet (now (out .entry)) at) (redoText (now (s .entry)) undone) ⌝ }
+fn put_redo(out: &mut [u8], at: usize, redo: &[u8], ahead: usize) -> usize
+    ensures { λ r. ⌜ sheet (now (out .exit)) r ≡ putAll (sheet (now (out .entry)) at) (redoText (now (redo .entry)) ahead) ⌝ }
 {
     put_store(
         out,
@@ -333,8 +333,8 @@ fn put_redo(out: &mut [u8], at: usize, s: &[u8], undone: usize) -> usize
         b"redo",
         b"redo damaged at",
         b"redo too long\n",
-        s,
-        undone,
+        redo,
+        ahead,
     )
 }
 
@@ -385,7 +385,7 @@ fn put_rest(out: &mut [u8], at: usize, held: Record) -> usize
     put_areas(out, e, areas)
 }
 
-// All of a session, and the line that ends it; `used` bytes of the journal and `undone` of the redo store are used.
+// All of a session, and the line that ends it; `used` bytes of the journal and `ahead` of the redo store are used.
 pub fn put_session(
     out: &mut [u8],
     held: Record,
@@ -393,16 +393,16 @@ pub fn put_session(
     next: u16,
     j: &[u8],
     used: usize,
-    s: &[u8],
-    undone: usize,
+    redo: &[u8],
+    ahead: usize,
 ) -> usize
     ensures { λ r. ⌜ Counts r (now (out .exit)) ⌝ }
-    ensures { λ r. ⌜ sheet (now (out .exit)) r ≡ atFront (now (out .entry)) (sessionText held worked next (now (j .entry)) used (now (s .entry)) undone) ⌝ }
+    ensures { λ r. ⌜ sheet (now (out .exit)) r ≡ atFront (now (out .entry)) (sessionText held worked next (now (j .entry)) used (now (redo .entry)) ahead) ⌝ }
 {
     let settings = put_settings(out, 0, held, worked);
     let rest = put_rest(out, settings, held);
-    let redo = put_redo(out, rest, s, undone);
-    let id = put_named(out, redo, b"next id", next as u64);
+    let stored = put_redo(out, rest, redo, ahead);
+    let id = put_named(out, stored, b"next id", next as u64);
     let end = put_journal(out, id, j, used);
     text::put(out, end, b".\n")
 }

@@ -1,7 +1,7 @@
 // When a record is well formed, and which values a change may hold: ones that a well-formed record could.
 ghost use mathlib.Core.Path.{_≡_};
 ghost use lib.ListN.{drop};
-ghost use Rattle.formed.specs.Formed.{stateOk, flagOk, roleOk, capsOk, pairOk, absentZero, throttlesOk, deadmanOk, multipleOf128, inMemory, areaOk, areasOk, thermalRule, thermalOk, reasonOk, logOk, unused, logsOk, nextOk, fieldsOk, recordOk, clearedOk, unresetOk};
+ghost use Rattle.formed.specs.Formed.{stateOk, flagOk, roleOk, capsOk, pairOk, absentZero, throttlesOk, deadmanOk, multipleOf128, inMemory, areaOk, areasOk, thermalRule, thermalOk, reasonOk, logOk, unused, logsOk, nextOk, fieldsOk, recordOk, clearedOk, madeOk, unresetOk};
 use record::Area;
 use record::Areas;
 use record::Caps;
@@ -303,6 +303,16 @@ pub fn cleared_ok(place: u8, log: Log) -> bool
     }
     if log.id == 0 {
         return false;
+    }
+    reason_ok(log.reason)
+}
+
+// A log that a reset made, or none.
+pub fn made_ok(log: Log) -> bool
+    ensures { λ x. ⌜ x ≡ madeOk log ⌝ }
+{
+    if log.id == 0 {
+        return log.reason == 0;
     }
     reason_ok(log.reason)
 }

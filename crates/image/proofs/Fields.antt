@@ -15,10 +15,11 @@ use Rattle.record.specs.declared.Deadman.{Deadman}
 use Rattle.record.specs.declared.Record.{Record}
 use Rattle.record.specs.declared.Throttles.{Throttles}
 use Rattle.record.specs.declared.Worked.{Worked}
+use Rattle.session.specs.declared.Session.{Session}
 use Rattle.image.specs.Rows.{joined, widthsOf}
 use Rattle.image.specs.laws.Rows.{length-joined, joined-append}
 use Rattle.image.specs.laws.Image.{recordWidths, widths-record}
-use Rattle.image.specs.Image.{byte, headRows, throttlesRows, thermalRows, logsRows, mailboxRows, workedRows, recordRows, sessionRows, imageOf}
+use Rattle.image.specs.Image.{byte, headRows, throttlesRows, thermalRows, logsRows, mailboxRows, workedRows, recordRows, sessionRows, imageOf, imageLength}
 
 -- bytes written after those that were written from a place on
 paste-on : (at : ℕ) (xs bs d : List ℕ) → at + length xs ≤ length d → pasted (at + length xs) bs (pasted at xs d) ≡ pasted at (xs ++ bs) d
@@ -43,13 +44,12 @@ pub length-record : (r : Record) → length (r .throttles .sets) ≡ 160 → len
 unfolding sumOf recordWidths
 length-record r sets thermal = length-joined (recordRows r) ∙ ap sumOf (widths-record r sets thermal)
 
-pub length-session : (r : Record) (k : Worked) (next used : ℕ) (j : List ℕ) → length (joined (recordRows r)) ≡ 230 → length j ≡ 2048
-    → length (imageOf (record { held = r; worked = k; next = next; used = used; journal = j })) ≡ 2287
+pub length-session : (s : Session) → length (joined (recordRows (s .held))) ≡ 230 → length (s .journal) ≡ 2048 → length (s .redo) ≡ 2048 → length (imageOf s) ≡ imageLength
 unfolding sumOf widthsOf imageOf sessionRows workedRows toBE
-length-session r k next used j h e =
-    let rest = workedRows k next used ++ (j ∷ []) in
-    let m = length-joined rest ∙ ap sumOf (λ i. 2 ∷ 1 ∷ 1 ∷ 1 ∷ 2 ∷ 2 ∷ e i ∷ []) in
-    ap length (joined-append (recordRows r) rest) ∙ length-append (joined (recordRows r)) (joined rest) ∙ ap₂ (λ (a b : ℕ). a + b) h m
+length-session s h e f =
+    let rest = workedRows (s .worked) (s .next) (s .used) ++ (s .journal ∷ toBE 2 (s .ahead) ∷ s .redo ∷ []) in
+    let m = length-joined rest ∙ ap sumOf (λ i. 2 ∷ 1 ∷ 1 ∷ 1 ∷ 2 ∷ 2 ∷ e i ∷ 2 ∷ f i ∷ []) in
+    ap length (joined-append (recordRows (s .held)) rest) ∙ length-append (joined (recordRows (s .held))) (joined rest) ∙ ap₂ (λ (a b : ℕ). a + b) h m
 
 -- a buffer that is filled by what is written
 pub filled : (n : ℕ) (bs d x : List ℕ) → length bs ≡ n → x ≡ pasted 0 bs d → length d ≡ n → x ≡ bs
@@ -58,35 +58,38 @@ filled n bs d x h p e =
     let z : drop (0 + length bs) d ≡ [] = drop-of-length-le d {i = 0 + length bs} (omega arith) in
     p ∙ rw (z, append-nil)
 
-module _ (d : List ℕ) (long : 239 ≤ length d) where
+-- so far the first `top` bytes of d are written
+module _ (top : ℕ) (d : List ℕ) (long : top ≤ length d) where
   -- rows written after rows: x holds the ones from `at` on, y the others from `m` on too
-  rows-next : (at m : ℕ) (rs ss : List (List ℕ)) (x y : List ℕ) → m ≤ 239 → at + length (joined rs) ≡ m → x ≡ pasted at (joined rs) d → y ≡ pasted m (joined ss) x
+  rows-on : (at m : ℕ) (rs ss : List (List ℕ)) (x y : List ℕ) → m ≤ top → at + length (joined rs) ≡ m → x ≡ pasted at (joined rs) d → y ≡ pasted m (joined ss) x
       → y ≡ pasted at (joined (rs ++ ss)) d
-  rows-next at m rs ss x y h e p q =
+  rows-on at m rs ss x y h e p q =
       q ∙ ap₂ (λ (n : ℕ) (l : List ℕ). pasted n (joined ss) l) (sym e) p
       ∙ paste-on at (joined rs) (joined ss) d (omega arith)
       ∙ ap (λ (l : List ℕ). pasted at l d) (sym (joined-append rs ss))
 
-  row-next : (at m : ℕ) (rs : List (List ℕ)) (r x y : List ℕ) → m ≤ 239 → at + length (joined rs) ≡ m → x ≡ pasted at (joined rs) d → y ≡ pasted m r x
+  row-on : (at m : ℕ) (rs : List (List ℕ)) (r x y : List ℕ) → m ≤ top → at + length (joined rs) ≡ m → x ≡ pasted at (joined rs) d → y ≡ pasted m r x
       → y ≡ pasted at (joined (rs ++ (r ∷ []))) d
   unfolding joined
-  row-next at m rs r x y h e p q = rows-next at m rs (r ∷ []) x y h e p (q ∙ ap (λ (l : List ℕ). pasted m l x) (sym (append-nil r)))
+  row-on at m rs r x y h e p q = rows-on at m rs (r ∷ []) x y h e p (q ∙ ap (λ (l : List ℕ). pasted m l x) (sym (append-nil r)))
+
+module _ (d : List ℕ) (long : 239 ≤ length d) where
 
   pub head-put : (state role : ℕ) (caps : Caps) (w x y z : List ℕ) → w ≡ pasted 0 (state ∷ role ∷ []) d → x ≡ pasted 2 (toBE 2 (caps .min)) w
       → y ≡ pasted 4 (toBE 2 (caps .max)) x → z ≡ pasted 6 (toBE 2 (caps .over)) y → z ≡ pasted 0 (joined (headRows state role caps)) d
   unfolding joined headRows toBE
   head-put state role caps w x y z p q r s =
-      let two = row-next 0 2 (byte state ∷ byte role ∷ []) (toBE 2 (caps .min)) w x (lit< tt) refl p q in
-      let three = row-next 0 4 (byte state ∷ byte role ∷ toBE 2 (caps .min) ∷ []) (toBE 2 (caps .max)) x y (lit< tt) refl two r in
-      row-next 0 6 (byte state ∷ byte role ∷ toBE 2 (caps .min) ∷ toBE 2 (caps .max) ∷ []) (toBE 2 (caps .over)) y z (lit< tt) refl three s
+      let two = row-on 239 d long 0 2 (byte state ∷ byte role ∷ []) (toBE 2 (caps .min)) w x (lit< tt) refl p q in
+      let three = row-on 239 d long 0 4 (byte state ∷ byte role ∷ toBE 2 (caps .min) ∷ []) (toBE 2 (caps .max)) x y (lit< tt) refl two r in
+      row-on 239 d long 0 6 (byte state ∷ byte role ∷ toBE 2 (caps .min) ∷ toBE 2 (caps .max) ∷ []) (toBE 2 (caps .over)) y z (lit< tt) refl three s
 
   pub throttles-put : (t : Throttles) (x y : List ℕ) → x ≡ pasted 8 (toBE 2 (t .present)) d → y ≡ pasted 10 (t .sets) x → y ≡ pasted 8 (joined (throttlesRows t)) d
   unfolding joined throttlesRows toBE
-  throttles-put t x y p q = row-next 8 10 (toBE 2 (t .present) ∷ []) (t .sets) x y (lit< tt) refl p q
+  throttles-put t x y p q = row-on 239 d long 8 10 (toBE 2 (t .present) ∷ []) (t .sets) x y (lit< tt) refl p q
 
   pub thermal-put : (user : ℕ) (thermal x y : List ℕ) → x ≡ pasted 170 (toBE 2 user) d → y ≡ pasted 172 thermal x → y ≡ pasted 170 (joined (thermalRows user thermal)) d
   unfolding joined thermalRows toBE
-  thermal-put user thermal x y p q = row-next 170 172 (toBE 2 user ∷ []) thermal x y (lit< tt) refl p q
+  thermal-put user thermal x y p q = row-on 239 d long 170 172 (toBE 2 user ∷ []) thermal x y (lit< tt) refl p q
 
   pub mailbox-put : (mask : ℕ) (k : Deadman) (a : Areas) (t u v w x y z : List ℕ) → t ≡ pasted 193 (toBE 4 mask) d → u ≡ pasted 197 (byte (k .running)) t
       → v ≡ pasted 198 (toBE 8 (k .time)) u → w ≡ pasted 206 (toBE 8 (a .ffdc .address)) v → x ≡ pasted 214 (toBE 4 (a .ffdc .size)) w
@@ -94,14 +97,14 @@ module _ (d : List ℕ) (long : 239 ≤ length d) where
   unfolding joined mailboxRows toBE
   mailbox-put mask k a t u v w x y z e f g h i j l =
       let b = toBE 4 mask ∷ [] in
-      let two = row-next 193 197 b (byte (k .running)) t u (lit< tt) refl e f in
-      let three = row-next 193 198 (b ++ (byte (k .running) ∷ [])) (toBE 8 (k .time)) u v (lit< tt) refl two g in
+      let two = row-on 239 d long 193 197 b (byte (k .running)) t u (lit< tt) refl e f in
+      let three = row-on 239 d long 193 198 (b ++ (byte (k .running) ∷ [])) (toBE 8 (k .time)) u v (lit< tt) refl two g in
       let c = b ++ (byte (k .running) ∷ toBE 8 (k .time) ∷ []) in
-      let four = row-next 193 206 c (toBE 8 (a .ffdc .address)) v w (lit< tt) refl three h in
-      let five = row-next 193 214 (c ++ (toBE 8 (a .ffdc .address) ∷ [])) (toBE 4 (a .ffdc .size)) w x (lit< tt) refl four i in
+      let four = row-on 239 d long 193 206 c (toBE 8 (a .ffdc .address)) v w (lit< tt) refl three h in
+      let five = row-on 239 d long 193 214 (c ++ (toBE 8 (a .ffdc .address) ∷ [])) (toBE 4 (a .ffdc .size)) w x (lit< tt) refl four i in
       let n = c ++ (toBE 8 (a .ffdc .address) ∷ toBE 4 (a .ffdc .size) ∷ []) in
-      let six = row-next 193 218 n (toBE 8 (a .pass .address)) x y (lit< tt) refl five j in
-      row-next 193 226 (n ++ (toBE 8 (a .pass .address) ∷ [])) (toBE 4 (a .pass .size)) y z (lit< tt) refl six l
+      let six = row-on 239 d long 193 218 n (toBE 8 (a .pass .address)) x y (lit< tt) refl five j in
+      row-on 239 d long 193 226 (n ++ (toBE 8 (a .pass .address) ∷ [])) (toBE 4 (a .pass .size)) y z (lit< tt) refl six l
 
   pub worked-put : (k : Worked) (next used : ℕ) (w x y z : List ℕ) → w ≡ pasted 230 (toBE 2 (k .limit)) d
       → x ≡ pasted 232 (k .observation ∷ k .active ∷ k .wanted ∷ []) w → y ≡ pasted 235 (toBE 2 next) x → z ≡ pasted 237 (toBE 2 used) y
@@ -109,9 +112,9 @@ module _ (d : List ℕ) (long : 239 ≤ length d) where
   unfolding joined workedRows toBE
   worked-put k next used w x y z p q r s =
       let marks = byte (k .observation) ∷ byte (k .active) ∷ byte (k .wanted) ∷ [] in
-      let two = rows-next 230 232 (toBE 2 (k .limit) ∷ []) marks w x (lit< tt) refl p q in
-      let three = row-next 230 235 (toBE 2 (k .limit) ∷ marks) (toBE 2 next) x y (lit< tt) refl two r in
-      row-next 230 237 (toBE 2 (k .limit) ∷ (marks ++ (toBE 2 next ∷ []))) (toBE 2 used) y z (lit< tt) refl three s
+      let two = rows-on 239 d long 230 232 (toBE 2 (k .limit) ∷ []) marks w x (lit< tt) refl p q in
+      let three = row-on 239 d long 230 235 (toBE 2 (k .limit) ∷ marks) (toBE 2 next) x y (lit< tt) refl two r in
+      row-on 239 d long 230 237 (toBE 2 (k .limit) ∷ (marks ++ (toBE 2 next ∷ []))) (toBE 2 used) y z (lit< tt) refl three s
 
   pub record-put : (r : Record) → length (r .throttles .sets) ≡ 160 → length (r .thermal) ≡ 9 → (v w x y z : List ℕ) → v ≡ pasted 0 (joined (headRows (r .state) (r .role) (r .caps))) d → w ≡ pasted 8 (joined (throttlesRows (r .throttles))) v
       → x ≡ pasted 170 (joined (thermalRows (r .user) (r .thermal))) w → y ≡ pasted 181 (joined (logsRows (r .received) (r .logs))) x
@@ -122,18 +125,39 @@ module _ (d : List ℕ) (long : 239 ≤ length d) where
       let two = one ++ throttlesRows (r .throttles) in
       let three = two ++ thermalRows (r .user) (r .thermal) in
       let four = three ++ logsRows (r .received) (r .logs) in
-      let p = rows-next 0 8 one (throttlesRows (r .throttles)) v w (lit< tt) (from-front one (1 ∷ 1 ∷ 2 ∷ 2 ∷ 2 ∷ []) refl) e f in
-      let q = rows-next 0 170 two (thermalRows (r .user) (r .thermal)) w x (lit< tt) (from-front two (1 ∷ 1 ∷ 2 ∷ 2 ∷ 2 ∷ 2 ∷ 160 ∷ []) (λ i. 1 ∷ 1 ∷ 2 ∷ 2 ∷ 2 ∷ 2 ∷ sets i ∷ [])) p g in
-      let k = rows-next 0 181 three (logsRows (r .received) (r .logs)) x y (lit< tt) (from-front three (1 ∷ 1 ∷ 2 ∷ 2 ∷ 2 ∷ 2 ∷ 160 ∷ 2 ∷ 9 ∷ []) (λ i. 1 ∷ 1 ∷ 2 ∷ 2 ∷ 2 ∷ 2 ∷ sets i ∷ 2 ∷ thermal i ∷ [])) q h in
-      rows-next 0 193 four (mailboxRows (r .mask) (r .deadman) (r .areas)) y z (lit< tt) (from-front four (take 21 recordWidths) (ap (take 21) (widths-record r sets thermal))) k j
+      let p = rows-on 239 d long 0 8 one (throttlesRows (r .throttles)) v w (lit< tt) (from-front one (1 ∷ 1 ∷ 2 ∷ 2 ∷ 2 ∷ []) refl) e f in
+      let q = rows-on 239 d long 0 170 two (thermalRows (r .user) (r .thermal)) w x (lit< tt) (from-front two (1 ∷ 1 ∷ 2 ∷ 2 ∷ 2 ∷ 2 ∷ 160 ∷ []) (λ i. 1 ∷ 1 ∷ 2 ∷ 2 ∷ 2 ∷ 2 ∷ sets i ∷ [])) p g in
+      let k = rows-on 239 d long 0 181 three (logsRows (r .received) (r .logs)) x y (lit< tt) (from-front three (1 ∷ 1 ∷ 2 ∷ 2 ∷ 2 ∷ 2 ∷ 160 ∷ 2 ∷ 9 ∷ []) (λ i. 1 ∷ 1 ∷ 2 ∷ 2 ∷ 2 ∷ 2 ∷ sets i ∷ 2 ∷ thermal i ∷ [])) q h in
+      rows-on 239 d long 0 193 four (mailboxRows (r .mask) (r .deadman) (r .areas)) y z (lit< tt) (from-front four (take 21 recordWidths) (ap (take 21) (widths-record r sets thermal))) k j
 
-  pub session-put : (r : Record) (k : Worked) (next used : ℕ) (j x y z : List ℕ) → length (joined (recordRows r)) ≡ 230 → x ≡ pasted 0 (joined (recordRows r)) d
-      → y ≡ pasted 230 (joined (workedRows k next used)) x → z ≡ pasted 239 j y
-      → z ≡ pasted 0 (imageOf (record { held = r; worked = k; next = next; used = used; journal = j })) d
-  unfolding joined imageOf sessionRows workedRows toBE
-  session-put r k next used j x y z h p q t =
-      let one = recordRows r in
-      let two = one ++ workedRows k next used in
-      let long = zero-add (length (joined two)) ∙ ap length (joined-append one (workedRows k next used)) ∙ length-append (joined one) _ ∙ ap (λ (n : ℕ). n + 9) h in
-      let e = rows-next 0 230 one (workedRows k next used) x y (lit< tt) (zero-add (length (joined one)) ∙ h) p q in
-      row-next 0 239 two j y z (lit< tt) long e t ∙ ap (λ (l : List (List ℕ)). pasted 0 (joined l) d) (append-assoc one (workedRows k next used) (j ∷ []))
+-- the whole image, field after field
+module _ (d : List ℕ) (long : 2289 ≤ length d) (s : Session) (wide : length (joined (recordRows (s .held))) ≡ 230) (journal : length (s .journal) ≡ 2048) where
+  abbrev head : List (List ℕ)
+  head = recordRows (s .held) ++ workedRows (s .worked) (s .next) (s .used)
+
+  length-head : length (joined head) ≡ 239
+  unfolding joined workedRows toBE
+  length-head =
+      ap length (joined-append (recordRows (s .held)) (workedRows (s .worked) (s .next) (s .used))) ∙ length-append (joined (recordRows (s .held))) _ ∙ ap (λ (n : ℕ). n + 9) wide
+
+  length-with : length (joined (head ++ (s .journal ∷ []))) ≡ 2287
+  unfolding joined
+  length-with =
+      ap length (joined-append head (s .journal ∷ []) ∙ ap (λ (l : List ℕ). joined head ++ l) (append-nil (s .journal)))
+      ∙ length-append (joined head) (s .journal)
+      ∙ ap₂ (λ (a b : ℕ). a + b) length-head journal
+
+  pub session-put : (x y u v z : List ℕ) → x ≡ pasted 0 (joined (recordRows (s .held))) d → y ≡ pasted 230 (joined (workedRows (s .worked) (s .next) (s .used))) x
+      → u ≡ pasted 239 (s .journal) y → v ≡ pasted 2287 (toBE 2 (s .ahead)) u → z ≡ pasted 2289 (s .redo) v → z ≡ pasted 0 (imageOf s) d
+  unfolding joined imageOf sessionRows toBE
+  session-put x y u v z p q r t w =
+      let stores = s .journal ∷ toBE 2 (s .ahead) ∷ [] in
+      let two = rows-on 2289 d long 0 230 (recordRows (s .held)) (workedRows (s .worked) (s .next) (s .used)) x y (lit< tt) (zero-add _ ∙ wide) p q in
+      let three = row-on 2289 d long 0 239 head (s .journal) y u (lit< tt) (zero-add _ ∙ length-head) two r in
+      let four = row-on 2289 d long 0 2287 (head ++ (s .journal ∷ [])) (toBE 2 (s .ahead)) u v (lit< tt) (zero-add _ ∙ length-with) three t in
+      let long′ = ap length (joined-append (head ++ (s .journal ∷ [])) (toBE 2 (s .ahead) ∷ [])) ∙ length-append (joined (head ++ (s .journal ∷ []))) _ ∙ ap (λ (n : ℕ). n + 2) length-with in
+      row-on 2289 d long 0 2289 ((head ++ (s .journal ∷ [])) ++ (toBE 2 (s .ahead) ∷ [])) (s .redo) v z (lit< tt) (zero-add _ ∙ long′) four w
+      ∙ ap (λ (l : List (List ℕ)). pasted 0 (joined l) d)
+      (append-assoc (head ++ (s .journal ∷ [])) (toBE 2 (s .ahead) ∷ []) (s .redo ∷ [])
+      ∙ append-assoc head (s .journal ∷ []) (toBE 2 (s .ahead) ∷ s .redo ∷ [])
+      ∙ append-assoc (recordRows (s .held)) (workedRows (s .worked) (s .next) (s .used)) (stores ++ (s .redo ∷ [])))

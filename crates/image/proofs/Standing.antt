@@ -1,4 +1,4 @@
--- A head written before the journal that stands in the lent bytes. Assumes nothing.
+-- A head written around the stores that stand in the lent bytes. Assumes nothing.
 use Prim.Native.Nat.{ℕ, _+_, _≤_}
 use mathlib.Core.Path.{_≡_, sym, ap, _∙_}
 use mathlib.Core.List.{List}
@@ -9,37 +9,65 @@ use Rattle.wire.specs.Wire.{toBE, pasted}
 use Rattle.wire.specs.laws.Wire.{drop-pasted, length-pasted, paste-self}
 use Rattle.image.specs.Rows.{joined}
 use Rattle.image.specs.declared.Head.{Head}
-use Rattle.image.specs.Image.{recordRows, workedRows, imageOf, imageLength, journalIn, sessionAt}
+use Rattle.image.specs.Image.{recordRows, workedRows, imageOf, imageLength, partAt, journalIn, redoIn, withStore, sessionIn}
+use Rattle.image.specs.laws.Stores.{store-long, store-back, store-below, store-pasted}
 use Rattle.image.proofs.Fields.{filled, length-session, session-put}
 
-pub length-journal : (b : List ℕ) → length b ≡ imageLength → length (journalIn b) ≡ 2048
-length-journal b long = length-take-le 2048 (drop 239 b) (simp length-drop (omega arith))
+-- a store has its 2,048 bytes
+pub length-store : (b : List ℕ) → length b ≡ imageLength → (at : ℕ) → at ≤ 2289 → length (partAt 2048 at b) ≡ 2048
+length-store b long at h = length-take-le 2048 (drop at b) (simp length-drop (omega arith))
 
-module _ (d : List ℕ) (long : length d ≡ imageLength) (h : Head) (x y : List ℕ) (wide : length (joined (recordRows (h .held))) ≡ 230)
-    (p : x ≡ pasted 0 (joined (recordRows (h .held))) d) (q : y ≡ pasted 230 (joined (workedRows (h .worked) (h .next) (h .used))) x) where
-  -- what stands after the head stays
+-- both stores written
+pub both-put : (d j r x y : List ℕ) → x ≡ pasted 239 j d → y ≡ pasted 2289 r x → length d ≡ imageLength → length j ≡ 2048 → length r ≡ 2048
+    → (journalIn y ≡ j) × (redoIn y ≡ r)
+both-put d j r x y p q long wj wr =
+    let one : x ≡ withStore 239 j d = p ∙ store-pasted d j long wj 239 (omega arith) in
+    let same : length x ≡ imageLength = ap length one ∙ store-long d j long wj 239 (omega arith) in
+    let two : y ≡ withStore 2289 r x = q ∙ store-pasted x r same wr 2289 (omega arith) in
+    (
+      ap journalIn two ∙ store-below x r same wr 2289 (omega arith) 239 (omega arith) ∙ ap journalIn one ∙ store-back d j long wj 239 (omega arith),
+      ap redoIn two ∙ store-back x r same wr 2289 (omega arith),
+    )
+
+module _ (d : List ℕ) (long : length d ≡ imageLength) (h : Head) (x y z : List ℕ) (wide : length (joined (recordRows (h .held))) ≡ 230)
+    (p : x ≡ pasted 0 (joined (recordRows (h .held))) d) (q : y ≡ pasted 230 (joined (workedRows (h .worked) (h .next) (h .used))) x)
+    (r : z ≡ pasted 2287 (toBE 2 (h .ahead)) y) where
+  abbrev first : List ℕ
+  first = joined (recordRows (h .held))
+
+  -- what stands after the worked-out values stays
   tail-kept : drop 239 y ≡ drop 239 d
   unfolding joined workedRows toBE
   tail-kept =
-      let r = joined (recordRows (h .held)) in
       let w = joined (workedRows (h .worked) (h .next) (h .used)) in
-      let fits : 0 + length r ≤ length d = omega arith in
-      let same : length x ≡ length d = ap length p ∙ length-pasted 0 r d fits in
-      let end : 0 + length r ≡ 230 = omega arith in
-      let first : drop 230 x ≡ drop 230 d = ap (drop 230) p ∙ ap (λ (n : ℕ). drop n (pasted 0 r d)) (sym end) ∙ drop-pasted 0 r d fits ∙ ap (λ (n : ℕ). drop n d) end in
-      ap (drop 239) q ∙ drop-pasted 230 w x (omega arith) ∙ sym (drop-drop 9 230 x) ∙ ap (drop 9) first ∙ drop-drop 9 230 d
+      let fits : 0 + length first ≤ length d = omega arith in
+      let same : length x ≡ length d = ap length p ∙ length-pasted 0 first d fits in
+      let end : 0 + length first ≡ 230 = omega arith in
+      let front : drop 230 x ≡ drop 230 d = ap (drop 230) p ∙ ap (λ (n : ℕ). drop n (pasted 0 first d)) (sym end) ∙ drop-pasted 0 first d fits ∙ ap (λ (n : ℕ). drop n d) end in
+      ap (drop 239) q ∙ drop-pasted 230 w x (omega arith) ∙ sym (drop-drop 9 230 x) ∙ ap (drop 9) front ∙ drop-drop 9 230 d
 
   length-kept : length y ≡ imageLength
   unfolding joined workedRows toBE
   length-kept =
-      let r = joined (recordRows (h .held)) in
-      let w = joined (workedRows (h .worked) (h .next) (h .used)) in
-      let same : length x ≡ length d = ap length p ∙ length-pasted 0 r d (omega arith) in
-      ap length q ∙ length-pasted 230 w x (omega arith) ∙ same ∙ long
+      let same : length x ≡ length d = ap length p ∙ length-pasted 0 first d (omega arith) in
+      ap length q ∙ length-pasted 230 (joined (workedRows (h .worked) (h .next) (h .used))) x (omega arith) ∙ same ∙ long
 
-  pub head-stands : y ≡ imageOf (sessionAt h (journalIn d))
-  unfolding sessionAt
+  length-after : length z ≡ imageLength
+  unfolding toBE
+  length-after = ap length r ∙ length-pasted 2287 (toBE 2 (h .ahead)) y (omega (arith, length-kept)) ∙ length-kept
+
+  -- so does what stands after the redo store's used length
+  end-kept : drop 2289 z ≡ drop 2289 d
+  unfolding toBE
+  end-kept =
+      ap (drop 2289) r ∙ drop-pasted 2287 (toBE 2 (h .ahead)) y (omega (arith, length-kept))
+      ∙ sym (drop-drop 2050 239 y) ∙ ap (drop 2050) tail-kept ∙ drop-drop 2050 239 d
+
+  pub head-stands : z ≡ imageOf (sessionIn h d)
+  unfolding sessionIn
   head-stands =
-      let stands : y ≡ pasted 239 (journalIn d) y = sym (paste-self 239 2048 y (omega (arith, length-kept))) ∙ ap (λ (l : List ℕ). pasted 239 (take 2048 l) y) tail-kept in
-      let all = session-put d (omega arith) (h .held) (h .worked) (h .next) (h .used) (journalIn d) x y y wide p q stands in
-      filled imageLength _ d y (length-session (h .held) (h .worked) (h .next) (h .used) (journalIn d) wide (length-journal d long)) all long
+      let journal : y ≡ pasted 239 (journalIn d) y = sym (paste-self 239 2048 y (omega (arith, length-kept))) ∙ ap (λ (l : List ℕ). pasted 239 (take 2048 l) y) tail-kept in
+      let redo : z ≡ pasted 2289 (redoIn d) z = sym (paste-self 2289 2048 z (omega (arith, length-after))) ∙ ap (λ (l : List ℕ). pasted 2289 (take 2048 l) z) end-kept in
+      let one = length-store d long 239 (omega arith) in
+      let all = session-put d (omega arith) (sessionIn h d) wide one x y y z z p q journal r redo in
+      filled imageLength _ d z (length-session (sessionIn h d) wide one (length-store d long 2289 (omega arith))) all long

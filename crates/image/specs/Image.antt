@@ -1,4 +1,4 @@
--- The image of a session: its fields one after the other, numbers big-endian, no padding, 2,287 bytes. Beside each row is its offset.
+-- The image of a session: its fields one after the other, numbers big-endian, no padding, 4,337 bytes. Beside each row is its offset.
 use Prim.Native.Nat.{ℕ, _+_}
 use mathlib.Core.Bool.{cond, not}
 use mathlib.Core.List.{List, [], _∷_, _++_}
@@ -14,6 +14,8 @@ use Rattle.record.specs.declared.Received.{Received}
 use Rattle.record.specs.declared.Throttles.{Throttles}
 use Rattle.record.specs.declared.Record.{Record}
 use Rattle.record.specs.declared.Worked.{Worked}
+use Rattle.journal.specs.declared.Way.{Way}
+use Rattle.journal.specs.declared.Way.the-variants.{Before, After}
 use Rattle.session.specs.declared.Session.{Session}
 use Rattle.image.specs.Rows.{joined}
 use Rattle.image.specs.declared.Head.{Head}
@@ -94,6 +96,8 @@ sessionRows s =
     recordRows (s .held)
     ++ (workedRows (s .worked) (s .next) (s .used)
     ++ (s .journal  -- 239
+    ∷ toBE 2 (s .ahead)  -- 2287
+    ∷ s .redo  -- 2289
     ∷ []))
 
 unfoldable pub imageOf : Session → List ℕ
@@ -155,25 +159,41 @@ recordIn b =
 unfoldable pub workedIn : List ℕ → Worked
 workedIn b = record { limit = numberAt 2 230 b; observation = byteAt 232 b; active = byteAt 233 b; wanted = byteAt 234 b }
 
--- a session's head: all but its journal
+-- a session's head: all but its journal and its redo store
 unfoldable pub headIn : List ℕ → Head
-headIn b = record { held = recordIn b; worked = workedIn b; next = numberAt 2 235 b; used = numberAt 2 237 b }
+headIn b = record { held = recordIn b; worked = workedIn b; next = numberAt 2 235 b; used = numberAt 2 237 b; ahead = numberAt 2 2287 b }
 
--- its journal, where it stands
+-- where each store stands: the journal, which holds what was before, and the redo store, which holds what was after
+unfoldable pub storeAt : Way → ℕ
+storeAt Before = 239
+storeAt After = 2289
+
+abbrev pub storeIn : Way → List ℕ → List ℕ
+storeIn w b = partAt 2048 (storeAt w) b
+
+-- the bytes with x for the store at a place
+abbrev pub withStore : ℕ → List ℕ → List ℕ → List ℕ
+withStore at x b = take at b ++ (x ++ drop 2048 (drop at b))
+
 abbrev pub journalIn : List ℕ → List ℕ
 journalIn b = partAt 2048 239 b
 
-unfoldable pub sessionAt : Head → List ℕ → Session
-sessionAt h j = record { held = h .held; worked = h .worked; next = h .next; used = h .used; journal = j }
+abbrev pub redoIn : List ℕ → List ℕ
+redoIn b = partAt 2048 2289 b
+
+-- a head, and the stores that stand in the bytes
+unfoldable pub sessionIn : Head → List ℕ → Session
+sessionIn h b =
+    record { held = h .held; worked = h .worked; next = h .next; used = h .used; journal = journalIn b; ahead = h .ahead; redo = redoIn b }
 
 unfoldable pub sessionOf : List ℕ → Session
-sessionOf b = sessionAt (headIn b) (journalIn b)
+sessionOf b = sessionIn (headIn b) b
 
 -- ---- a session written into a buffer
 
 -- the length of an image
 abbrev pub imageLength : ℕ
-imageLength = 2287
+imageLength = 4337
 
 -- bytes of another length are kept
 unfoldable pub writtenTo : List ℕ → Session → List ℕ

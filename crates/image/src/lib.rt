@@ -1,10 +1,11 @@
-// A session as 2,287 bytes, its image: its head read and written at the fields' offsets, numbers big-endian, no padding.
+// A session as 4,337 bytes, its image: its head read and written at the fields' offsets, numbers big-endian, no padding.
 ghost use mathlib.Core.Path.{_≡_};
 ghost use Prim.Native.Nat.{_≤_, _+_};
 ghost use lib.ListN.{length};
 ghost use Rattle.wire.specs.Wire.{pasted, Bytes};
 ghost use Rattle.image.specs.Rows.{joined};
-ghost use Rattle.image.specs.Image.{headRows, throttlesRows, thermalRows, logsRows, mailboxRows, workedRows, recordRows, imageOf, imageLength, writtenTo, partAt, capsIn, throttlesIn, receivedIn, logAt, logsIn, deadmanIn, areasIn, recordIn, workedIn, headIn, journalIn, sessionAt};
+ghost use Rattle.image.specs.Image.{headRows, throttlesRows, thermalRows, logsRows, mailboxRows, workedRows, recordRows, imageOf, imageLength, writtenTo, partAt, capsIn, throttlesIn, receivedIn, logAt, logsIn, deadmanIn, areasIn, recordIn, workedIn, headIn, storeAt, journalIn, redoIn, sessionIn};
+use journal::Way;
 use record::Area;
 use record::Areas;
 use record::Caps;
@@ -16,14 +17,25 @@ use record::Throttles;
 use record::Worked;
 use session::Session;
 
-pub const LENGTH: usize = 2287;
+pub const LENGTH: usize = 4337;
 
-// A session without its journal, which stays in the lent bytes.
+// A session without its journal and its redo store, which stay in the lent bytes.
 pub struct Head {
     pub held: Record,
     pub worked: Worked,
     pub next: u16,
     pub used: u16,
+    pub ahead: u16,
+}
+
+// Where a store stands, 2,048 bytes.
+pub fn store_at(way: Way) -> usize
+    ensures { λ at. ⌜ at ≡ storeAt way ⌝ }
+{
+    match way {
+        Way::Before => 239,
+        Way::After => 2289,
+    }
 }
 
 // ---- writing, a part at a time; the rest of the buffer is kept
@@ -127,15 +139,24 @@ fn put_record(d: &mut [u8], r: Record)
     put_mailbox(d, r.mask, deadman, areas);
 }
 
-// The head, before the journal that stands there.
+// The head, around the stores that stand there.
 pub fn write_head(d: &mut [u8], h: Head)
     requires { ⌜ length (now d) ≡ imageLength ⌝ }
-    ensures { λ _. ⌜ now (d .exit) ≡ imageOf (sessionAt h (journalIn (now (d .entry)))) ⌝ }
+    ensures { λ _. ⌜ now (d .exit) ≡ imageOf (sessionIn h (now (d .entry))) ⌝ }
 {
     let held = h.held;
     let worked = h.worked;
     put_record(&mut *d, held);
-    put_worked(d, worked, h.next, h.used);
+    put_worked(&mut *d, worked, h.next, h.used);
+    wire::put_be(d, 2287, 2, h.ahead as u64);
+}
+
+fn put_stores(d: &mut [u8], journal: [u8; 2048], redo: [u8; 2048])
+    requires { ⌜ length (now d) ≡ imageLength ⌝ }
+    ensures { λ _. ⌜ (journalIn (now (d .exit)) ≡ journal) × (redoIn (now (d .exit)) ≡ redo) ⌝ }
+{
+    wire::copy(&mut *d, 239, &journal);
+    wire::copy(d, 2289, &redo);
 }
 
 // A whole session; bytes of another length are kept.
@@ -145,12 +166,21 @@ pub fn write(s: Session, d: &mut [u8])
     if d.len() != LENGTH {
         return;
     }
+    let journal = s.journal;
+    let redo = s.redo;
     let held = s.held;
     let worked = s.worked;
-    let journal = s.journal;
-    put_record(&mut *d, held);
-    put_worked(&mut *d, worked, s.next, s.used);
-    wire::copy(d, 239, &journal);
+    put_stores(&mut *d, journal, redo);
+    write_head(
+        d,
+        Head {
+            held: held,
+            worked: worked,
+            next: s.next,
+            used: s.used,
+            ahead: s.ahead,
+        },
+    );
 }
 
 // ---- reading, a part at a time
@@ -295,10 +325,10 @@ fn worked_in(b: &[u8]) -> Worked
     }
 }
 
-// The head, by value; the journal stays where it stands. That lent bytes are bytes is said here, once: a call that writes nothing leaves
+// The head, by value; the stores stay where they stand. That lent bytes are bytes is said here, once: a call that writes nothing leaves
 // the image of what was read.
 pub fn read_head(b: &[u8]) -> Head
-    requires { ⌜ 239 ≤ length (now b) ⌝ }
+    requires { ⌜ 2289 ≤ length (now b) ⌝ }
     ensures { λ h. ⌜ h ≡ headIn (now (b .entry)) ⌝ }
     ensures { λ _. ⌜ Bytes (now (b .entry)) ⌝ }
 {
@@ -306,10 +336,12 @@ pub fn read_head(b: &[u8]) -> Head
     let worked = worked_in(b);
     let next = wire::be16(b, 235);
     let used = wire::be16(b, 237);
+    let ahead = wire::be16(b, 2287);
     Head {
         held: held,
         worked: worked,
         next: next,
         used: used,
+        ahead: ahead,
     }
 }

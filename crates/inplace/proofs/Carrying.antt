@@ -6,7 +6,7 @@ use mathlib.Core.List.{List}
 use native.Mathlib.Omega.{arith}
 use borrow.Author.Tests.{ltb-false}
 use lib.Dec.{ltb, eqb}
-use lib.ListN.{length}
+use lib.ListN.{length, replicate}
 use Rattle.wire.specs.laws.Cases.{cond-elim}
 use Rattle.record.specs.Record.{workedOf}
 use Rattle.record.specs.declared.Log.{Log}
@@ -72,14 +72,12 @@ module _ (s : Session) (e back : Edit) (end : End) (made : end ≡ endOf (length
   unfolding carriedOf carriedTo
   carried-full f = ap (carriedTo s e) (sym f ∙ carried-end)
 
-  pub carried-at : (used m : ℕ) (j : List ℕ) (p : Changed) (w : Worked) → end ≡ At used → j ≡ addedTo (s .used) back (s .journal) → p ≡ putOf (s .held) e
-      → w ≡ workedOf (p .after) → m ≡ madeOf (e .change)
-      → _≡_ {A = Carried} (record { full = false; session = record { held = p .after; worked = w; next = s .next + m; journal = j; used = used } }) (carriedOf s e)
-  unfolding carriedOf carriedTo withHeld
-  carried-at used m j p w f jp pp wp mp =
-      let after = ap (λ (c : Changed). c .after) pp in
+  pub carried-at : (used : ℕ) (j : List ℕ) → end ≡ At used → j ≡ addedTo (s .used) back (s .journal)
+      → _≡_ {A = Carried}
+      (record { full = false; session = withHeld (putOf (s .held) e .after) (s .next + madeOf (e .change)) j used (replicate 2048 0) 0 })
+      (carriedOf s e)
+  unfolding carriedOf carriedTo
+  carried-at used j f jp =
       let jq = jp ∙ ap (λ (b : Edit). addedTo (s .used) b (s .journal)) is in
-      let wq = wp ∙ ap workedOf after in
-      let mq = ap (λ (k : ℕ). s .next + k) mp in
-      (λ i. record { full = false; session = record { held = after i; worked = wq i; next = mq i; journal = jq i; used = used } })
+      (λ i. record { full = false; session = withHeld (putOf (s .held) e .after) (s .next + madeOf (e .change)) (jq i) used (replicate 2048 0) 0 })
       ∙ ap (carriedTo s e) (sym f ∙ carried-end)

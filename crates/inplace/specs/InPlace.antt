@@ -3,16 +3,30 @@ use mathlib.Core.Bool.{cond}
 use mathlib.Core.List.{List}
 use mathlib.Core.Path.{_≡_}
 use lib.ListN.{length}
-use Prim.Native.Nat.{ℕ}
-use Rattle.session.specs.Session.{Carried}
+use Prim.Native.Nat.{ℕ, _+_}
+use Rattle.record.specs.Record.{workedOf}
+use Rattle.change.specs.Change.{putOf}
+use Rattle.change.specs.declared.Edit.{Edit}
+use Rattle.session.specs.Session.{Carried, madeOf}
 use Rattle.image.specs.declared.Head.{Head}
-use Rattle.image.specs.Image.{imageLength, imageOf, journalIn, sessionAt}
+use Rattle.image.specs.Image.{imageLength, imageOf, sessionIn}
 use Rattle.inplace.specs.declared.Told.{Told}
 
 -- h is the head that stands in these bytes, which are an image
 pub record Stands (h : Head) (b : List ℕ) : Type 0 where
   pub long : length b ≡ imageLength
-  pub image : b ≡ imageOf (sessionAt h (journalIn b))
+  pub image : b ≡ imageOf (sessionIn h b)
+
+-- the head after a change whose entry ends at `used`: the redo store is empty then
+unfoldable pub headAfter : Head → Edit → ℕ → Head
+headAfter h e used =
+    record {
+      held = putOf (h .held) e .after;
+      worked = workedOf (putOf (h .held) e .after);
+      next = h .next + madeOf (e .change);
+      used = used;
+      ahead = 0;
+    }
 
 -- the image of the session after it; the bytes as they were where its entry has no room
 unfoldable pub carriedIn : List ℕ → Carried → List ℕ

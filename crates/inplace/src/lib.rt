@@ -1,14 +1,19 @@
-// A session that is lent as its image's bytes and worked on where it stands: its head is handed round by value, its journal is looked at
+// A session that is lent as its image's bytes and worked on where it stands: its head is handed round by value, its stores are looked at
 // and changed in place, and the head is written back only where it changed.
 ghost use mathlib.Core.Path.{_≡_};
-ghost use Prim.Native.Nat.{_≤_};
+ghost use mathlib.Core.Bool.{true};
+ghost use Prim.Native.Nat.{_≤_, _+_};
 ghost use lib.ListN.{length};
-ghost use Rattle.session.specs.Session.{wellFormed, carriedOf};
-ghost use Rattle.image.specs.Image.{imageLength, journalIn, sessionAt};
-ghost use Rattle.inplace.specs.InPlace.{carriedIn};
+ghost use Rattle.wire.specs.Wire.{pasted};
+ghost use Rattle.journal.specs.Bytes.{entryBytes};
+ghost use Rattle.journal.specs.Add.{entryLen, endOf, addedTo, cutFrom};
+ghost use Rattle.session.specs.Session.{storesOk, wellFormed, carriedOf};
+ghost use Rattle.image.specs.Image.{imageLength, storeAt, storeIn, withStore, journalIn, sessionIn};
+ghost use Rattle.inplace.specs.InPlace.{headAfter, carriedIn};
 use change::Edit;
 use image::Head;
 use journal::End;
+use journal::Way;
 
 // A session answer, and the number beside it: the doorbell, the kind taken back, 0 where a call has none.
 pub struct Told {
@@ -25,45 +30,102 @@ pub fn answer_with(answer: u8, beside: u16) -> Told
     }
 }
 
-// The test for answer 1, on the head that was read and the journal that stands after it.
+// ---- the test for answer 1, on the head that was read and the stores that stand there
+
+fn stores_ok(lent: &[u8], h: Head) -> bool
+    requires { ⌜ length (now lent) ≡ imageLength ⌝ }
+    ensures { λ x. ⌜ x ≡ storesOk (sessionIn h (now (lent .entry))) ⌝ }
+{
+    let used = h.used as usize;
+    let ahead = h.ahead as usize;
+    if 2048 < used + ahead {
+        return false;
+    }
+    if !session::store_ok(Way::Before, &lent[239..2287], used) {
+        return false;
+    }
+    session::store_ok(Way::After, &lent[2289..4337], ahead)
+}
+
 pub fn well_formed(lent: &[u8], h: Head) -> bool
     requires { ⌜ length (now lent) ≡ imageLength ⌝ }
-    ensures { λ x. ⌜ x ≡ wellFormed (sessionAt h (journalIn (now (lent .entry)))) ⌝ }
+    ensures { λ x. ⌜ x ≡ wellFormed (sessionIn h (now (lent .entry))) ⌝ }
 {
     let held = h.held;
     let worked = h.worked;
     if !session::held_ok(held, worked, h.next) {
         return false;
     }
-    session::store_ok(&lent[239..2287], h.used as usize)
+    stores_ok(lent, h)
 }
 
-// A change carried out: entry, record, worked-out values and next id, in one place. Nothing else writes a record but undo, by the same
-// road. The answer is whether the entry has no room; then nothing is written.
-pub fn carry(lent: &mut [u8], h: Head, e: Edit) -> bool
-    requires { ⌜ (length (now lent) ≡ imageLength) × (h .next ≤ 256) ⌝ }
-    ensures { λ x. ⌜ x ≡ carriedOf (sessionAt h (journalIn (now (lent .entry)))) e .full ⌝ }
-    ensures { λ _. ⌜ now (lent .exit) ≡ carriedIn (now (lent .entry)) (carriedOf (sessionAt h (journalIn (now (lent .entry)))) e) ⌝ }
+// ---- a store changed where it stands
+
+// Its bytes from `at` to the end of the used ones are zeroed.
+pub fn cut(lent: &mut [u8], way: Way, at: usize, used: usize)
+    requires { ⌜ length (now lent) ≡ imageLength ⌝ }
+    ensures { λ _. ⌜ now (lent .exit) ≡ withStore (storeAt way) (cutFrom at used (storeIn way (now (lent .entry)))) (now (lent .entry)) ⌝ }
+{
+    let start = image::store_at(way);
+    let end = start + 2048;
+    journal::cut(&mut lent[start..end], at, used);
+}
+
+// An entry is put at the end of its used bytes; the room is known.
+pub fn append(lent: &mut [u8], way: Way, used: usize, e: Edit)
+    requires { ⌜ (length (now lent) ≡ imageLength) × (used + entryLen e ≤ 2048) ⌝ }
+    ensures { λ _. ⌜ now (lent .exit) ≡ withStore (storeAt way) (pasted used (entryBytes e) (storeIn way (now (lent .entry)))) (now (lent .entry)) ⌝ }
+    ensures { λ _. ⌜ length (pasted used (entryBytes e) (storeIn way (now (lent .entry)))) ≡ 2048 ⌝ }
+{
+    let start = image::store_at(way);
+    let end = start + 2048;
+    journal::append(&mut lent[start..end], used, e);
+}
+
+// Adds an entry to the journal, where there is room.
+fn add(lent: &mut [u8], used: usize, e: Edit) -> End
+    requires { ⌜ length (now lent) ≡ imageLength ⌝ }
+    ensures { λ x. ⌜ x ≡ endOf 2048 used e ⌝ }
+    ensures { λ _. ⌜ now (lent .exit) ≡ withStore 239 (addedTo used e (journalIn (now (lent .entry)))) (now (lent .entry)) ⌝ }
+    ensures { λ _. ⌜ length (addedTo used e (journalIn (now (lent .entry)))) ≡ 2048 ⌝ }
+{
+    journal::add(&mut lent[239..2287], used, e)
+}
+
+// ---- a change carried out
+
+fn head_after(h: Head, e: Edit, used: u16) -> Head
+    requires { ⌜ h .next ≤ 256 ⌝ }
+    ensures { λ x. ⌜ x ≡ headAfter h e used ⌝ }
 {
     let held = h.held;
     let change = e.change;
-    let back = change::inverse(held, e);
-    let end = journal::add(&mut lent[239..2287], h.used as usize, back);
-    let End::At(used) = end else {
-        return true;
-    };
     let put = change::put(held, e);
     let after = put.after;
     let worked = record::work_out(after);
-    let next = h.next + session::made(change);
-    image::write_head(
-        lent,
-        Head {
-            held: after,
-            worked: worked,
-            next: next,
-            used: used as u16,
-        },
-    );
+    Head {
+        held: after,
+        worked: worked,
+        next: h.next + session::made(change),
+        used: used,
+        ahead: 0,
+    }
+}
+
+// A change carried out: entry, record, worked-out values and next id, in one place, and the redo store is emptied. Nothing else writes a record
+// but undo and redo, by the same road. The answer is whether the entry has no room; then nothing is written.
+pub fn carry(lent: &mut [u8], h: Head, e: Edit) -> bool
+    requires { ⌜ (length (now lent) ≡ imageLength) × (wellFormed (sessionIn h (now lent)) ≡ true) ⌝ }
+    ensures { λ x. ⌜ x ≡ carriedOf (sessionIn h (now (lent .entry))) e .full ⌝ }
+    ensures { λ _. ⌜ now (lent .exit) ≡ carriedIn (now (lent .entry)) (carriedOf (sessionIn h (now (lent .entry))) e) ⌝ }
+{
+    let back = change::inverse(h.held, e);
+    let end = add(&mut *lent, h.used as usize, back);
+    let End::At(used) = end else {
+        return true;
+    };
+    cut(&mut *lent, Way::After, 0, h.ahead as usize);
+    let after = head_after(h, e, used as u16);
+    image::write_head(lent, after);
     false
 }

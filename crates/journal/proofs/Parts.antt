@@ -11,6 +11,7 @@ use lib.ListN.{length, getD, take, drop, replicate, length-drop, length-replicat
 use lib.Seq.{drop-drop, length-take-le}
 use Rattle.wire.specs.Wire.{pasted}
 use Rattle.wire.specs.laws.Wire.{tail-part}
+use Rattle.record.specs.declared.Log.{Log}
 use Rattle.change.specs.declared.Change.{Change}
 use Rattle.change.specs.declared.Edit.{Edit}
 use Rattle.change.specs.Change.{kindOf}
@@ -18,8 +19,11 @@ use Rattle.entries.specs.Entries.{bytesOf, bodyLengths, bodyLen}
 use Rattle.journal.specs.declared.Found.{Found}
 use Rattle.journal.specs.declared.Found.the-variants.{Bad}
 use Rattle.journal.specs.declared.Got.{Got}
+use Rattle.formed.specs.Formed.{clearedOk, changeOk}
+use Rattle.journal.specs.declared.Way.{Way}
+use Rattle.journal.specs.declared.Way.the-variants.{Before, After}
 use Rattle.journal.specs.Bytes.{bodyOf, entryFor, entryBytes}
-use Rattle.journal.specs.Read.{foundFor, tablesIn, valuesOk, entryOk}
+use Rattle.journal.specs.Read.{clearedAs, resetAs, resetOk, foundFor, tablesIn, valuesOk, entryOk}
 use Rattle.change.specs.declared.Tables.{Tables}
 
 -- ---- parts of lent bytes
@@ -65,8 +69,8 @@ body-short k = getD-under 163 bodyLengths k refl
 pub room-for : (k n m : ℕ) → k ≡ n → bodyLen k ≤ m → bodyLen n ≤ m
 room-for k n m e h = subst (λ (i : ℕ). bodyLen i ≤ m) e h
 
-pub found-by : (k n : ℕ) (b : List ℕ) (x : Found) → k ≡ n → x ≡ foundFor n b → x ≡ foundFor k b
-found-by k n b x e p = p ∙ ap (λ (i : ℕ). foundFor i b) (sym e)
+pub found-by : (w : Way) (k n : ℕ) (b : List ℕ) (x : Found) → k ≡ n → x ≡ foundFor w n b → x ≡ foundFor w k b
+found-by w k n b x e p = p ∙ ap (λ (i : ℕ). foundFor w i b) (sym e)
 
 pub put-by : (e : Edit) (ch : Change) (d x : List ℕ) → e .change ≡ ch → x ≡ pasted 0 (kindOf ch ∷ bodyOf (e .tables) ch) d → x ≡ pasted 0 (entryBytes e) d
 unfolding entryBytes entryFor bytesOf
@@ -77,17 +81,28 @@ put-room e ch n h p = subst (λ (c : Change). bodyLen (kindOf c) + 1 ≤ n) h p
 
 -- ---- what was got
 
-pub ok-by : (k n : ℕ) (b : List ℕ) (x : Bool) → k ≡ n → x ≡ entryOk (record { kind = n; body = b }) → x ≡ entryOk (record { kind = k; body = b })
-ok-by k n b x e p = p ∙ ap (λ (i : ℕ). entryOk (record { kind = i; body = b })) (sym e)
+pub ok-by : (w : Way) (k n : ℕ) (b : List ℕ) (x : Bool) → k ≡ n → x ≡ entryOk w (record { kind = n; body = b }) → x ≡ entryOk w (record { kind = k; body = b })
+ok-by w k n b x e p = p ∙ ap (λ (i : ℕ). entryOk w (record { kind = i; body = b })) (sym e)
+
+-- a clear passes alike both ways, a reset by its own rule
+pub cleared-either : (w : Way) (t : Tables) (place : ℕ) (log : Log) → clearedOk place log ≡ changeOk t (clearedAs w place log)
+unfolding clearedAs changeOk
+cleared-either Before t place log = refl
+cleared-either After t place log = refl
+
+pub reset-either : (w : Way) (t : Tables) (a b : ℕ) → resetOk w a b ≡ changeOk t (resetAs w a b)
+unfolding resetOk resetAs changeOk
+reset-either Before t a b = refl
+reset-either After t a b = refl
 
 pub ok-bad : (t : Tables) (f : Found) → Bad ≡ f → false ≡ valuesOk t f
 unfolding valuesOk
 ok-bad t f e = ap (valuesOk t) e
 
-pub got-by : (k : ℕ) (e : List ℕ) (f : Found) (t : Tables) → f ≡ foundFor k (take (length e - 1) (drop 1 e)) → t ≡ tablesIn k (take (length e - 1) (drop 1 e))
-    → _≡_ {A = Got} (record { found = f; tables = t }) (record { found = foundFor k (drop 1 e); tables = tablesIn k (drop 1 e) })
-got-by k e f t p q =
-    let g = p ∙ ap (foundFor k) (tail-part e 1) in
+pub got-by : (w : Way) (k : ℕ) (e : List ℕ) (f : Found) (t : Tables) → f ≡ foundFor w k (take (length e - 1) (drop 1 e)) → t ≡ tablesIn k (take (length e - 1) (drop 1 e))
+    → _≡_ {A = Got} (record { found = f; tables = t }) (record { found = foundFor w k (drop 1 e); tables = tablesIn k (drop 1 e) })
+got-by w k e f t p q =
+    let g = p ∙ ap (foundFor w k) (tail-part e 1) in
     let h = q ∙ ap (tablesIn k) (tail-part e 1) in
     λ i. record { found = g i; tables = h i }
 
@@ -96,8 +111,11 @@ got-by k e f t p q =
 pub get-room : (e : List ℕ) (k n : ℕ) → length e - 1 ≡ n → n ≡ bodyLen k → bodyLen k ≤ length (take (length e - 1) (drop 1 e))
 get-room e k n p q = rw (tail-part e 1, length-drop) (omega (arith, p, q))
 
-pub add-room : (j : List ℕ) (used n m : ℕ) → n ≡ m → n ≤ length j - used → m ≤ length (take (length j - used) (drop used j))
-add-room j used n m p h = rw (tail-part j used, length-drop) (omega (arith, p))
+pub add-room : (used n m l : ℕ) → n ≡ m → used ≤ l → n ≤ l - used → used + m ≤ l
+add-room used n m l p h k = omega (arith, p)
+
+pub append-room : (j : List ℕ) (used n : ℕ) → used + n ≤ length j → n ≤ length (take (length j - used) (drop used j))
+append-room j used n h = rw (tail-part j used, length-drop) (omega arith)
 
 pub less-than : (a n m : ℕ) → n ≡ m → a < n → a < m
 less-than a n m e h = omega (arith, e)

@@ -1,4 +1,4 @@
--- Document 01, "The journal": each kind's body, holding what was before, field after field.
+-- Document 01, "The journal": each kind's body, holding what was before (in the redo store of document 02, what was after), field after field.
 use Prim.Native.Nat.{ℕ}
 use mathlib.Core.List.{List, [], _∷_, _++_}
 use Rattle.wire.specs.Wire.{toBE}
@@ -38,7 +38,7 @@ areaBytes area = toBE 8 (area .address) ++ toBE 4 (area .size)
 unfoldable pub areasBody : Areas → List ℕ
 areasBody areas = areaBytes (areas .ffdc) ++ areaBytes (areas .pass)
 
--- the body of a change, with the tables beside it; those of `Clear` and `Reset`, what was after, are there for redo
+-- the body of a change, with the tables beside it. `Clear` and `Reset` are what was after
 unfoldable pub bodyOf : Tables → Change → List ℕ
 bodyOf t (Clear place log) = clearedBody place log
 bodyOf t (Unclear place log) = clearedBody place log

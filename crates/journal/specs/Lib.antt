@@ -1,4 +1,5 @@
 pub mod Bytes
+pub mod Ways
 pub mod Read
 pub mod Add
 pub mod laws

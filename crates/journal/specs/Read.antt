@@ -10,13 +10,17 @@ use Rattle.record.specs.declared.Caps.{Caps}
 use Rattle.record.specs.declared.Area.{Area}
 use Rattle.record.specs.declared.Throttles.{Throttles}
 use Rattle.change.specs.Change.{noTables}
-use Rattle.change.specs.declared.Change.the-variants.{Unclear, SetState, SetRole, SetCaps, SetUser, SetThermal, SetThrottles, Unreset, SetMask, SetDeadman, SetAreas}
+use Rattle.record.specs.declared.Log.{Log}
+use Rattle.change.specs.declared.Change.{Change}
+use Rattle.change.specs.declared.Change.the-variants.{Clear, Unclear, SetState, SetRole, SetCaps, SetUser, SetThermal, SetThrottles, Reset, Unreset, SetMask, SetDeadman, SetAreas}
 use Rattle.change.specs.declared.Tables.{Tables}
 use Rattle.entries.specs.Entries.{Entry, bodyLen, Scan, between, within, unknown, scan}
-use Rattle.formed.specs.Formed.{changeOk}
+use Rattle.formed.specs.Formed.{madeOk, unresetOk, changeOk}
 use Rattle.journal.specs.declared.Found.{Found}
 use Rattle.journal.specs.declared.Found.the-variants.{Good, Bad}
 use Rattle.journal.specs.declared.Got.{Got}
+use Rattle.journal.specs.declared.Way.{Way}
+use Rattle.journal.specs.declared.Way.the-variants.{Before, After}
 
 -- ---- fields of a body, by their place
 
@@ -29,18 +33,27 @@ areaAt at b = record { address = beNat (take 8 (drop at b)); size = beNat (take 
 unfoldable pub throttlesFrom : List ℕ → Throttles
 throttlesFrom b = record { present = beNat (take 2 (drop 1 b)); sets = take 160 (drop 3 b) }
 
--- ---- what a body says, by its kind
+-- ---- what a body says, by its kind. The journal's bodies hold "what was before", those of the redo store (document 02) "what was after":
+-- "for kind 08 that is the log's id and reason, 0 and 0 without one"
 
-unfoldable pub foundFor : ℕ → List ℕ → Found
-foundFor k b =
-    cond (eqb k 0x01) (Good (Unclear (getD b 0 0) (record { id = getD b 1 0; reason = getD b 2 0 })))
+unfoldable pub clearedAs : Way → ℕ → Log → Change
+clearedAs Before place log = Unclear place log
+clearedAs After place log = Clear place log
+
+unfoldable pub resetAs : Way → ℕ → ℕ → Change
+resetAs Before state made = Unreset state made
+resetAs After id reason = Reset (record { id = id; reason = reason })
+
+unfoldable pub foundFor : Way → ℕ → List ℕ → Found
+foundFor w k b =
+    cond (eqb k 0x01) (Good (clearedAs w (getD b 0 0) (record { id = getD b 1 0; reason = getD b 2 0 })))
     (cond (eqb k 0x02) (Good (SetState (getD b 0 0)))
     (cond (eqb k 0x03) (Good (SetRole (getD b 0 0) (getD b 1 0)))
     (cond (eqb k 0x04) (Good (SetCaps (getD b 0 0) (capsAt 1 b)))
     (cond (eqb k 0x05) (Good (SetUser (beNat (take 2 (drop 0 b)))))
     (cond (eqb k 0x06) (Good (SetThermal (getD b 0 0)))
     (cond (eqb k 0x07) (Good (SetThrottles (getD b 0 0)))
-    (cond (eqb k 0x08) (Good (Unreset (getD b 0 0) (getD b 1 0)))
+    (cond (eqb k 0x08) (Good (resetAs w (getD b 0 0) (getD b 1 0)))
     (cond (eqb k 0x09) (Good (SetMask (beNat (take 4 (drop 0 b)))))
     (cond (eqb k 0x0A) (Good (SetDeadman (record { running = getD b 0 0; time = beNat (take 8 (drop 1 b)) })))
     (cond (eqb k 0x0B) (Good (SetAreas (record { ffdc = areaAt 0 b; pass = areaAt 12 b })))
@@ -57,13 +70,13 @@ unfoldable pub badGot : Got
 badGot = record { found = Bad; tables = noTables }
 
 -- bytes that should be one whole entry, of kind k
-unfoldable pub gotFor : ℕ → List ℕ → Got
-gotFor k e =
+unfoldable pub gotFor : Way → ℕ → List ℕ → Got
+gotFor w k e =
     cond (not (eqb (length e - 1) (bodyLen k))) badGot
-    (record { found = foundFor k (drop 1 e); tables = tablesIn k (drop 1 e) })
+    (record { found = foundFor w k (drop 1 e); tables = tablesIn k (drop 1 e) })
 
-unfoldable pub gotOf : List ℕ → Got
-gotOf e = cond (eqb (length e) 0) badGot (gotFor (getD e 0 0) e)
+unfoldable pub gotOf : Way → List ℕ → Got
+gotOf w e = cond (eqb (length e) 0) badGot (gotFor w (getD e 0 0) e)
 
 -- ---- "the used journal reads exactly as entries, each body's values ones that a well-formed record could hold"
 
@@ -74,17 +87,22 @@ valuesOk t Bad = false
 unfoldable pub gotOk : Got → Bool
 gotOk got = valuesOk (got .tables) (got .found)
 
-unfoldable pub entryOk : Entry → Bool
-entryOk e = valuesOk (tablesIn (e .kind) (e .body)) (foundFor (e .kind) (e .body))
+unfoldable pub entryOk : Way → Entry → Bool
+entryOk w e = valuesOk (tablesIn (e .kind) (e .body)) (foundFor w (e .kind) (e .body))
 
-unfoldable pub allOk : List Entry → Bool
-allOk [] = true
-allOk (e ∷ es) = cond (entryOk e) (allOk es) false
+-- what that comes to for kind 08
+unfoldable pub resetOk : Way → ℕ → ℕ → Bool
+resetOk Before state made = unresetOk state made
+resetOk After id reason = madeOk (record { id = id; reason = reason })
 
-unfoldable pub scanOk : Scan → Bool
-scanOk (between es) = allOk es
-scanOk (within es k b n) = false
-scanOk (unknown es) = false
+unfoldable pub allOk : Way → List Entry → Bool
+allOk w [] = true
+allOk w (e ∷ es) = cond (entryOk w e) (allOk w es) false
 
-unfoldable pub journalOk : List ℕ → Bool
-journalOk j = scanOk (scan j)
+unfoldable pub scanOk : Way → Scan → Bool
+scanOk w (between es) = allOk w es
+scanOk w (within es k b n) = false
+scanOk w (unknown es) = false
+
+unfoldable pub entriesOk : Way → List ℕ → Bool
+entriesOk w j = scanOk w (scan j)

@@ -8,8 +8,8 @@ ghost use Rattle.wire.specs.Wire.{pasted, toBE};
 ghost use Rattle.change.specs.Change.{kindOf};
 ghost use Rattle.entries.specs.Entries.{bodyLen};
 ghost use Rattle.journal.specs.Bytes.{clearedBody, capsBody, throttlesBody, deadmanBody, areasBody, entryBytes};
-ghost use Rattle.journal.specs.Read.{capsAt, areaAt, throttlesFrom, foundFor, tablesIn, badGot, gotOf, entryOk, journalOk};
-ghost use Rattle.journal.specs.Add.{endOf, addedTo, cutFrom};
+ghost use Rattle.journal.specs.Read.{capsAt, areaAt, throttlesFrom, clearedAs, resetAs, resetOk, foundFor, tablesIn, badGot, gotOf, entryOk, entriesOk};
+ghost use Rattle.journal.specs.Add.{entryLen, endOf, addedTo, cutFrom};
 use change::Change;
 use change::Edit;
 use change::Tables;
@@ -20,7 +20,13 @@ use record::Deadman;
 use record::Log;
 use record::Throttles;
 
-// What an entry says was before, or that the bytes are no entry.
+// What a store's entries hold: what was before (the journal), or what was after (the redo store). Kinds 01 and 08 read differently.
+pub enum Way {
+    Before,
+    After,
+}
+
+// What an entry says, or that the bytes are no entry.
 pub enum Found {
     Good(Change),
     Bad,
@@ -32,7 +38,7 @@ pub struct Got {
     pub tables: Tables,
 }
 
-// Where the journal ends once an entry is added, or that there is no room.
+// Where the used bytes end once an entry is added, or that there is no room.
 pub enum End {
     At(usize),
     Full,
@@ -212,13 +218,37 @@ fn throttles_in(b: &[u8]) -> Throttles
     }
 }
 
+// A clear is taken back, or done again.
+fn cleared_as(way: Way, place: u8, log: Log) -> Change
+    ensures { λ r. ⌜ r ≡ clearedAs way place log ⌝ }
+{
+    match way {
+        Way::Before => Change::Unclear(place, log),
+        Way::After => Change::Clear(place, log),
+    }
+}
+
+// So is a reset: the two bytes are the state before and whether a log was made, or that log's id and reason.
+fn reset_as(way: Way, a: u8, b: u8) -> Change
+    ensures { λ r. ⌜ r ≡ resetAs way a b ⌝ }
+{
+    match way {
+        Way::Before => Change::Unreset(a, b),
+        Way::After => Change::Reset(Log {
+            id: a,
+            reason: b,
+        }),
+    }
+}
+
 // What a kind's body says.
-fn found_for(kind: u8, b: &[u8]) -> Found
+fn found_for(way: Way, kind: u8, b: &[u8]) -> Found
     requires { ⌜ bodyLen kind ≤ length (now b) ⌝ }
-    ensures { λ r. ⌜ r ≡ foundFor kind (now (b .entry)) ⌝ }
+    ensures { λ r. ⌜ r ≡ foundFor way kind (now (b .entry)) ⌝ }
 {
     match kind {
-        0x01 => Found::Good(Change::Unclear(
+        0x01 => Found::Good(cleared_as(
+            way,
             b[0],
             Log {
                 id: b[1],
@@ -231,7 +261,7 @@ fn found_for(kind: u8, b: &[u8]) -> Found
         0x05 => Found::Good(Change::SetUser(wire::be16(b, 0))),
         0x06 => Found::Good(Change::SetThermal(b[0])),
         0x07 => Found::Good(Change::SetThrottles(b[0])),
-        0x08 => Found::Good(Change::Unreset(b[0], b[1])),
+        0x08 => Found::Good(reset_as(way, b[0], b[1])),
         0x09 => Found::Good(Change::SetMask(wire::be32(b, 0))),
         0x0A => Found::Good(Change::SetDeadman(Deadman {
             running: b[0],
@@ -281,8 +311,8 @@ fn bad() -> Got
 }
 
 // What one whole entry says; bytes that are not exactly one are bad.
-pub fn get(e: &[u8]) -> Got
-    ensures { λ r. ⌜ r ≡ gotOf (now (e .entry)) ⌝ }
+pub fn get(way: Way, e: &[u8]) -> Got
+    ensures { λ r. ⌜ r ≡ gotOf way (now (e .entry)) ⌝ }
 {
     if e.len() == 0 {
         return bad();
@@ -292,7 +322,7 @@ pub fn get(e: &[u8]) -> Got
         return bad();
     }
     let b = &e[1..];
-    let found = found_for(kind, b);
+    let found = found_for(way, kind, b);
     let tables = tables_in(kind, b);
     Got {
         found: found,
@@ -302,10 +332,22 @@ pub fn get(e: &[u8]) -> Got
 
 // ---- judging entries
 
+fn reset_ok(way: Way, a: u8, b: u8) -> bool
+    ensures { λ r. ⌜ r ≡ resetOk way a b ⌝ }
+{
+    match way {
+        Way::Before => formed::unreset_ok(a, b),
+        Way::After => formed::made_ok(Log {
+            id: a,
+            reason: b,
+        }),
+    }
+}
+
 // Whether a body's values are ones that a well-formed record could hold, straight off its bytes.
-fn body_ok(kind: u8, b: &[u8]) -> bool
+fn body_ok(way: Way, kind: u8, b: &[u8]) -> bool
     requires { ⌜ bodyLen kind ≤ length (now b) ⌝ }
-    ensures { λ r. ⌜ r ≡ entryOk (record { kind = kind; body = now (b .entry) }) ⌝ }
+    ensures { λ r. ⌜ r ≡ entryOk way (record { kind = kind; body = now (b .entry) }) ⌝ }
 {
     match kind {
         0x01 => formed::cleared_ok(
@@ -321,7 +363,7 @@ fn body_ok(kind: u8, b: &[u8]) -> bool
         0x05 => true,
         0x06 => formed::thermal_ok(b[0], thermal_in(b)),
         0x07 => formed::throttles_ok(b[0], throttles_in(b)),
-        0x08 => formed::unreset_ok(b[0], b[1]),
+        0x08 => reset_ok(way, b[0], b[1]),
         0x09 => true,
         0x0A => formed::deadman_ok(Deadman {
             running: b[0],
@@ -336,8 +378,8 @@ fn body_ok(kind: u8, b: &[u8]) -> bool
 }
 
 // Whether the bytes read exactly as entries with such values.
-pub fn all_ok(j: &[u8]) -> bool
-    ensures { λ r. ⌜ r ≡ journalOk (now (j .entry)) ⌝ }
+pub fn all_ok(way: Way, j: &[u8]) -> bool
+    ensures { λ r. ⌜ r ≡ entriesOk way (now (j .entry)) ⌝ }
 {
     let mut at = 0;
     let mut last = 0;
@@ -354,7 +396,7 @@ pub fn all_ok(j: &[u8]) -> bool
         }
         let start = at + 1;
         let end = start + n;
-        if !body_ok(kind, &j[start..end]) {
+        if !body_ok(way, kind, &j[start..end]) {
             return false;
         }
         at = end;
@@ -362,7 +404,15 @@ pub fn all_ok(j: &[u8]) -> bool
     true
 }
 
-// ---- the end of the journal
+// ---- the end of the used bytes
+
+// Puts a change's entry there; the room is known.
+pub fn append(j: &mut [u8], used: usize, e: Edit)
+    requires { ⌜ used + entryLen e ≤ length (now j) ⌝ }
+    ensures { λ _. ⌜ now (j .exit) ≡ pasted used (entryBytes e) (now (j .entry)) ⌝ }
+{
+    put(&mut j[used..], e);
+}
 
 // Adds a change's entry at the end of the used bytes, where there is room.
 pub fn add(j: &mut [u8], used: usize, e: Edit) -> End
@@ -377,7 +427,7 @@ pub fn add(j: &mut [u8], used: usize, e: Edit) -> End
     if j.len() - used < n {
         return End::Full;
     }
-    put(&mut j[used..], e);
+    append(j, used, e);
     End::At(used + n)
 }
 

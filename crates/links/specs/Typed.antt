@@ -19,9 +19,11 @@ pub record TypedRecord (r : Record) : Type 0 where
   pub ffdc : AreaFits (r .areas .ffdc)
   pub pass : AreaFits (r .areas .pass)
 
--- "a journal of 2,048 bytes .. with its used length"
+-- "a journal of 2,048 bytes .. with its used length", and a redo store likewise
 pub record TypedSession (s : Session) : Type 0 where
   pub held : TypedRecord (s .held)
   pub journal : length (s .journal) ≡ 2048
   pub next : s .next < 65536
   pub used : s .used < 65536
+  pub redo : length (s .redo) ≡ 2048
+  pub ahead : s .ahead < 65536

@@ -20,12 +20,11 @@ use Rattle.occ.specs.declared.Verdict.{Verdict}
 use Rattle.occ.specs.declared.Verdict.the-variants.{Refuse, Poll, Make}
 use Rattle.occ.specs.declared.Judged.{Judged}
 use Rattle.session.specs.Session.{Carried, wellFormed, carriedOf}
-use Rattle.session.specs.laws.Session.{formed-next}
 use Rattle.session.specs.declared.Session.{Session}
 use Rattle.occ_call.specs.Occ.{OccResult, answered, kept, says, knownSender, refusalOf, occRefusal, carriedSays, occMade, toldOf, verdictSays, judgedSays, askedFor, askedOf, occRead, occFrom, occCall, occLeft, occOn}
 use Rattle.wire.specs.Wire.{Bytes}
 use Rattle.image.specs.declared.Head.{Head}
-use Rattle.image.specs.Image.{imageLength, imageOf, headIn, journalIn, sessionAt}
+use Rattle.image.specs.Image.{imageLength, imageOf, headIn, sessionIn}
 use Rattle.inplace.specs.declared.Told.{Told}
 use Rattle.inplace.specs.InPlace.{Stands, carriedIn}
 use Rattle.inplace.specs.laws.InPlace.{Parts, parts, as-read, stands}
@@ -38,11 +37,11 @@ due true true true d h = let z : ⊥ = omega (arith, h) in absurd z
 due true false c d h = let z : ⊥ = omega (arith, h) in absurd z
 due false b c d h = let z : ⊥ = omega (arith, h) in absurd z
 
-pub met : (s : Session) (f : Bool) (n sender command reply : ℕ) → f ≡ wellFormed s → n ≡ refusalOf f sender command reply → n ≡ 0 → (s .next ≤ 256) × (4 ≤ command)
+pub met : (s : Session) (f : Bool) (n sender command reply : ℕ) → f ≡ wellFormed s → n ≡ refusalOf f sender command reply → n ≡ 0 → (wellFormed s ≡ true) × (4 ≤ command)
 unfolding refusalOf
 met s f n sender command reply e is none =
     let m = due f (knownSender sender) (ltb reply 4096) (ltb command 4) (sym is ∙ none) in
-    (formed-next s (sym e ∙ m .0), ltb-false command 4 (m .2))
+    (sym e ∙ m .0, ltb-false command 4 (m .2))
 
 -- ---- what a verdict says
 
@@ -60,19 +59,19 @@ tells held worked seq kind d = said-of (λ (u : Verdict). toldOf u held worked s
 
 module _ (h : Head) (b : List ℕ) (here : Stands h b) (sender : ℕ) (c d : List ℕ) where
   abbrev s : Session
-  s = sessionAt h (journalIn b)
+  s = sessionIn h b
 
   abbrev Hears : Told → List ℕ → List ℕ → Type 0
   Hears t y z = Parts t y z (occLeft (occRead s sender c d))
 
   module _ (j : Judged) (asked : j ≡ askedOf (h .held) (h .worked) (h .next) sender c) where
     by-verdict : (q : OccResult) → q ≡ verdictSays s (getD c 0 0) (getD c 1 0) d (j .tables) (j .verdict) → occLeft q ≡ occLeft (occRead s sender c d)
-    unfolding occRead judgedSays sessionAt
+    unfolding occRead judgedSays sessionIn
     by-verdict q e = ap occLeft (e ∙ ap (judgedSays s (getD c 0 0) (getD c 1 0) d) asked)
 
     pub told-in : (t : Told) (z : List ℕ) → t ≡ record { answer = 0; beside = 0 } → (tagOf the-type (j .verdict) ≡ 2 → ⊥)
         → z ≡ toldOf (j .verdict) (h .held) (h .worked) (getD c 0 0) (getD c 1 0) d → Hears t b z
-    unfolding occLeft says answered sessionAt
+    unfolding occLeft says answered sessionIn
     told-in t z p n q =
         parts t b z _ ((λ i. record { told = p i; image = here .image i; reply = q i })
         ∙ by-verdict _ (told s (getD c 0 0) (getD c 1 0) d (j .tables) (j .verdict) n))
@@ -103,16 +102,15 @@ module _ (h : Head) (b : List ℕ) (here : Stands h b) (sender : ℕ) (c d : Lis
 -- ---- the whole call: f says whether the session is well formed, n is the refusal that is due
 
 module _ (b : List ℕ) (long : length b ≡ imageLength) (h : Head) (read : h ≡ headIn b) (sender : ℕ) (c d : List ℕ) (f : Bool) (n : ℕ)
-    (formed : f ≡ wellFormed (sessionAt h (journalIn b))) (is : n ≡ refusalOf f sender (length c) (length d)) where
+    (formed : f ≡ wellFormed (sessionIn h b)) (is : n ≡ refusalOf f sender (length c) (length d)) where
   -- no refusal is due
-  pub met-in : n ≡ 0 → (h .next ≤ 256) × (4 ≤ length c)
-  unfolding sessionAt
-  met-in none = met (sessionAt h (journalIn b)) f n sender (length c) (length d) formed is none
+  pub met-in : n ≡ 0 → (wellFormed (sessionIn h b) ≡ true) × (4 ≤ length c)
+  met-in none = met (sessionIn h b) f n sender (length c) (length d) formed is none
 
-  by-refusal : occLeft (occFrom n (sessionAt h (journalIn b)) sender c d) ≡ occOn b sender c d
+  by-refusal : occLeft (occFrom n (sessionIn h b) sender c d) ≡ occOn b sender c d
   unfolding occOn occCall occRefusal
   by-refusal =
-      ap (λ (k : ℕ). occLeft (occFrom k (sessionAt h (journalIn b)) sender c d)) (is ∙ ap (λ (g : Bool). refusalOf g sender (length c) (length d)) formed)
+      ap (λ (k : ℕ). occLeft (occFrom k (sessionIn h b) sender c d)) (is ∙ ap (λ (g : Bool). refusalOf g sender (length c) (length d)) formed)
       ∙ ap (λ (x : Session). occLeft (occCall x sender c d)) (as-read b long h read)
       ∙ else-ne _ _ long refl
 
@@ -120,13 +118,13 @@ module _ (b : List ℕ) (long : length b ≡ imageLength) (h : Head) (read : h �
   unfolding occFrom occLeft kept answered
   refused-in bytes t p z =
       parts t b d _ ((λ i. record { told = p i; image = stands b long h read bytes .image i; reply = d })
-      ∙ ap occLeft (if-ne (kept n (sessionAt h (journalIn b)) d) (occRead (sessionAt h (journalIn b)) sender c d) z refl) ∙ by-refusal)
+      ∙ ap occLeft (if-ne (kept n (sessionIn h b) d) (occRead (sessionIn h b) sender c d) z refl) ∙ by-refusal)
 
-  pub heard-in : n ≡ 0 → (t : Told) (y z : List ℕ) → Parts t y z (occLeft (occRead (sessionAt h (journalIn b)) sender c d)) → Parts t y z (occOn b sender c d)
+  pub heard-in : n ≡ 0 → (t : Told) (y z : List ℕ) → Parts t y z (occLeft (occRead (sessionIn h b) sender c d)) → Parts t y z (occOn b sender c d)
   unfolding occFrom
   heard-in none t y z q =
       parts t y z _ ((λ i. record { told = q .0 i; image = q .1 .0 i; reply = q .1 .1 i })
-      ∙ ap occLeft (else-ne (kept n (sessionAt h (journalIn b)) d) (occRead (sessionAt h (journalIn b)) sender c d) none refl) ∙ by-refusal)
+      ∙ ap occLeft (else-ne (kept n (sessionIn h b) d) (occRead (sessionIn h b) sender c d) none refl) ∙ by-refusal)
 
 -- bytes that are no image
 pub no-image : (b : List ℕ) → (length b ≡ imageLength → ⊥) → (sender : ℕ) (c d : List ℕ) (t : Told) → t ≡ record { answer = 1; beside = 0 } → Parts t b d (occOn b sender c d)

@@ -1,9 +1,11 @@
 // The call `occ`: a command buffer from a sender, answered on a lent session. Refuse first, read, judge, carry out, reply last.
+ghost use mathlib.Core.Bool.{true};
 ghost use mathlib.Core.Path.{_≡_};
 ghost use Prim.Native.Nat.{_≤_};
 ghost use lib.ListN.{length};
 ghost use Rattle.occ_call.specs.Occ.{knownSender, refusalOf, askedOf, toldOf, occRead, occLeft, OccAllows};
-ghost use Rattle.image.specs.Image.{journalIn, sessionAt};
+ghost use Rattle.session.specs.Session.{wellFormed};
+ghost use Rattle.image.specs.Image.{sessionIn};
 ghost use Rattle.inplace.specs.InPlace.{Stands};
 use change::Edit;
 use image::Head;
@@ -68,10 +70,10 @@ fn tell(verdict: Verdict, held: Record, worked: Worked, seq: u8, kind: u8, reply
 
 // A command that is due an answer: judged, carried out if it asks for a change, and replied to.
 fn hear(lent: &mut [u8], h: Head, sender: u8, command: &[u8], reply: &mut [u8]) -> Told
-    requires { ⌜ Stands h (now lent) × (h .next ≤ 256) × (4 ≤ length (now command)) ⌝ }
-    ensures { λ x. ⌜ x ≡ occLeft (occRead (sessionAt h (journalIn (now (lent .entry)))) sender (now (command .entry)) (now (reply .entry))) .told ⌝ }
-    ensures { λ _. ⌜ now (lent .exit) ≡ occLeft (occRead (sessionAt h (journalIn (now (lent .entry)))) sender (now (command .entry)) (now (reply .entry))) .image ⌝ }
-    ensures { λ _. ⌜ now (reply .exit) ≡ occLeft (occRead (sessionAt h (journalIn (now (lent .entry)))) sender (now (command .entry)) (now (reply .entry))) .reply ⌝ }
+    requires { ⌜ Stands h (now lent) × (wellFormed (sessionIn h (now lent)) ≡ true) × (4 ≤ length (now command)) ⌝ }
+    ensures { λ x. ⌜ x ≡ occLeft (occRead (sessionIn h (now (lent .entry))) sender (now (command .entry)) (now (reply .entry))) .told ⌝ }
+    ensures { λ _. ⌜ now (lent .exit) ≡ occLeft (occRead (sessionIn h (now (lent .entry))) sender (now (command .entry)) (now (reply .entry))) .image ⌝ }
+    ensures { λ _. ⌜ now (reply .exit) ≡ occLeft (occRead (sessionIn h (now (lent .entry))) sender (now (command .entry)) (now (reply .entry))) .reply ⌝ }
 {
     let held = h.held;
     let worked = h.worked;

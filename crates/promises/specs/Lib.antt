@@ -7,6 +7,7 @@ pub mod Effects
 pub mod History
 pub mod NoTrace
 pub mod Ids
+pub mod Marks
 pub mod Later
 pub mod Shifted
 pub mod Lent

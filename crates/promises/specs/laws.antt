@@ -2,6 +2,8 @@ pub mod ByHistory
 pub mod Steps
 pub mod Asked
 pub mod Ids
+pub mod Struck
+pub mod Marks
 pub mod Demand3
 pub mod NoTrace
 pub mod Lent

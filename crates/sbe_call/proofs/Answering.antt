@@ -15,11 +15,10 @@ use Rattle.sbe.specs.Mailbox.{requestVerdict, bellOf, responseBytes}
 use Rattle.sbe.specs.declared.Verdict.{Verdict}
 use Rattle.sbe.specs.declared.Verdict.the-variants.{Refuse, Make}
 use Rattle.session.specs.Session.{Carried, wellFormed, carriedOf}
-use Rattle.session.specs.laws.Session.{formed-next}
 use Rattle.session.specs.declared.Session.{Session}
 use Rattle.sbe_call.specs.Sbe.{SbeResult, rung, kept, responds, refusalOf, sbeRefusal, carriedSays, sbeMade, toldOf, verdictSays, sbeRead, sbeFrom, sbeCall, sbeLeft, sbeOn}
 use Rattle.image.specs.declared.Head.{Head}
-use Rattle.image.specs.Image.{imageLength, imageOf, headIn, journalIn, sessionAt}
+use Rattle.image.specs.Image.{imageLength, imageOf, headIn, sessionIn}
 use Rattle.inplace.specs.declared.Told.{Told}
 use Rattle.inplace.specs.InPlace.{Stands, carriedIn}
 use Rattle.inplace.specs.laws.InPlace.{Parts, parts, as-read, stands}
@@ -34,11 +33,11 @@ due true false true h = let z : ⊥ = omega (arith, h) in absurd z
 due true true d h = let z : ⊥ = omega (arith, h) in absurd z
 due false c d h = let z : ⊥ = omega (arith, h) in absurd z
 
-pub met : (s : Session) (f : Bool) (n request reply : ℕ) → f ≡ wellFormed s → n ≡ refusalOf f request reply → n ≡ 0 → (s .next ≤ 256) × (32 ≤ request) × (32 ≤ reply)
+pub met : (s : Session) (f : Bool) (n request reply : ℕ) → f ≡ wellFormed s → n ≡ refusalOf f request reply → n ≡ 0 → (wellFormed s ≡ true) × (32 ≤ request) × (32 ≤ reply)
 unfolding refusalOf
 met s f n request reply e is none =
     let m = due f (ltb reply 32) (ltb request 32) (sym is ∙ none) in
-    (formed-next s (sym e ∙ m .0), ltb-false request 32 (m .2), ltb-false reply 32 (m .1))
+    (sym e ∙ m .0, ltb-false request 32 (m .2), ltb-false reply 32 (m .1))
 
 -- ---- what a verdict says
 
@@ -54,7 +53,7 @@ tells r d = said-of (λ (u : Verdict). toldOf u r d)
 
 module _ (h : Head) (b : List ℕ) (here : Stands h b) (r d : List ℕ) where
   abbrev s : Session
-  s = sessionAt h (journalIn b)
+  s = sessionIn h b
 
   abbrev Hears : Told → List ℕ → List ℕ → Type 0
   Hears t y z = Parts t y z (sbeLeft (sbeRead s r d))
@@ -98,16 +97,15 @@ module _ (h : Head) (b : List ℕ) (here : Stands h b) (r d : List ℕ) where
 -- ---- the whole call: f says whether the session is well formed, n is the refusal that is due
 
 module _ (b : List ℕ) (long : length b ≡ imageLength) (h : Head) (read : h ≡ headIn b) (r d : List ℕ) (f : Bool) (n : ℕ)
-    (formed : f ≡ wellFormed (sessionAt h (journalIn b))) (is : n ≡ refusalOf f (length r) (length d)) where
+    (formed : f ≡ wellFormed (sessionIn h b)) (is : n ≡ refusalOf f (length r) (length d)) where
   -- no refusal is due
-  pub met-in : n ≡ 0 → (h .next ≤ 256) × (32 ≤ length r) × (32 ≤ length d)
-  unfolding sessionAt
-  met-in none = met (sessionAt h (journalIn b)) f n (length r) (length d) formed is none
+  pub met-in : n ≡ 0 → (wellFormed (sessionIn h b) ≡ true) × (32 ≤ length r) × (32 ≤ length d)
+  met-in none = met (sessionIn h b) f n (length r) (length d) formed is none
 
-  by-refusal : sbeLeft (sbeFrom n (sessionAt h (journalIn b)) r d) ≡ sbeOn b r d
+  by-refusal : sbeLeft (sbeFrom n (sessionIn h b) r d) ≡ sbeOn b r d
   unfolding sbeOn sbeCall sbeRefusal
   by-refusal =
-      ap (λ (k : ℕ). sbeLeft (sbeFrom k (sessionAt h (journalIn b)) r d)) (is ∙ ap (λ (g : Bool). refusalOf g (length r) (length d)) formed)
+      ap (λ (k : ℕ). sbeLeft (sbeFrom k (sessionIn h b) r d)) (is ∙ ap (λ (g : Bool). refusalOf g (length r) (length d)) formed)
       ∙ ap (λ (x : Session). sbeLeft (sbeCall x r d)) (as-read b long h read)
       ∙ else-ne _ _ long refl
 
@@ -115,13 +113,13 @@ module _ (b : List ℕ) (long : length b ≡ imageLength) (h : Head) (read : h �
   unfolding sbeFrom sbeLeft kept rung
   refused-in bytes t p z =
       parts t b d _ ((λ i. record { told = p i; image = stands b long h read bytes .image i; reply = d })
-      ∙ ap sbeLeft (if-ne (kept n (sessionAt h (journalIn b)) d) (sbeRead (sessionAt h (journalIn b)) r d) z refl) ∙ by-refusal)
+      ∙ ap sbeLeft (if-ne (kept n (sessionIn h b) d) (sbeRead (sessionIn h b) r d) z refl) ∙ by-refusal)
 
-  pub heard-in : n ≡ 0 → (t : Told) (y z : List ℕ) → Parts t y z (sbeLeft (sbeRead (sessionAt h (journalIn b)) r d)) → Parts t y z (sbeOn b r d)
+  pub heard-in : n ≡ 0 → (t : Told) (y z : List ℕ) → Parts t y z (sbeLeft (sbeRead (sessionIn h b) r d)) → Parts t y z (sbeOn b r d)
   unfolding sbeFrom
   heard-in none t y z q =
       parts t y z _ ((λ i. record { told = q .0 i; image = q .1 .0 i; reply = q .1 .1 i })
-      ∙ ap sbeLeft (else-ne (kept n (sessionAt h (journalIn b)) d) (sbeRead (sessionAt h (journalIn b)) r d) none refl) ∙ by-refusal)
+      ∙ ap sbeLeft (else-ne (kept n (sessionIn h b) d) (sbeRead (sessionIn h b) r d) none refl) ∙ by-refusal)
 
 -- bytes that are no image
 pub no-image : (b : List ℕ) → (length b ≡ imageLength → ⊥) → (r d : List ℕ) (t : Told) → t ≡ record { answer = 1; beside = 0 } → Parts t b d (sbeOn b r d)

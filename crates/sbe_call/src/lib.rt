@@ -1,9 +1,11 @@
 // The call `sbe`: a mailbox request, answered on a lent session. Refuse first, judge, carry out, respond and ring last.
+ghost use mathlib.Core.Bool.{true};
 ghost use mathlib.Core.Path.{_≡_};
 ghost use Prim.Native.Nat.{_≤_};
 ghost use lib.ListN.{length};
 ghost use Rattle.sbe_call.specs.Sbe.{refusalOf, toldOf, sbeRead, sbeLeft, SbeAllows};
-ghost use Rattle.image.specs.Image.{journalIn, sessionAt};
+ghost use Rattle.session.specs.Session.{wellFormed};
+ghost use Rattle.image.specs.Image.{sessionIn};
 ghost use Rattle.inplace.specs.InPlace.{Stands};
 use change::Edit;
 use image::Head;
@@ -39,10 +41,10 @@ fn tell(verdict: Verdict, request: &[u8], reply: &mut [u8])
 
 // A request that is due an answer: judged, carried out if it asks for a change, and responded to.
 fn hear(lent: &mut [u8], h: Head, request: &[u8], reply: &mut [u8]) -> Told
-    requires { ⌜ Stands h (now lent) × (h .next ≤ 256) × (32 ≤ length (now request)) × (32 ≤ length (now reply)) ⌝ }
-    ensures { λ x. ⌜ x ≡ sbeLeft (sbeRead (sessionAt h (journalIn (now (lent .entry)))) (now (request .entry)) (now (reply .entry))) .told ⌝ }
-    ensures { λ _. ⌜ now (lent .exit) ≡ sbeLeft (sbeRead (sessionAt h (journalIn (now (lent .entry)))) (now (request .entry)) (now (reply .entry))) .image ⌝ }
-    ensures { λ _. ⌜ now (reply .exit) ≡ sbeLeft (sbeRead (sessionAt h (journalIn (now (lent .entry)))) (now (request .entry)) (now (reply .entry))) .reply ⌝ }
+    requires { ⌜ Stands h (now lent) × (wellFormed (sessionIn h (now lent)) ≡ true) × (32 ≤ length (now request)) × (32 ≤ length (now reply)) ⌝ }
+    ensures { λ x. ⌜ x ≡ sbeLeft (sbeRead (sessionIn h (now (lent .entry))) (now (request .entry)) (now (reply .entry))) .told ⌝ }
+    ensures { λ _. ⌜ now (lent .exit) ≡ sbeLeft (sbeRead (sessionIn h (now (lent .entry))) (now (request .entry)) (now (reply .entry))) .image ⌝ }
+    ensures { λ _. ⌜ now (reply .exit) ≡ sbeLeft (sbeRead (sessionIn h (now (lent .entry))) (now (request .entry)) (now (reply .entry))) .reply ⌝ }
 {
     let verdict = sbe::judge(request);
     let bell = sbe::bell(request);

@@ -1,9 +1,10 @@
--- Document 01, "What the stand-in holds": the session, when it is well formed, and what carrying a change out makes of it.
+-- Document 01, "What the stand-in holds", with the redo store of document 02, d: the session, when it is well formed, and what carrying a change
+-- out makes of it.
 use Prim.Native.Nat.{ℕ, _+_}
 use mathlib.Core.Bool.{Bool, true, false, cond, not}
 use mathlib.Core.List.{List}
 use lib.ListN.{length, take, drop, replicate}
-use lib.Dec.{ltb, eqb}
+use lib.Dec.{ltb, leb, eqb}
 use Rattle.wire.specs.Wire.{allAre}
 use Rattle.record.specs.Record.{freshRecord, workedOf}
 use Rattle.record.specs.declared.Record.{Record}
@@ -13,15 +14,19 @@ use Rattle.change.specs.declared.Change.{Change}
 use Rattle.change.specs.declared.Change.the-variants.{Clear, Unclear, SetState, SetRole, SetCaps, SetUser, SetThermal, SetThrottles, Reset, Unreset, SetMask, SetDeadman, SetAreas}
 use Rattle.change.specs.declared.Edit.{Edit}
 use Rattle.formed.specs.Formed.{recordOk}
-use Rattle.journal.specs.Read.{journalOk}
+use Rattle.journal.specs.Read.{entriesOk}
 use Rattle.journal.specs.Add.{endOf, addedTo}
 use Rattle.journal.specs.declared.End.{End}
 use Rattle.journal.specs.declared.End.the-variants.{At, Full}
+use Rattle.journal.specs.declared.Way.{Way}
+use Rattle.journal.specs.declared.Way.the-variants.{Before, After}
 use Rattle.session.specs.declared.Session.{Session}
 
 -- "A session is one value: record, worked-out values, next log id, and a journal of 2,048 bytes, all zero when fresh, with its used length"
+-- and "a redo store of 2,048 bytes in the session" (d), with its own
 unfoldable pub freshSession : Session
-freshSession = record { held = freshRecord; worked = workedOf freshRecord; next = 1; journal = replicate 2048 0; used = 0 }
+freshSession =
+    record { held = freshRecord; worked = workedOf freshRecord; next = 1; journal = replicate 2048 0; used = 0; redo = replicate 2048 0; ahead = 0 }
 
 -- ---- "A session is well formed if"
 
@@ -37,11 +42,19 @@ unfoldable pub heldOk : Record → Worked → ℕ → Bool
 heldOk held worked next = cond (not (recordOk held next)) false (workedFits (workedOf held) worked)
 
 -- "the used journal reads exactly as entries, each body's values ones that a well-formed record could hold; the unused part is zero"
-unfoldable pub storeOk : List ℕ → ℕ → Bool
-storeOk j used = cond (ltb (length j) used) false (cond (not (journalOk (take used j))) false (allAre 0 (drop used j)))
+-- d: "it reads as entries, the rest zero": the redo store's hold what was after
+unfoldable pub storeOk : Way → List ℕ → ℕ → Bool
+storeOk w j used = cond (ltb (length j) used) false (cond (not (entriesOk w (take used j))) false (allAre 0 (drop used j)))
+
+-- d: "and its length with the journal's is at most 2,048"
+unfoldable pub storesOk : Session → Bool
+storesOk s =
+    cond (ltb 2048 (s .used + s .ahead)) false
+    (cond (not (storeOk Before (s .journal) (s .used))) false
+    (storeOk After (s .redo) (s .ahead)))
 
 unfoldable pub wellFormed : Session → Bool
-wellFormed s = cond (not (heldOk (s .held) (s .worked) (s .next))) false (storeOk (s .journal) (s .used))
+wellFormed s = cond (not (heldOk (s .held) (s .worked) (s .next))) false (storesOk s)
 
 -- ---- carrying a change out
 
@@ -62,21 +75,24 @@ madeOf (SetDeadman deadman) = 0
 madeOf (SetAreas areas) = 0
 
 -- a session whose record is this one; its limit, readiness and wanted format are that record's
-unfoldable pub withHeld : Record → ℕ → List ℕ → ℕ → Session
-withHeld held next journal used = record { held = held; worked = workedOf held; next = next; journal = journal; used = used }
+unfoldable pub withHeld : Record → ℕ → List ℕ → ℕ → List ℕ → ℕ → Session
+withHeld held next journal used redo ahead =
+    record { held = held; worked = workedOf held; next = next; journal = journal; used = used; redo = redo; ahead = ahead }
 
 -- the session after a change, or that its entry has no room
 pub record Carried : Type 0 where
   pub full : Bool
   pub session : Session
 
--- "Each accepted command but poll adds one entry, holding what was before"; answer 5: the entry is longer than the unused journal
+-- "Each accepted command but poll adds one entry, holding what was before"; answer 5: the entry is longer than the unused journal.
+-- d: "Any accepted change empties the store"
 unfoldable pub carriedTo : Session → Edit → End → Carried
 carriedTo s e Full = record { full = true; session = s }
 carriedTo s e (At used) =
     record {
       full = false;
-      session = withHeld (putOf (s .held) e .after) (s .next + madeOf (e .change)) (addedTo (s .used) (inverseOf (s .held) e) (s .journal)) used;
+      session =
+          withHeld (putOf (s .held) e .after) (s .next + madeOf (e .change)) (addedTo (s .used) (inverseOf (s .held) e) (s .journal)) used (replicate 2048 0) 0;
     }
 
 unfoldable pub carriedOf : Session → Edit → Carried

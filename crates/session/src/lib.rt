@@ -2,6 +2,7 @@
 ghost use mathlib.Core.Path.{_≡_};
 ghost use Rattle.session.specs.Session.{freshSession, workedFits, heldOk, storeOk, madeOf};
 use change::Change;
+use journal::Way;
 use record::Record;
 use record::Worked;
 
@@ -11,6 +12,8 @@ pub struct Session {
     pub next: u16,
     pub journal: [u8; 2048],
     pub used: u16,
+    pub redo: [u8; 2048],
+    pub ahead: u16,
 }
 
 pub fn fresh() -> Session
@@ -24,6 +27,8 @@ pub fn fresh() -> Session
         next: 1,
         journal: [0; 2048],
         used: 0,
+        redo: [0; 2048],
+        ahead: 0,
     }
 }
 
@@ -54,14 +59,14 @@ pub fn held_ok(held: Record, worked: Worked, next: u16) -> bool
     worked_fits(record::work_out(held), worked)
 }
 
-// The used journal reads as entries with good values, and the unused part is zero. It is read once.
-pub fn store_ok(j: &[u8], used: usize) -> bool
-    ensures { λ x. ⌜ x ≡ storeOk (now (j .entry)) used ⌝ }
+// The used bytes of a store read as entries with good values, and the unused part is zero. It is read once.
+pub fn store_ok(way: Way, j: &[u8], used: usize) -> bool
+    ensures { λ x. ⌜ x ≡ storeOk way (now (j .entry)) used ⌝ }
 {
     if j.len() < used {
         return false;
     }
-    if !journal::all_ok(&j[..used]) {
+    if !journal::all_ok(way, &j[..used]) {
         return false;
     }
     wire::all_are(&j[used..], 0)

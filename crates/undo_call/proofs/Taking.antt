@@ -1,179 +1,339 @@
--- What the steps of undo give back, from what they call. Assumes nothing.
+-- What the steps of undo and redo give back, from what they call. Assumes nothing.
 use Prim.Native.Nat.{ℕ, _+_, _-_, _≤_}
 use mathlib.Core.Bool.{Bool, true, false, not}
 use mathlib.Core.Path.{_≡_, refl, sym, ap, subst, _∙_}
 use mathlib.Core.List.{List, []}
 use native.Mathlib.Omega.{arith}
 use denote.Enum.Declared.{tagOf}
-use lib.ListN.{length, take, drop}
-use borrow.Author.Tests.{not-false}
+use lib.Dec.{ltb}
+use lib.ListN.{length, take, drop, replicate, length-drop, length-replicate}
+use borrow.Author.Tests.{not-false, ltb-false}
 use lib.Seq.{length-take-le, take-take, drop-drop}
-use Rattle.wire.specs.laws.Cases.{if-b, else-b, if-eq, else-eq, if-ne, else-ne}
-use Rattle.wire.specs.Wire.{Bytes}
-use Rattle.wire.specs.laws.Wire.{part-of-part}
+use Rattle.wire.specs.laws.Cases.{cond-cases, if-b, else-b, if-eq, else-eq, if-ne, else-ne}
+use Rattle.wire.specs.Wire.{pasted, Bytes}
+use Rattle.wire.specs.laws.Wire.{part-of-part, length-pasted}
 use Rattle.record.specs.Record.{workedOf}
-use Rattle.record.specs.declared.Worked.{Worked}
-use Rattle.change.specs.Change.{kindOf, putOf}
+use Rattle.record.specs.declared.Record.{Record}
+use Rattle.change.specs.Change.{kindOf, putOf, inverseOf}
 use Rattle.change.specs.declared.Change.{Change}
 use Rattle.change.specs.declared.Changed.{Changed}
 use Rattle.change.specs.declared.Edit.{Edit}
 use Rattle.formed.specs.Formed.{recordOk}
-use Rattle.entries.specs.Entries.{scan, readingOf, readingFits}
+use Rattle.entries.specs.Entries.{bodyLen, scan, readingOf, readingFits}
 use Rattle.entries.specs.declared.Reading.{Reading}
 use Rattle.entries.specs.declared.Reading.the-variants.{Whole, Unknown, Cut}
 use Rattle.entries.proofs.Reading.{the-type}
+use Rattle.journal.specs.Ways.{byWay, other}
+use Rattle.journal.specs.Bytes.{entryBytes}
 use Rattle.journal.specs.Read.{gotOf}
-use Rattle.journal.specs.Add.{cutFrom}
+use Rattle.journal.specs.Add.{entryLen, cutFrom}
+use Rattle.journal.specs.laws.Says.{Whole as Entry, got-whole}
+use Rattle.journal.specs.declared.Way.{Way}
+use Rattle.journal.specs.declared.Way.the-variants.{Before, After}
+use Rattle.journal.specs.declared.Found.{Found}
 use Rattle.journal.specs.declared.Found.the-variants.{Good, Bad}
 use Rattle.journal.specs.declared.Got.{Got}
 use Rattle.session.specs.Session.{wellFormed, withHeld}
 use Rattle.session.specs.laws.Session.{formed}
 use Rattle.session.specs.declared.Session.{Session}
+use Rattle.links.specs.laws.Links.{kind-of-back}
 use Rattle.image.specs.declared.Head.{Head}
-use Rattle.image.specs.Image.{imageLength, imageOf, headIn, journalIn, sessionAt, sessionOf}
-use Rattle.image.proofs.Standing.{length-journal}
+use Rattle.image.specs.Image.{imageLength, imageOf, partAt, headIn, storeAt, storeIn, withStore, journalIn, redoIn, sessionIn, sessionOf}
+use Rattle.image.specs.laws.Stores.{store-low, store-long, store-back, store-above, store-below}
+use Rattle.image.proofs.Standing.{length-store}
 use Rattle.inplace.specs.declared.Told.{Told}
 use Rattle.inplace.specs.InPlace.{Left, Stands, noImage}
 use Rattle.inplace.specs.laws.InPlace.{as-read, stands}
-use Rattle.inplace.proofs.Standing.{withJournal, part-back}
-use Rattle.undo_call.specs.Undo.{Undone, notUndone, undone, undonePut, undoneWith, undoneFound, undoneGot, undoneAt, undoneRead, undoneNewest, undoCall, undoLeft, undoOn}
+use Rattle.undo_call.specs.Undo.{storeOf, usedOf, noneLeft, lessened, grown, grownTo, headMoved, sessionMoved, Moved, notMoved, moved, movedPut, movedWith, movedFound, movedGot, movedAt, movedRead, movedNewest, moveCall, movedLeft, moveOn}
 
-read-unknown : (s : Session) (at : ℕ) → notUndone 1 s ≡ undoneRead s (Unknown at)
-unfolding undoneRead
-read-unknown s at = refl
+read-unknown : (w : Way) (s : Session) (at : ℕ) → notMoved 1 s ≡ movedRead w s (Unknown at)
+unfolding movedRead
+read-unknown w s at = refl
 
-read-cut : (s : Session) (at : ℕ) → notUndone 1 s ≡ undoneRead s (Cut at)
-unfolding undoneRead
-read-cut s at = refl
+read-cut : (w : Way) (s : Session) (at : ℕ) → notMoved 1 s ≡ movedRead w s (Cut at)
+unfolding movedRead
+read-cut w s at = refl
 
-abbrev Tells : Told → List ℕ → Undone → Type 0
-Tells t y u = (t ≡ undoLeft u .told) × (y ≡ undoLeft u .image)
+abbrev Tells : Told → List ℕ → Moved → Type 0
+Tells t y u = (t ≡ movedLeft u .told) × (y ≡ movedLeft u .image)
 
-tells : (u v : Undone) (t : Told) (y : List ℕ) → t ≡ record { answer = u .answer; beside = u .kind } → y ≡ imageOf (u .session) → u ≡ v → Tells t y v
-unfolding undoLeft
-tells u v t y p q e = (p ∙ ap (λ (x : Undone). undoLeft x .told) e, q ∙ ap (λ (x : Undone). undoLeft x .image) e)
+tells : (u v : Moved) (t : Told) (y : List ℕ) → t ≡ record { answer = u .answer; beside = u .kind } → y ≡ imageOf (u .session) → u ≡ v → Tells t y v
+unfolding movedLeft
+tells u v t y p q e = (p ∙ ap (λ (x : Moved). movedLeft x .told) e, q ∙ ap (λ (x : Moved). movedLeft x .image) e)
+
+-- ---- the two stores
+
+pub store-is : (w : Way) (h : Head) (b : List ℕ) → storeOf w (sessionIn h b) ≡ storeIn w b
+unfolding storeOf byWay sessionIn storeAt
+store-is Before h b = refl
+store-is After h b = refl
+
+pub used-is : (w : Way) (h : Head) (b : List ℕ) → usedOf w (sessionIn h b) ≡ byWay w (h .used) (h .ahead)
+unfolding usedOf byWay sessionIn
+used-is Before h b = refl
+used-is After h b = refl
+
+other-used : (w : Way) (h : Head) (b : List ℕ) → usedOf (other w) (sessionIn h b) ≡ byWay w (h .ahead) (h .used)
+unfolding usedOf other byWay sessionIn
+other-used Before h b = refl
+other-used After h b = refl
+
+by-sum : (w : Way) (m n : ℕ) → byWay w m n + byWay w n m ≡ m + n
+unfolding byWay
+by-sum Before m n = refl
+by-sum After m n = omega arith
+
+stores-are : (w : Way) (d less more : List ℕ) → storeIn w d ≡ less → storeIn (other w) d ≡ more → (journalIn d ≡ byWay w less more) × (redoIn d ≡ byWay w more less)
+unfolding storeAt other byWay
+stores-are Before d less more p q = (p, q)
+stores-are After d less more p q = (q, p)
+
+-- a store changed leaves the other one
+other-kept : (w : Way) (b x : List ℕ) → length b ≡ imageLength → length x ≡ 2048 → storeIn (other w) (withStore (storeAt w) x b) ≡ storeIn (other w) b
+unfolding storeAt other byWay
+other-kept Before b x long wide = store-above b x long wide 239 (omega arith) 2
+other-kept After b x long wide = store-below b x long wide 2289 (omega arith) 239 (omega arith)
+
+kept-by-other : (w : Way) (b x : List ℕ) → length b ≡ imageLength → length x ≡ 2048 → storeIn w (withStore (storeAt (other w)) x b) ≡ storeIn w b
+unfolding storeAt other byWay
+kept-by-other Before b x long wide = store-below b x long wide 2289 (omega arith) 239 (omega arith)
+kept-by-other After b x long wide = store-above b x long wide 239 (omega arith) 2
+
+pub at-fits : (w : Way) (m n at k : ℕ) → at + k ≡ byWay w m n → m + n ≤ 2048 → at ≤ 2048
+at-fits w m n at k e h = omega (arith, e, by-sum w m n)
+
+-- one store changed and then the other: x is what is left of the first, y the second
+module _ (w : Way) (b x y c d : List ℕ) (long : length b ≡ imageLength) (wide : length x ≡ 2048) (wide′ : length y ≡ 2048)
+    (first : c ≡ withStore (storeAt w) x b) (second : d ≡ withStore (storeAt (other w)) y c) where
+  long-c : length c ≡ imageLength
+  long-c = ap length first ∙ store-long b x long wide (storeAt w) (store-low w)
+
+  pub long-d : length d ≡ imageLength
+  long-d = ap length second ∙ store-long c y long-c wide′ (storeAt (other w)) (store-low (other w))
+
+  pub other-stays : storeIn (other w) c ≡ storeIn (other w) b
+  other-stays = ap (storeIn (other w)) first ∙ other-kept w b x long wide
+
+  pub first-left : storeIn w d ≡ x
+  first-left = ap (storeIn w) second ∙ kept-by-other w c y long-c wide′ ∙ ap (storeIn w) first ∙ store-back b x long wide (storeAt w) (store-low w)
+
+  pub second-left : storeIn (other w) d ≡ y
+  second-left = ap (storeIn (other w)) second ∙ store-back c y long-c wide′ (storeAt (other w)) (store-low (other w))
+
+length-take-le-by : (m n : ℕ) (l : List ℕ) → m ≡ n → n ≤ length l → length (take m l) ≡ n
+length-take-le-by m n l e h = ap (λ (i : ℕ). length (take i l)) e ∙ length-take-le n l h
+
+-- a store that was cut is as long as before
+length-cut : (at used : ℕ) (j : List ℕ) → length (cutFrom at used j) ≡ length j
+unfolding cutFrom
+length-cut at used j =
+    cond-cases (λ (l : List ℕ). length l ≡ length j) (ltb (length j) used) (λ t. refl)
+    (λ fits. cond-cases (λ (l : List ℕ). length l ≡ length j) (ltb used at) (λ t. refl)
+    (λ low. length-pasted at (replicate (used - at) 0) j (short (ltb-false _ _ fits) (ltb-false _ _ low))))
+  where
+    short : used ≤ length j → at ≤ used → at + length (replicate {A = ℕ} (used - at) 0) ≤ length j
+    short p q = omega (arith, length-replicate {A = ℕ} (used - at) 0)
+
+pub entry-moved : (w : Way) (b c d : List ℕ) (at from to : ℕ) (back : Edit) (v : Way) → length b ≡ imageLength → v ≡ other w
+    → c ≡ withStore (storeAt w) (cutFrom at from (storeIn w b)) b
+    → d ≡ withStore (storeAt v) (pasted to (entryBytes back) (storeIn v c)) c → length (pasted to (entryBytes back) (storeIn v c)) ≡ 2048
+    → (storeIn w d ≡ cutFrom at from (storeIn w b)) × ((storeIn (other w) d ≡ pasted to (entryBytes back) (storeIn (other w) b)) × (length d ≡ imageLength))
+entry-moved w b c d at from to back v long is p q n =
+    let wide = length-cut at from (storeIn w b) ∙ length-store b long (storeAt w) (store-low w) in
+    let grown = pasted to (entryBytes back) (storeIn (other w) c) in
+    let wide′ = ap (λ (u : Way). length (pasted to (entryBytes back) (storeIn u c))) (sym is) ∙ n in
+    let q′ = q ∙ ap (λ (u : Way). withStore (storeAt u) (pasted to (entryBytes back) (storeIn u c)) c) is in
+    (
+      first-left w b (cutFrom at from (storeIn w b)) grown c d long wide wide′ p q′,
+      (
+        second-left w b (cutFrom at from (storeIn w b)) grown c d long wide wide′ p q′
+        ∙ ap (pasted to (entryBytes back)) (other-stays w b (cutFrom at from (storeIn w b)) grown c d long wide wide′ p q′),
+        long-d w b (cutFrom at from (storeIn w b)) grown c d long wide wide′ p q′,
+      ),
+    )
+
+pub long-moved : (w : Way) (b c : List ℕ) (at from : ℕ) → length b ≡ imageLength → c ≡ withStore (storeAt w) (cutFrom at from (storeIn w b)) b → length c ≡ imageLength
+long-moved w b c at from long p =
+    let wide = length-cut at from (storeIn w b) ∙ length-store b long (storeAt w) (store-low w) in
+    ap length p ∙ store-long b (cutFrom at from (storeIn w b)) long wide (storeAt w) (store-low w)
+
+-- ---- the session after it: d are the lent bytes with both stores changed, and the head was written around them
+
+module _ (w : Way) (h : Head) (b : List ℕ) (at : ℕ) (e : Edit) (after : Record) where
+  abbrev before : Session
+  before = sessionIn h b
+
+  pub room : (n : ℕ) (back : Edit) → n ≡ byWay w (h .ahead) (h .used) → back ≡ inverseOf (h .held) e → at + entryLen e ≡ byWay w (h .used) (h .ahead) → h .used + h .ahead ≤ 2048
+      → n + entryLen back ≤ 2048
+  unfolding inverseOf
+  room n back p is fits sum =
+      let kind = ap (λ (x : Edit). bodyLen (kindOf (x .change)) + 1) is ∙ ap (λ (k : ℕ). bodyLen k + 1) (kind-of-back (h .held) (e .change)) in
+      omega (arith, p, kind, fits, sum, by-sum w (h .used) (h .ahead))
+
+  module _ (from to n : ℕ) (back : Edit) (p : from ≡ byWay w (h .used) (h .ahead)) (q : to ≡ byWay w (h .ahead) (h .used)) (is : back ≡ inverseOf (h .held) e) (np : n ≡ entryLen back) where
+    less-is : cutFrom at from (storeIn w b) ≡ lessened w before at
+    unfolding lessened
+    less-is = λ i. cutFrom at ((p ∙ sym (used-is w h b)) i) (sym (store-is w h b) i)
+
+    more-is : pasted to (entryBytes back) (storeIn (other w) b) ≡ grown w before e
+    unfolding grown sessionIn
+    more-is = λ i. pasted ((q ∙ sym (other-used w h b)) i) (entryBytes (is i)) (sym (store-is (other w) h b) i)
+
+    end-is : to + n ≡ grownTo w before e
+    unfolding grownTo sessionIn
+    end-is = λ i. (q ∙ sym (other-used w h b)) i + (np ∙ ap entryLen is) i
+
+    pub session-moved : (d y : List ℕ) (head : Head) → storeIn w d ≡ cutFrom at from (storeIn w b) → storeIn (other w) d ≡ pasted to (entryBytes back) (storeIn (other w) b)
+        → head ≡ headMoved h w after at (to + n) → y ≡ imageOf (sessionIn head d) → y ≡ imageOf (sessionMoved w before at e after)
+    unfolding sessionIn headMoved sessionMoved withHeld
+    session-moved d y head one two hp yp =
+        let js = stores-are w d (lessened w before at) (grown w before e) (one ∙ less-is) (two ∙ more-is) in
+        yp ∙ ap (λ (k : Head). imageOf (sessionIn k d)) hp
+        ∙ (λ i. imageOf (record { held = after; worked = workedOf after; next = h .next; used = byWay w at (end-is i); ahead = byWay w (end-is i) at; journal = js .0 i; redo = js .1 i }))
 
 -- h is the head that stands in the lent bytes b
-module _ (h : Head) (b : List ℕ) (here : Stands h b) where
+module _ (w : Way) (h : Head) (b : List ℕ) (here : Stands h b) where
   abbrev s : Session
-  s = sessionAt h (journalIn b)
+  s = sessionIn h b
 
   -- refused by the number n
-  by-number : (n : ℕ) (t : Told) (v : Undone) → t ≡ record { answer = n; beside = 0 } → notUndone n s ≡ v → Tells t b v
-  unfolding notUndone
-  by-number n t v p e = tells (notUndone n s) v t b p (here .image) e
+  by-number : (n : ℕ) (t : Told) (v : Moved) → t ≡ record { answer = n; beside = 0 } → notMoved n s ≡ v → Tells t b v
+  unfolding notMoved
+  by-number n t v p e = tells (notMoved n s) v t b p (here .image) e
 
   -- ---- a change put into the record, or refused
 
   module _ (at : ℕ) (e : Edit) (p : Changed) (is : p ≡ putOf (h .held) e) where
-    by-put : (x : Undone) → x ≡ undonePut s at (kindOf (e .change)) p → x ≡ undoneWith s at e
-    unfolding undoneWith sessionAt
-    by-put x q = q ∙ ap (undonePut s at (kindOf (e .change))) is
+    by-put : (x : Moved) → x ≡ movedPut w s at e p → x ≡ movedWith w s at e
+    unfolding movedWith sessionIn
+    by-put x q = q ∙ ap (movedPut w s at e) is
 
-    pub put-refused : (t : Told) → t ≡ record { answer = 7; beside = 0 } → not (p .ok) ≡ true → Tells t b (undoneWith s at e)
-    unfolding undonePut
+    pub put-refused : (t : Told) → t ≡ record { answer = 7; beside = 0 } → not (p .ok) ≡ true → Tells t b (movedWith w s at e)
+    unfolding movedPut
     put-refused t q failed = by-number 7 t _ q (by-put _ (if-b _ _ failed refl))
 
     module _ (fits : not (p .ok) ≡ false) (g : Bool) (judged : g ≡ recordOk (p .after) (h .next)) where
-      pub put-ill : (t : Told) → t ≡ record { answer = 7; beside = 0 } → not g ≡ true → Tells t b (undoneWith s at e)
-      unfolding undonePut sessionAt
+      pub put-ill : (t : Told) → t ≡ record { answer = 7; beside = 0 } → not g ≡ true → Tells t b (movedWith w s at e)
+      unfolding movedPut sessionIn
       put-ill t q ill = by-number 7 t _ q (by-put _ (else-b _ _ fits (if-b _ _ (sym (ap not judged) ∙ ill) refl)))
 
-      -- x is the journal given back, y the lent bytes after the head was written
-      pub put-done : (w : Worked) (k : ℕ) (x y : List ℕ) (t : Told) → not g ≡ false → w ≡ workedOf (p .after) → x ≡ cutFrom at (h .used) (journalIn b) → length x ≡ 2048
-          → k ≡ kindOf (e .change) → t ≡ record { answer = 0; beside = k }
-          → y ≡ imageOf (sessionAt (record { held = p .after; worked = w; next = h .next; used = at }) (journalIn (withJournal b x))) → Tells t y (undoneWith s at e)
-      unfolding undonePut undone withHeld sessionAt
-      put-done w k x y t ok wp xp wide kp tp yp =
-          let j = part-back b x (here .long) wide ∙ xp in
-          tells (undone s at (kindOf (e .change)) p) _ t y (tp ∙ (λ i. record { answer = 0; beside = kp i }))
-          (yp ∙ (λ i. imageOf (record { held = p .after; worked = wp i; next = h .next; used = at; journal = j i })))
+      -- y are the lent bytes after it
+      pub put-done : (k : ℕ) (y : List ℕ) (t : Told) → not g ≡ false → k ≡ kindOf (e .change) → t ≡ record { answer = 0; beside = k }
+          → y ≡ imageOf (sessionMoved w s at e (p .after)) → Tells t y (movedWith w s at e)
+      unfolding movedPut moved sessionIn
+      put-done k y t ok kp tp yp =
+          tells (moved w s at e p) _ t y (tp ∙ (λ i. record { answer = 0; beside = kp i })) yp
           (by-put _ (else-b _ _ fits (else-b _ _ (sym (ap not judged) ∙ ok) refl)))
 
-  -- ---- the entry at a place
+  -- ---- the entry at a place of its store
 
-  module _ (used : h .used ≤ 2048) (at : ℕ) (low : at ≤ h .used) (g : Got) (is : g ≡ gotOf (take (239 + h .used - (239 + at)) (drop (239 + at) b))) where
-    newest-part : take (239 + h .used - (239 + at)) (drop (239 + at) b) ≡ take (h .used - at) (drop at (journalIn b))
-    newest-part =
-        let n : 239 + h .used - (239 + at) ≡ h .used - at = omega arith in
-        ap (λ (m : ℕ). take m (drop (239 + at) b)) n ∙ ap (take (h .used - at)) (sym (drop-drop at 239 b)) ∙ sym (part-of-part (h .used - at) at 2048 (drop 239 b) (omega arith))
+  abbrev used : ℕ
+  used = byWay w (h .used) (h .ahead)
 
-    got-is : g ≡ gotOf (take (h .used - at) (drop at (journalIn b)))
-    got-is = is ∙ ap gotOf newest-part
+  module _ (m : ℕ) (there : m ≡ storeAt w) (n : ℕ) (counted : n ≡ used) where
+    module _ (fits : n ≤ 2048) (at : ℕ) (low : at ≤ n) (g : Got) (is : g ≡ gotOf w (take (m + n - (m + at)) (drop (m + at) b))) where
+      newest-part : take (m + n - (m + at)) (drop (m + at) b) ≡ take (usedOf w s - at) (drop at (storeOf w s))
+      newest-part =
+          let k : m + n - (m + at) ≡ n - at = omega arith in
+          ap (λ (i : ℕ). take i (drop (m + at) b)) k ∙ ap (take (n - at)) (sym (drop-drop at m b)) ∙ sym (part-of-part (n - at) at 2048 (drop m b) (omega arith))
+          ∙ (λ i. take ((counted ∙ sym (used-is w h b)) i - at) (drop at (partAt 2048 (there i) b)))
+          ∙ ap (λ (l : List ℕ). take (usedOf w s - at) (drop at l)) (sym (store-is w h b))
 
-    pub entry-bad : (t : Told) (r : Reading) (count : ℕ) → t ≡ record { answer = 1; beside = 0 } → g .found ≡ Bad → r ≡ Whole count at → Tells t b (undoneRead s r)
-    unfolding undoneRead undoneAt undoneGot undoneFound sessionAt
-    entry-bad t r count p bad whole =
-        by-number 1 t _ p (sym (ap (undoneFound s at (g .tables)) bad) ∙ ap (undoneGot s at) got-is ∙ sym (ap (undoneRead s) whole))
+      got-is : g ≡ gotOf w (take (usedOf w s - at) (drop at (storeOf w s)))
+      got-is = is ∙ ap (gotOf w) newest-part
 
-    pub entry-good : (t : Told) (y : List ℕ) (r : Reading) (count : ℕ) (ch : Change) → g .found ≡ Good ch → r ≡ Whole count at
-        → Tells t y (undoneWith s at (record { change = ch; tables = g .tables })) → Tells t y (undoneRead s r)
-    unfolding undoneRead undoneAt undoneGot undoneFound sessionAt
-    entry-good t y r count ch good whole q =
-        let same = sym (ap (undoneFound s at (g .tables)) good) ∙ ap (undoneGot s at) got-is ∙ sym (ap (undoneRead s) whole) in
-        (q .0 ∙ ap (λ (u : Undone). undoLeft u .told) same, q .1 ∙ ap (λ (u : Undone). undoLeft u .image) same)
+      pub entry-bad : (t : Told) (r : Reading) (count : ℕ) → t ≡ record { answer = 1; beside = 0 } → g .found ≡ Bad → r ≡ Whole count at → Tells t b (movedRead w s r)
+      unfolding movedRead movedAt movedGot movedFound
+      entry-bad t r count p bad whole =
+          by-number 1 t _ p (sym (ap (movedFound w s at (g .tables)) bad) ∙ ap (movedGot w s at) got-is ∙ sym (ap (movedRead w s) whole))
+
+      pub entry-good : (t : Told) (y : List ℕ) (r : Reading) (count : ℕ) (ch : Change) → g .found ≡ Good ch → r ≡ Whole count at
+          → Tells t y (movedWith w s at (record { change = ch; tables = g .tables })) → Tells t y (movedRead w s r)
+      unfolding movedRead movedAt movedGot movedFound
+      entry-good t y r count ch good whole q =
+          let same = sym (ap (movedFound w s at (g .tables)) good) ∙ ap (movedGot w s at) got-is ∙ sym (ap (movedRead w s) whole) in
+          (q .0 ∙ ap (λ (u : Moved). movedLeft u .told) same, q .1 ∙ ap (λ (u : Moved). movedLeft u .image) same)
+
+      -- it ends where the used bytes do
+      pub entry-ends : (ch : Change) → g .found ≡ Good ch → at + entryLen (record { change = ch; tables = g .tables }) ≡ used
+      entry-ends ch good =
+          let part = take (m + n - (m + at)) (drop (m + at) b) in
+          let whole = subst (Entry w part) (sym (ap (λ (x : Got). x .found) is) ∙ good) (got-whole w part) in
+          let long : length part ≡ n - at = length-take-le-by (m + n - (m + at)) (n - at) (drop (m + at) b) (omega arith) (simp length-drop (omega (arith, here .long, there, store-low w))) in
+          omega (arith, whole .0, long, counted)
 
   -- ---- the reading of a well-formed session
 
   module _ (whole : wellFormed s ≡ true) where
-    pub used-fits : h .used ≤ 2048
-    unfolding sessionAt
-    used-fits = omega (arith, formed s whole .fits, length-journal b (here .long))
+    pub sum-fits : h .used + h .ahead ≤ 2048
+    unfolding sessionIn
+    sum-fits = formed s whole .both-fit
 
-    used-part : take (239 + h .used - 239) (drop 239 b) ≡ take (h .used) (journalIn b)
-    used-part =
-        let n : 239 + h .used - 239 ≡ h .used = omega arith in
-        ap (λ (m : ℕ). take m (drop 239 b)) n ∙ sym (take-take (h .used) 2048 (drop 239 b) used-fits)
+    pub used-fits : used ≤ 2048
+    used-fits = omega (arith, sum-fits, by-sum w (h .used) (h .ahead))
 
-    pub none-held : (t : Told) → t ≡ record { answer = 6; beside = 0 } → h .used ≡ 0 → Tells t b (undoneNewest s)
-    unfolding undoneNewest sessionAt
-    none-held t p z = by-number 6 t _ p (if-eq _ _ z refl)
+    pub count-fits : (n : ℕ) → n ≡ used → n ≤ 2048
+    count-fits n counted = omega (arith, counted, used-fits)
 
-    module _ (some : h .used ≡ 0 → ⊥) (r : Reading) (is : r ≡ readingOf (scan (take (239 + h .used - 239) (drop 239 b)))) where
-      reading-is : undoneRead s r ≡ undoneNewest s
-      unfolding undoneNewest sessionAt
-      reading-is = else-eq (notUndone 6 s) _ some (ap (undoneRead s) (is ∙ ap (λ (l : List ℕ). readingOf (scan l)) used-part))
+    pub none-held : (n : ℕ) → n ≡ used → (k : ℕ) (t : Told) → k ≡ noneLeft w → t ≡ record { answer = k; beside = 0 } → n ≡ 0 → Tells t b (movedNewest w s)
+    unfolding movedNewest
+    none-held n counted k t kp p z = by-number (noneLeft w) t _ (p ∙ (λ i. record { answer = kp i; beside = 0 })) (if-eq _ _ (used-is w h b ∙ sym counted ∙ z) refl)
 
-      pub not-whole : (t : Told) → t ≡ record { answer = 1; beside = 0 } → (tagOf the-type r ≡ 0 → ⊥) → Tells t b (undoneNewest s)
-      not-whole t p n = by-number 1 t _ p (no-entries r n ∙ reading-is)
-        where
-          no-entries : (x : Reading) → (tagOf the-type x ≡ 0 → ⊥) → notUndone 1 s ≡ undoneRead s x
-          no-entries (Whole count newest) k = absurd (k refl)
-          no-entries (Unknown at) k = read-unknown s at
-          no-entries (Cut at) k = read-cut s at
+    module _ (m : ℕ) (there : m ≡ storeAt w) (n : ℕ) (counted : n ≡ used) where
+      used-part : take (m + n - m) (drop m b) ≡ take (usedOf w s) (storeOf w s)
+      used-part =
+          let k : m + n - m ≡ n = omega arith in
+          ap (λ (i : ℕ). take i (drop m b)) k ∙ sym (take-take n 2048 (drop m b) (omega (arith, counted, used-fits)))
+          ∙ (λ i. take ((counted ∙ sym (used-is w h b)) i) (partAt 2048 (there i) b)) ∙ ap (take (usedOf w s)) (sym (store-is w h b))
 
-      pub by-reading : (t : Told) (y : List ℕ) → Tells t y (undoneRead s r) → Tells t y (undoneNewest s)
-      by-reading t y q = (q .0 ∙ ap (λ (u : Undone). undoLeft u .told) reading-is, q .1 ∙ ap (λ (u : Undone). undoLeft u .image) reading-is)
+      module _ (some : n ≡ 0 → ⊥) (r : Reading) (is : r ≡ readingOf (scan (take (m + n - m) (drop m b)))) where
+        reading-is : movedRead w s r ≡ movedNewest w s
+        unfolding movedNewest
+        reading-is =
+            else-eq (notMoved (noneLeft w) s) _ (λ z. some (counted ∙ sym (used-is w h b) ∙ z)) (ap (movedRead w s) (is ∙ ap (λ (l : List ℕ). readingOf (scan l)) used-part))
 
-      pub newest-fits : readingFits (length (take (239 + h .used - 239) (drop 239 b))) r → (count newest : ℕ) → r ≡ Whole count newest → newest ≤ h .used
-      newest-fits f count newest e =
-          omega (arith, subst (readingFits (length (take (239 + h .used - 239) (drop 239 b)))) e f .0, ap length used-part, length-take-le (h .used) (journalIn b) (omega (arith, used-fits, length-journal b (here .long))))
+        pub not-whole : (t : Told) → t ≡ record { answer = 1; beside = 0 } → (tagOf the-type r ≡ 0 → ⊥) → Tells t b (movedNewest w s)
+        not-whole t p k = by-number 1 t _ p (no-entries r k ∙ reading-is)
+          where
+            no-entries : (x : Reading) → (tagOf the-type x ≡ 0 → ⊥) → notMoved 1 s ≡ movedRead w s x
+            no-entries (Whole count newest) k = absurd (k refl)
+            no-entries (Unknown at) k = read-unknown w s at
+            no-entries (Cut at) k = read-cut w s at
+
+        pub by-reading : (t : Told) (y : List ℕ) → Tells t y (movedRead w s r) → Tells t y (movedNewest w s)
+        by-reading t y q = (q .0 ∙ ap (λ (u : Moved). movedLeft u .told) reading-is, q .1 ∙ ap (λ (u : Moved). movedLeft u .image) reading-is)
+
+        pub newest-fits : readingFits (length (take (m + n - m) (drop m b))) r → (count newest : ℕ) → r ≡ Whole count newest → newest ≤ n
+        newest-fits f count newest e =
+            let long : length (take (m + n - m) (drop m b)) ≡ n =
+            length-take-le-by (m + n - m) n (drop m b) (omega arith) (simp length-drop (omega (arith, here .long, there, store-low w, counted, used-fits))) in
+            omega (arith, subst (readingFits (length (take (m + n - m) (drop m b)))) e f .0, long)
 
 -- ---- the whole call
 
-pub no-image : (b : List ℕ) → (length b ≡ imageLength → ⊥) → (t : Told) → t ≡ record { answer = 1; beside = 0 } → (t ≡ undoOn b .told) × (b ≡ undoOn b .image)
-unfolding undoOn
-no-image b z t p =
-    let e : _≡_ {A = Left} (noImage b []) (undoOn b) = if-ne (noImage b []) (undoLeft (undoCall (sessionOf b))) z refl in
+pub no-image : (w : Way) (b : List ℕ) → (length b ≡ imageLength → ⊥) → (t : Told) → t ≡ record { answer = 1; beside = 0 } → (t ≡ moveOn w b .told) × (b ≡ moveOn w b .image)
+unfolding moveOn
+no-image w b z t p =
+    let e : _≡_ {A = Left} (noImage b []) (moveOn w b) = if-ne (noImage b []) (movedLeft (moveCall w (sessionOf b))) z refl in
     (p ∙ ap (λ (q : Left). q .told) e, ap (λ (q : Left). q .image) e)
 
-module _ (b : List ℕ) (long : length b ≡ imageLength) (h : Head) (read : h ≡ headIn b) (g : Bool) (formed : g ≡ wellFormed (sessionAt h (journalIn b))) where
-  on-image : (u : Undone) → u ≡ undoCall (sessionAt h (journalIn b)) → undoLeft u ≡ undoOn b
-  unfolding undoOn
-  on-image u e = ap undoLeft (e ∙ ap undoCall (as-read b long h read)) ∙ else-ne _ _ long refl
+module _ (w : Way) (b : List ℕ) (long : length b ≡ imageLength) (h : Head) (read : h ≡ headIn b) (g : Bool) (formed : g ≡ wellFormed (sessionIn h b)) where
+  on-image : (u : Moved) → u ≡ moveCall w (sessionIn h b) → movedLeft u ≡ moveOn w b
+  unfolding moveOn
+  on-image u e = ap movedLeft (e ∙ ap (moveCall w) (as-read b long h read)) ∙ else-ne _ _ long refl
 
-  pub ill-formed : Bytes b → (t : Told) → t ≡ record { answer = 1; beside = 0 } → not g ≡ true → (t ≡ undoOn b .told) × (b ≡ undoOn b .image)
-  unfolding undoCall
+  pub ill-formed : Bytes b → (t : Told) → t ≡ record { answer = 1; beside = 0 } → not g ≡ true → (t ≡ moveOn w b .told) × (b ≡ moveOn w b .image)
+  unfolding moveCall
   ill-formed bytes t p ill =
-      let e = on-image (notUndone 1 (sessionAt h (journalIn b))) (if-b _ _ (sym (ap not formed) ∙ ill) refl) in
-      let q = by-number h b (stands b long h read bytes) 1 t (notUndone 1 (sessionAt h (journalIn b))) p refl in
+      let e = on-image (notMoved 1 (sessionIn h b)) (if-b _ _ (sym (ap not formed) ∙ ill) refl) in
+      let q = by-number w h b (stands b long h read bytes) 1 t (notMoved 1 (sessionIn h b)) p refl in
       (q .0 ∙ ap (λ (l : Left). l .told) e, q .1 ∙ ap (λ (l : Left). l .image) e)
 
-  pub well-formed-is : not g ≡ false → wellFormed (sessionAt h (journalIn b)) ≡ true
+  pub well-formed-is : not g ≡ false → wellFormed (sessionIn h b) ≡ true
   well-formed-is ok = sym formed ∙ not-false g ok
 
-  pub newest-taken : (t : Told) (y : List ℕ) → not g ≡ false → Tells t y (undoneNewest (sessionAt h (journalIn b))) → (t ≡ undoOn b .told) × (y ≡ undoOn b .image)
-  unfolding undoCall
+  pub newest-taken : (t : Told) (y : List ℕ) → not g ≡ false → Tells t y (movedNewest w (sessionIn h b)) → (t ≡ moveOn w b .told) × (y ≡ moveOn w b .image)
+  unfolding moveCall
   newest-taken t y ok q =
-      let e = on-image (undoneNewest (sessionAt h (journalIn b))) (else-b _ _ (sym (ap not formed) ∙ ok) refl) in
+      let e = on-image (movedNewest w (sessionIn h b)) (else-b _ _ (sym (ap not formed) ∙ ok) refl) in
       (q .0 ∙ ap (λ (l : Left). l .told) e, q .1 ∙ ap (λ (l : Left). l .image) e)

@@ -1,26 +1,108 @@
-// The call `undo`: the newest change is taken back. The record and all that is worked out from it; the next id stays.
+// The calls `undo` and `redo`: the newest change is taken back, or the one last taken back put in again. The record and all that is worked out from
+// it; the next id stays. Both walk one road; the way says which store an entry is taken from.
 ghost use mathlib.Core.Bool.{true};
 ghost use mathlib.Core.Path.{_≡_};
-ghost use Prim.Native.Nat.{_≤_};
+ghost use Prim.Native.Nat.{_≤_, _+_};
+ghost use lib.ListN.{length};
+ghost use Rattle.wire.specs.Wire.{pasted};
+ghost use Rattle.journal.specs.Ways.{byWay, other};
+ghost use Rattle.journal.specs.Bytes.{entryBytes};
+ghost use Rattle.journal.specs.Add.{entryLen, cutFrom};
 ghost use Rattle.session.specs.Session.{wellFormed};
-ghost use Rattle.image.specs.Image.{journalIn, sessionAt};
+ghost use Rattle.image.specs.Image.{imageLength, imageOf, storeIn, sessionIn};
 ghost use Rattle.inplace.specs.InPlace.{Stands};
-ghost use Rattle.undo_call.specs.Undo.{undoneWith, undoneNewest, undoLeft, UndoAllows};
+ghost use Rattle.undo_call.specs.Undo.{noneLeft, headMoved, sessionMoved, movedWith, movedNewest, movedLeft, MoveAllows, UndoAllows, RedoAllows};
 use change::Edit;
 use entries::Reading;
 use image::Head;
 use inplace::Told;
 use journal::Found;
+use journal::Way;
+use record::Record;
 
-// The change `e`, which holds what was before and whose entry starts at `at` of the journal, is put into the record, and the entry is zeroed.
-fn take_back(lent: &mut [u8], h: Head, at: usize, e: Edit) -> Told
-    requires { ⌜ Stands h (now lent) × (at ≤ h .used) × (h .used ≤ 2048) ⌝ }
-    ensures { λ x. ⌜ x ≡ undoLeft (undoneWith (sessionAt h (journalIn (now (lent .entry)))) at e) .told ⌝ }
-    ensures { λ _. ⌜ now (lent .exit) ≡ undoLeft (undoneWith (sessionAt h (journalIn (now (lent .entry)))) at e) .image ⌝ }
+// ---- by the way
+
+fn other(way: Way) -> Way
+    ensures { λ x. ⌜ x ≡ other way ⌝ }
 {
-    let held = h.held;
+    match way {
+        Way::Before => Way::After,
+        Way::After => Way::Before,
+    }
+}
+
+fn by_way(way: Way, undo: usize, redo: usize) -> usize
+    requires { ⌜ (undo ≤ 65535) × (redo ≤ 65535) ⌝ }
+    ensures { λ x. ⌜ x ≡ byWay way undo redo ⌝ }
+    ensures { λ x. ⌜ x ≤ 65535 ⌝ }
+{
+    match way {
+        Way::Before => undo,
+        Way::After => redo,
+    }
+}
+
+fn none_left(way: Way) -> u8
+    ensures { λ x. ⌜ x ≡ noneLeft way ⌝ }
+{
+    match way {
+        Way::Before => 6,
+        Way::After => 8,
+    }
+}
+
+// ---- the change `e`, whose entry starts at `at` of its store
+
+// The entry is zeroed, and what takes the change back put at the end of the other store.
+fn move_entry(lent: &mut [u8], way: Way, at: usize, from: usize, to: usize, back: Edit)
+    requires { ⌜ (length (now lent) ≡ imageLength) × (to + entryLen back ≤ 2048) ⌝ }
+    ensures { λ _. ⌜ storeIn way (now (lent .exit)) ≡ cutFrom at from (storeIn way (now (lent .entry))) ⌝ }
+    ensures { λ _. ⌜ storeIn (other way) (now (lent .exit)) ≡ pasted to (entryBytes back) (storeIn (other way) (now (lent .entry))) ⌝ }
+    ensures { λ _. ⌜ length (now (lent .exit)) ≡ imageLength ⌝ }
+{
+    inplace::cut(&mut *lent, way, at, from);
+    inplace::append(lent, other(way), to, back);
+}
+
+// The head with the record after it; its entry's store ends at `at` then, the other one at `end`.
+fn head_moved(h: Head, way: Way, after: Record, at: usize, end: usize) -> Head
+    requires { ⌜ (at ≤ 2048) × (end ≤ 2048) ⌝ }
+    ensures { λ x. ⌜ x ≡ headMoved h way after at end ⌝ }
+{
+    let worked = record::work_out(after);
+    let used = by_way(way, at, end);
+    let ahead = by_way(way, end, at);
+    Head {
+        held: after,
+        worked: worked,
+        next: h.next,
+        used: used as u16,
+        ahead: ahead as u16,
+    }
+}
+
+fn carry_on(lent: &mut [u8], h: Head, way: Way, at: usize, e: Edit, after: Record)
+    requires { ⌜ (length (now lent) ≡ imageLength) × (at + entryLen e ≡ byWay way (h .used) (h .ahead)) × (h .used + h .ahead ≤ 2048) ⌝ }
+    ensures { λ _. ⌜ now (lent .exit) ≡ imageOf (sessionMoved way (sessionIn h (now (lent .entry))) at e after) ⌝ }
+{
+    let back = change::inverse(h.held, e);
+    let taken = back.change;
+    let n = journal::entry_len(taken);
+    let from = by_way(way, h.used as usize, h.ahead as usize);
+    let to = by_way(way, h.ahead as usize, h.used as usize);
+    move_entry(&mut *lent, way, at, from, to, back);
+    let head = head_moved(h, way, after, at, to + n);
+    image::write_head(lent, head);
+}
+
+// It is put into the record, or refused.
+fn take(lent: &mut [u8], h: Head, way: Way, at: usize, e: Edit) -> Told
+    requires { ⌜ Stands h (now lent) × (at + entryLen e ≡ byWay way (h .used) (h .ahead)) × (h .used + h .ahead ≤ 2048) ⌝ }
+    ensures { λ x. ⌜ x ≡ movedLeft (movedWith way (sessionIn h (now (lent .entry))) at e) .told ⌝ }
+    ensures { λ _. ⌜ now (lent .exit) ≡ movedLeft (movedWith way (sessionIn h (now (lent .entry))) at e) .image ⌝ }
+{
     let change = e.change;
-    let put = change::put(held, e);
+    let put = change::put(h.held, e);
     let after = put.after;
     if !put.ok {
         return inplace::answer_with(7, 0);
@@ -28,45 +110,37 @@ fn take_back(lent: &mut [u8], h: Head, at: usize, e: Edit) -> Told
     if !formed::record_ok(after, h.next) {
         return inplace::answer_with(7, 0);
     }
-    let worked = record::work_out(after);
-    journal::cut(&mut lent[239..2287], at, h.used as usize);
-    image::write_head(
-        lent,
-        Head {
-            held: after,
-            worked: worked,
-            next: h.next,
-            used: at as u16,
-        },
-    );
+    carry_on(lent, h, way, at, e, after);
     inplace::answer_with(0, change::kind(change) as u16)
 }
 
 // A well-formed session reads as entries with good values; what the two `else` answer can't come.
-fn take_newest(lent: &mut [u8], h: Head) -> Told
-    requires { ⌜ Stands h (now lent) × (wellFormed (sessionAt h (journalIn (now lent))) ≡ true) ⌝ }
-    ensures { λ x. ⌜ x ≡ undoLeft (undoneNewest (sessionAt h (journalIn (now (lent .entry))))) .told ⌝ }
-    ensures { λ _. ⌜ now (lent .exit) ≡ undoLeft (undoneNewest (sessionAt h (journalIn (now (lent .entry))))) .image ⌝ }
+fn take_newest(lent: &mut [u8], h: Head, way: Way) -> Told
+    requires { ⌜ Stands h (now lent) × (wellFormed (sessionIn h (now lent)) ≡ true) ⌝ }
+    ensures { λ x. ⌜ x ≡ movedLeft (movedNewest way (sessionIn h (now (lent .entry)))) .told ⌝ }
+    ensures { λ _. ⌜ now (lent .exit) ≡ movedLeft (movedNewest way (sessionIn h (now (lent .entry)))) .image ⌝ }
 {
-    let used = h.used as usize;
+    let used = by_way(way, h.used as usize, h.ahead as usize);
     if used == 0 {
-        return inplace::answer_with(6, 0);
+        return inplace::answer_with(none_left(way), 0);
     }
-    let end = 239 + used;
-    let reading = entries::read(&lent[239..end]);
+    let store = image::store_at(way);
+    let end = store + used;
+    let reading = entries::read(&lent[store..end]);
     let Reading::Whole { count: _, newest } = reading else {
         return inplace::answer_with(1, 0);
     };
-    let start = 239 + newest;
-    let got = journal::get(&lent[start..end]);
+    let start = store + newest;
+    let got = journal::get(way, &lent[start..end]);
     let found = got.found;
     let tables = got.tables;
     let Found::Good(change) = found else {
         return inplace::answer_with(1, 0);
     };
-    take_back(
+    take(
         lent,
         h,
+        way,
         newest,
         Edit {
             change: change,
@@ -75,9 +149,10 @@ fn take_newest(lent: &mut [u8], h: Head) -> Told
     )
 }
 
-// The public call, on a session that is lent as its image's bytes; the kind stands beside the answer.
-pub fn undo(lent: &mut [u8]) -> Told
-    ensures { λ x. ⌜ UndoAllows (now (lent .entry)) x (now (lent .exit)) ⌝ }
+// ---- the calls, on a session that is lent as its image's bytes; the kind stands beside the answer
+
+fn take_from(lent: &mut [u8], way: Way) -> Told
+    ensures { λ x. ⌜ MoveAllows way (now (lent .entry)) x (now (lent .exit)) ⌝ }
 {
     if lent.len() != image::LENGTH {
         return inplace::answer_with(1, 0);
@@ -86,5 +161,17 @@ pub fn undo(lent: &mut [u8]) -> Told
     if !inplace::well_formed(&*lent, h) {
         return inplace::answer_with(1, 0);
     }
-    take_newest(lent, h)
+    take_newest(lent, h, way)
+}
+
+pub fn undo(lent: &mut [u8]) -> Told
+    ensures { λ x. ⌜ UndoAllows (now (lent .entry)) x (now (lent .exit)) ⌝ }
+{
+    take_from(lent, Way::Before)
+}
+
+pub fn redo(lent: &mut [u8]) -> Told
+    ensures { λ x. ⌜ RedoAllows (now (lent .entry)) x (now (lent .exit)) ⌝ }
+{
+    take_from(lent, Way::After)
 }

@@ -9,11 +9,25 @@ put-record-requires c κs = search needs
 put-worked-requires : tie.Need-put-worked-requires
 put-worked-requires c κs = search needs
 
+cast-put-be : tie.Need-cast-put-be
+cast-put-be c = search needs
+
+put-be-requires : tie.Need-put-be-requires
+put-be-requires c κs = search needs
+
 same-length : tie.Need-same-length
 same-length c = search needs
 
 returns : tie.Need-returns
-returns c = head-stands (c .before .before .before .before .before .before .before .before .before .before .before .args .d .now) (c .before .before .before .before .before .before .before .before .before .before .before .pre) _ _ _ (c .before .before .before .before .before .before .put-record .ensures .1) (c .before .before .before .before .before .before .put-record .ensures .0) (c .before .before .put-worked .ensures)
+returns c = head-stands (c .before .before .before .before .before .before .before .before .before .before .before .before .before .before .before .before .args .d .now) (c .before .before .before .before .before .before .before .before .before .before .before .before .before .before .before .before .pre) _ _ _ _ (c .before .before .before .before .before .before .before .before .before .before .before .put-record .ensures .1) (c .before .before .before .before .before .before .before .before .before .before .before .put-record .ensures .0) (c .before .before .before .before .before .before .before .put-worked .ensures) (c .before .before .put-be .ensures)
 
 pub write-head-spec : {M : Type 1} → statement M
-write-head-spec = tie.close (tie.spec put-record-requires put-worked-requires same-length returns)
+write-head-spec =
+    tie.close
+    (tie.spec
+    put-record-requires
+    put-worked-requires
+    cast-put-be
+    put-be-requires
+    same-length
+    returns)

@@ -16,7 +16,7 @@ use Rattle.session.specs.declared.Session.{Session}
 use Rattle.links.specs.Typed.{TypedSession}
 use Rattle.image.specs.Rows.{joined, widthsOf, rowsFrom}
 use Rattle.image.specs.laws.Rows.{length-joined, rows-joined, joined-rows}
-use Rattle.image.specs.Image.{byte, headRows, throttlesRows, thermalRows, logsRows, mailboxRows, workedRows, recordRows, sessionRows, imageOf, byteAt, partAt, numberAt, capsIn, throttlesIn, receivedIn, logAt, logsIn, deadmanIn, areasIn, recordIn, workedIn, headIn, sessionAt, sessionOf}
+use Rattle.image.specs.Image.{byte, headRows, throttlesRows, thermalRows, logsRows, mailboxRows, workedRows, recordRows, sessionRows, imageOf, byteAt, partAt, numberAt, capsIn, throttlesIn, receivedIn, logAt, logsIn, deadmanIn, areasIn, recordIn, workedIn, headIn, imageLength, sessionIn, sessionOf}
 
 -- what the types of the fields say of a session; every value has it
 pub record Typed (s : Session) : Type 0 where
@@ -29,7 +29,7 @@ recordWidths =
     1 ∷ 1 ∷ 2 ∷ 2 ∷ 2 ∷ 2 ∷ 160 ∷ 2 ∷ 9 ∷ 1 ∷ 1 ∷ 1 ∷ 1 ∷ 1 ∷ 1 ∷ 1 ∷ 1 ∷ 1 ∷ 1 ∷ 1 ∷ 1 ∷ 4 ∷ 1 ∷ 8 ∷ 8 ∷ 4 ∷ 8 ∷ 4 ∷ []
 
 unfoldable widths : List ℕ
-widths = recordWidths ++ (2 ∷ 1 ∷ 1 ∷ 1 ∷ 2 ∷ 2 ∷ 2048 ∷ [])
+widths = recordWidths ++ (2 ∷ 1 ∷ 1 ∷ 1 ∷ 2 ∷ 2 ∷ 2048 ∷ 2 ∷ 2048 ∷ [])
 
 pub widths-record : (r : Record) → length (r .throttles .sets) ≡ 160 → length (r .thermal) ≡ 9 → widthsOf (recordRows r) ≡ recordWidths
 unfolding widthsOf recordWidths recordRows headRows throttlesRows thermalRows logsRows mailboxRows toBE
@@ -38,10 +38,10 @@ widths-record r sets thermal = λ i.
 
 widths-session : (s : Session) → TypedSession s → widthsOf (sessionRows s) ≡ widths
 unfolding widthsOf widths sessionRows recordRows headRows throttlesRows thermalRows logsRows mailboxRows workedRows toBE
-widths-session s t = λ i. widths-record (s .held) (t .held .sets) (t .held .thermal) i ++ (2 ∷ 1 ∷ 1 ∷ 1 ∷ 2 ∷ 2 ∷ t .journal i ∷ [])
+widths-session s t = λ i. widths-record (s .held) (t .held .sets) (t .held .thermal) i ++ (2 ∷ 1 ∷ 1 ∷ 1 ∷ 2 ∷ 2 ∷ t .journal i ∷ 2 ∷ t .redo i ∷ [])
 
--- an image has 2,287 bytes
-pub length-image : (s : Session) → TypedSession s → length (imageOf s) ≡ 2287
+-- an image has 4,337 bytes
+pub length-image : (s : Session) → TypedSession s → length (imageOf s) ≡ imageLength
 unfolding imageOf recordWidths widths sumOf
 length-image s t = length-joined (sessionRows s) ∙ ap sumOf (widths-session s t)
 
@@ -124,7 +124,7 @@ module _ (s : Session) (t : Typed s) where
       }
 
   pub session-image : sessionOf (imageOf s) ≡ s
-  unfolding sessionOf sessionAt headIn rowsFrom recordWidths widths sessionRows recordRows headRows throttlesRows thermalRows logsRows mailboxRows workedRows
+  unfolding sessionOf sessionIn headIn rowsFrom recordWidths widths sessionRows recordRows headRows throttlesRows thermalRows logsRows mailboxRows workedRows
   session-image = λ i.
       record {
         held = record-image i;
@@ -132,22 +132,24 @@ module _ (s : Session) (t : Typed s) where
         next = number-back 2 235 _ (imageOf s) (row 32) (t .session .next) i;
         used = number-back 2 237 _ (imageOf s) (row 33) (t .session .used) i;
         journal = row 34 i;
+        ahead = number-back 2 2287 _ (imageOf s) (row 35) (t .session .ahead) i;
+        redo = row 36 i;
       }
 
 -- ---- writing what was read gives the bytes
 
-module _ (b : List ℕ) (bytes : Bytes b) (long : length b ≡ 2287) where
+module _ (b : List ℕ) (bytes : Bytes b) (long : length b ≡ imageLength) where
   -- one byte, and a number of so many
-  one : (at : ℕ) → at < 2287 → byte (byteAt at b) ≡ partAt 1 at b
+  one : (at : ℕ) → at < imageLength → byte (byteAt at b) ≡ partAt 1 at b
   one at h = sym (ap (take 1) (drop-cons b at 0 (omega arith)))
 
-  number : (n at : ℕ) → at + n ≤ 2287 → toBE n (numberAt n at b) ≡ partAt n at b
+  number : (n at : ℕ) → at + n ≤ imageLength → toBE n (numberAt n at b) ≡ partAt n at b
   number n at h =
       let m : length (partAt n at b) ≡ n = length-take-le n (drop at b) (simp length-drop (omega arith)) in
       ap (λ (k : ℕ). toBE k (numberAt n at b)) (sym m) ∙ toBE-be (partAt n at b) (bytes-take n (drop at b) (bytes-drop at b bytes))
 
   rows-session : sessionRows (sessionOf b) ≡ rowsFrom 0 widths b
-  unfolding sessionOf sessionAt headIn recordIn capsIn throttlesIn receivedIn logAt logsIn deadmanIn areasIn workedIn rowsFrom recordWidths widths sessionRows recordRows headRows throttlesRows thermalRows logsRows mailboxRows workedRows
+  unfolding sessionOf sessionIn headIn recordIn capsIn throttlesIn receivedIn logAt logsIn deadmanIn areasIn workedIn rowsFrom recordWidths widths sessionRows recordRows headRows throttlesRows thermalRows logsRows mailboxRows workedRows
   rows-session = λ i.
       one 0 (lit< tt) i
       ∷ one 1 (lit< tt) i
@@ -184,8 +186,10 @@ module _ (b : List ℕ) (bytes : Bytes b) (long : length b ≡ 2287) where
       ∷ number 2 235 (lit< tt) i
       ∷ number 2 237 (lit< tt) i
       ∷ partAt 2048 239 b
+      ∷ number 2 2287 (lit< tt) i
+      ∷ partAt 2048 2289 b
       ∷ []
 
   pub image-session : imageOf (sessionOf b) ≡ b
   unfolding imageOf recordWidths widths sumOf
-  image-session = ap joined rows-session ∙ joined-rows 0 widths b ∙ take-all 2287 b (omega arith)
+  image-session = ap joined rows-session ∙ joined-rows 0 widths b ∙ take-all imageLength b (omega arith)

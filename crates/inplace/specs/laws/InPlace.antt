@@ -6,7 +6,7 @@ use Rattle.inplace.specs.declared.Told.{Told}
 use lib.ListN.{length}
 use Rattle.wire.specs.Wire.{Bytes}
 use Rattle.image.specs.declared.Head.{Head}
-use Rattle.image.specs.Image.{imageLength, imageOf, headIn, journalIn, sessionAt, sessionOf}
+use Rattle.image.specs.Image.{imageLength, imageOf, headIn, sessionIn, sessionOf}
 use Rattle.image.specs.laws.Image.{image-session}
 use Rattle.inplace.specs.InPlace.{Left, Stands}
 
@@ -19,9 +19,9 @@ parts t y z q e = (ap (λ (l : Left). l .told) e, (ap (λ (l : Left). l .image) 
 -- ---- the head that was read
 
 module _ (b : List ℕ) (long : length b ≡ imageLength) (h : Head) (read : h ≡ headIn b) where
-  pub as-read : sessionAt h (journalIn b) ≡ sessionOf b
+  pub as-read : sessionIn h b ≡ sessionOf b
   unfolding sessionOf
-  as-read = ap (λ (k : Head). sessionAt k (journalIn b)) read
+  as-read = ap (λ (k : Head). sessionIn k b) read
 
   pub stands : Bytes b → Stands h b
   stands bytes = record { long = long; image = sym (ap imageOf as-read ∙ image-session b bytes long) }

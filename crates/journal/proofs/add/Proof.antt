@@ -1,5 +1,5 @@
 use Rattle.journal.specs.declared.End.the-variants.{At}
-use Rattle.journal.proofs.Parts.{tail-pasted, add-room, less-than, at-most}
+use Rattle.journal.proofs.Parts.{add-room, less-than, at-most}
 use Rattle.wire.specs.laws.Cases.{if-lt, else-lt}
 use Rattle.journal.specs.Add.{endOf, addedTo}
 use mathlib.Core.Path.{refl, ap}
@@ -23,20 +23,11 @@ unfolding endOf addedTo
 returns-2 c = let full = less-than _ _ _ (c .before .before .entry-len .ensures) (c .if2 .taken) in
     (else-lt _ _ (c .before .if1 .left) (if-lt _ _ full refl), else-lt _ _ (c .before .if1 .left) (if-lt _ _ full refl))
 
-sub-put : tie.Need-sub-put
-sub-put c = search needs
+append-requires : tie.Need-append-requires
+append-requires c κs = add-room _ _ _ _ (c .before .before .before .entry-len .ensures) (c .before .before .if1 .left) (c .before .if2 .left)
 
-part-put-start : tie.Need-part-put-start
-part-put-start c = search needs
-
-part-put-end : tie.Need-part-put-end
-part-put-end c = search needs
-
-put-requires : tie.Need-put-requires
-put-requires c κs = add-room (c .before .before .before .before .before .args .j .now) (c .before .before .before .before .before .args .used) _ _ (c .before .before .before .entry-len .ensures) (c .before .if2 .left)
-
-add-t8 : tie.Need-add-t8
-add-t8 c = search needs
+add-t6 : tie.Need-add-t6
+add-t6 c = search needs
 
 same-length : tie.Need-same-length
 same-length c = search needs
@@ -46,8 +37,8 @@ unfolding endOf addedTo
 returns-3 c = let n = c .before .before .before .before .before .before .entry-len .ensures in
     let fits = c .before .before .before .before .before .if1 .left in
     let room = at-most _ _ _ n (c .before .before .before .before .if2 .left) in (
-      else-lt _ _ fits (else-lt _ _ room (ap (λ (k : ℕ). At (c .before .before .before .before .before .before .before .before .args .used + k)) n)),
-      else-lt _ _ fits (else-lt _ _ room (tail-pasted _ _ _ _ (c .before .before .put .ensures))),
+    else-lt _ _ fits (else-lt _ _ room (ap (λ (k : ℕ). At (c .before .before .before .before .before .before .before .before .args .used + k)) n)),
+    else-lt _ _ fits (else-lt _ _ room (c .before .before .append .ensures)),
     )
 
 pub add-spec : {M : Type 1} → statement M
@@ -58,10 +49,7 @@ add-spec =
     returns
     sub-if2
     returns-2
-    sub-put
-    part-put-start
-    part-put-end
-    put-requires
-    add-t8
+    append-requires
+    add-t6
     same-length
     returns-3)

@@ -9,13 +9,13 @@ use Rattle.journal.proofs.all_ok.Statement.{statement}
 use Rattle.journal.proofs.all_ok.Tie as tie
 
 abbrev Inv-loop : tie.InvT-loop
-Inv-loop j at₀ last₀ n₀ at last n = Judged j at × (n ≡ bodyLen last)
+Inv-loop way j at₀ last₀ n₀ at last n = Judged way j at × (n ≡ bodyLen last)
 
 abbrev μ-loop : tie.MeasureT-loop
-μ-loop j at₀ last₀ n₀ at last n = length j - at
+μ-loop way j at₀ last₀ n₀ at last n = length j - at
 
 loop-holds : tie.Need-loop-holds Inv-loop μ-loop
-loop-holds c = (judged-none _, kind-zero 0 refl)
+loop-holds c = (judged-none _ _, kind-zero 0 refl)
 
 shared-slice-read-kind : tie.Need-shared-slice-read-kind Inv-loop μ-loop
 shared-slice-read-kind c = search needs

@@ -46,7 +46,7 @@ tables-in-requires c κs = get-room (c .before .before .before .before .before .
 
 returns-3 : tie.Need-returns-3
 unfolding gotOf gotFor
-returns-3 c = else-eq _ _ (c .before .before .before .before .before .before .if1 .left) (else-ne _ _ (c .before .before .before .if2 .left ∙ c .before .before .before .before .body-len .ensures) (got-by _ (c .before .before .before .before .before .before .before .before .args .e .now) _ _ (c .before .found-for .ensures) (c .tables-in .ensures)))
+returns-3 c = else-eq _ _ (c .before .before .before .before .before .before .if1 .left) (else-ne _ _ (c .before .before .before .if2 .left ∙ c .before .before .before .before .body-len .ensures) (got-by _ _ (c .before .before .before .before .before .before .before .before .args .e .now) _ _ (c .before .found-for .ensures) (c .tables-in .ensures)))
 
 pub get-spec : {M : Type 1} → statement M
 get-spec =

@@ -20,7 +20,9 @@ use Rattle.entries.specs.Entries.{bodyLengths, bodyLen}
 use Rattle.journal.specs.declared.Found.{Found}
 use Rattle.journal.specs.declared.Found.the-variants.{Good, Bad}
 use Rattle.journal.specs.Bytes.{clearedBody, capsBody, throttlesBody, deadmanBody, areaBytes, areasBody, bodyOf}
-use Rattle.journal.specs.Read.{capsAt, areaAt, throttlesFrom, foundFor, tablesIn}
+use Rattle.journal.specs.declared.Way.{Way}
+use Rattle.journal.specs.declared.Way.the-variants.{Before, After}
+use Rattle.journal.specs.Read.{capsAt, areaAt, throttlesFrom, clearedAs, resetAs, foundFor, tablesIn}
 
 -- ---- the values that a record can hold, by the types of its fields
 
@@ -29,55 +31,55 @@ pub record TablesFit (t : Tables) : Type 0 where
   pub present : t .throttles .present < 256 ^ 2
   pub sets : length (t .throttles .sets) ≡ 160
 
--- an entry's change: as undo takes it, its numbers of their widths, the tables that it hasn't zero
-abbrev pub Writable : Tables → Change → Type 0
-Writable t (Clear place log) = ⊥
-Writable t (Unclear place log) = t ≡ noTables
-Writable t (SetState state) = t ≡ noTables
-Writable t (SetRole got role) = t ≡ noTables
-Writable t (SetCaps got caps) = CapsFit caps × (t ≡ noTables)
-Writable t (SetUser user) = (user < 256 ^ 2) × (t ≡ noTables)
-Writable t (SetThermal got) = (length (t .thermal) ≡ 9) × (t .throttles ≡ noThrottles)
-Writable t (SetThrottles got) = (t .throttles .present < 256 ^ 2) × (length (t .throttles .sets) ≡ 160) × (t .thermal ≡ replicate 9 0)
-Writable t (Reset log) = ⊥
-Writable t (Unreset state made) = t ≡ noTables
-Writable t (SetMask mask) = (mask < 256 ^ 4) × (t ≡ noTables)
-Writable t (SetDeadman deadman) = (deadman .time < 256 ^ 8) × (t ≡ noTables)
-Writable t (SetAreas areas) = AreaFits (areas .ffdc) × AreaFits (areas .pass) × (t ≡ noTables)
+-- an entry's change: one that this way's store holds, its numbers of their widths, the tables that it hasn't zero
+abbrev pub Writable : Way → Tables → Change → Type 0
+Writable w t (Clear place log) = (w ≡ After) × (t ≡ noTables)
+Writable w t (Unclear place log) = (w ≡ Before) × (t ≡ noTables)
+Writable w t (SetState state) = t ≡ noTables
+Writable w t (SetRole got role) = t ≡ noTables
+Writable w t (SetCaps got caps) = CapsFit caps × (t ≡ noTables)
+Writable w t (SetUser user) = (user < 256 ^ 2) × (t ≡ noTables)
+Writable w t (SetThermal got) = (length (t .thermal) ≡ 9) × (t .throttles ≡ noThrottles)
+Writable w t (SetThrottles got) = (t .throttles .present < 256 ^ 2) × (length (t .throttles .sets) ≡ 160) × (t .thermal ≡ replicate 9 0)
+Writable w t (Reset log) = (w ≡ After) × (t ≡ noTables)
+Writable w t (Unreset state made) = (w ≡ Before) × (t ≡ noTables)
+Writable w t (SetMask mask) = (mask < 256 ^ 4) × (t ≡ noTables)
+Writable w t (SetDeadman deadman) = (deadman .time < 256 ^ 8) × (t ≡ noTables)
+Writable w t (SetAreas areas) = AreaFits (areas .ffdc) × AreaFits (areas .pass) × (t ≡ noTables)
 
 -- ---- a body is as long as its kind says
 
-pub length-body : (t : Tables) (ch : Change) → Writable t ch → length (bodyOf t ch) ≡ bodyLen (kindOf ch)
+pub length-body : (w : Way) (t : Tables) (ch : Change) → Writable w t ch → length (bodyOf t ch) ≡ bodyLen (kindOf ch)
 unfolding bodyOf kindOf bodyLen clearedBody capsBody throttlesBody deadmanBody areaBytes areasBody toBE
-length-body t (Clear place log) w = absurd w
-length-body t (Unclear place log) w = refl
-length-body t (SetState state) w = refl
-length-body t (SetRole got role) w = refl
-length-body t (SetCaps got caps) w = refl
-length-body t (SetUser user) w = refl
-length-body t (SetThermal got) w = ap suc (w .0)
-length-body t (SetThrottles got) w = ap (λ (n : ℕ). suc (suc (suc n))) (w .1)
-length-body t (Reset log) w = absurd w
-length-body t (Unreset state made) w = refl
-length-body t (SetMask mask) w = refl
-length-body t (SetDeadman deadman) w = refl
-length-body t (SetAreas areas) w = refl
+length-body w t (Clear place log) h = refl
+length-body w t (Unclear place log) h = refl
+length-body w t (SetState state) h = refl
+length-body w t (SetRole got role) h = refl
+length-body w t (SetCaps got caps) h = refl
+length-body w t (SetUser user) h = refl
+length-body w t (SetThermal got) h = ap suc (h .0)
+length-body w t (SetThrottles got) h = ap (λ (n : ℕ). suc (suc (suc n))) (h .1)
+length-body w t (Reset log) h = refl
+length-body w t (Unreset state made) h = refl
+length-body w t (SetMask mask) h = refl
+length-body w t (SetDeadman deadman) h = refl
+length-body w t (SetAreas areas) h = refl
 
-pub some-body : (t : Tables) (ch : Change) → Writable t ch → 1 ≤ bodyLen (kindOf ch)
+pub some-body : (w : Way) (t : Tables) (ch : Change) → Writable w t ch → 1 ≤ bodyLen (kindOf ch)
 unfolding kindOf bodyLen
-some-body t (Clear place log) w = absurd w
-some-body t (Unclear place log) w = omega arith
-some-body t (SetState state) w = omega arith
-some-body t (SetRole got role) w = omega arith
-some-body t (SetCaps got caps) w = omega arith
-some-body t (SetUser user) w = omega arith
-some-body t (SetThermal got) w = omega arith
-some-body t (SetThrottles got) w = omega arith
-some-body t (Reset log) w = absurd w
-some-body t (Unreset state made) w = omega arith
-some-body t (SetMask mask) w = omega arith
-some-body t (SetDeadman deadman) w = omega arith
-some-body t (SetAreas areas) w = omega arith
+some-body w t (Clear place log) h = omega arith
+some-body w t (Unclear place log) h = omega arith
+some-body w t (SetState state) h = omega arith
+some-body w t (SetRole got role) h = omega arith
+some-body w t (SetCaps got caps) h = omega arith
+some-body w t (SetUser user) h = omega arith
+some-body w t (SetThermal got) h = omega arith
+some-body w t (SetThrottles got) h = omega arith
+some-body w t (Reset log) h = omega arith
+some-body w t (Unreset state made) h = omega arith
+some-body w t (SetMask mask) h = omega arith
+some-body w t (SetDeadman deadman) h = omega arith
+some-body w t (SetAreas areas) h = omega arith
 
 -- ---- reading what was written gives the change
 
@@ -110,23 +112,23 @@ areas-back-pass a b f = λ i. record {
   size = last-back 4 (b .size) (f .size) i;
 }
 
-pub found-body : (t : Tables) (ch : Change) → Writable t ch → foundFor (kindOf ch) (bodyOf t ch) ≡ Good ch
-unfolding foundFor kindOf bodyOf clearedBody capsBody throttlesBody deadmanBody areasBody
-found-body t (Clear place log) w = absurd w
-found-body t (Unclear place log) w = refl
-found-body t (SetState state) w = refl
-found-body t (SetRole got role) w = refl
-found-body t (SetCaps got caps) w = ap (λ (c : Caps). Good (SetCaps got c)) (caps-back got caps (w .0))
-found-body t (SetUser user) w = ap (λ (n : ℕ). Good (SetUser n)) (last-back 2 user (w .0))
-found-body t (SetThermal got) w = refl
-found-body t (SetThrottles got) w = refl
-found-body t (Reset log) w = absurd w
-found-body t (Unreset state made) w = refl
-found-body t (SetMask mask) w = ap (λ (n : ℕ). Good (SetMask n)) (last-back 4 mask (w .0))
-found-body t (SetDeadman deadman) w =
-    ap (λ (n : ℕ). Good (SetDeadman (record { running = deadman .running; time = n }))) (last-back 8 (deadman .time) (w .0))
-found-body t (SetAreas areas) w = λ i.
-    Good (SetAreas (record { ffdc = areas-back-ffdc (areas .ffdc) (areas .pass) (w .0) i; pass = areas-back-pass (areas .ffdc) (areas .pass) (w .1) i }))
+pub found-body : (w : Way) (t : Tables) (ch : Change) → Writable w t ch → foundFor w (kindOf ch) (bodyOf t ch) ≡ Good ch
+unfolding foundFor clearedAs resetAs kindOf bodyOf clearedBody capsBody throttlesBody deadmanBody areasBody
+found-body w t (Clear place log) h = ap (λ (v : Way). foundFor v 0x01 (bodyOf t (Clear place log))) (h .0)
+found-body w t (Unclear place log) h = ap (λ (v : Way). foundFor v 0x01 (bodyOf t (Unclear place log))) (h .0)
+found-body w t (SetState state) h = refl
+found-body w t (SetRole got role) h = refl
+found-body w t (SetCaps got caps) h = ap (λ (c : Caps). Good (SetCaps got c)) (caps-back got caps (h .0))
+found-body w t (SetUser user) h = ap (λ (n : ℕ). Good (SetUser n)) (last-back 2 user (h .0))
+found-body w t (SetThermal got) h = refl
+found-body w t (SetThrottles got) h = refl
+found-body w t (Reset log) h = ap (λ (v : Way). foundFor v 0x08 (bodyOf t (Reset log))) (h .0)
+found-body w t (Unreset state made) h = ap (λ (v : Way). foundFor v 0x08 (bodyOf t (Unreset state made))) (h .0)
+found-body w t (SetMask mask) h = ap (λ (n : ℕ). Good (SetMask n)) (last-back 4 mask (h .0))
+found-body w t (SetDeadman deadman) h =
+    ap (λ (n : ℕ). Good (SetDeadman (record { running = deadman .running; time = n }))) (last-back 8 (deadman .time) (h .0))
+found-body w t (SetAreas areas) h = λ i.
+    Good (SetAreas (record { ffdc = areas-back-ffdc (areas .ffdc) (areas .pass) (h .0) i; pass = areas-back-pass (areas .ffdc) (areas .pass) (h .1) i }))
 
 throttles-back : (t : Tables) (got : ℕ) → t .throttles .present < 256 ^ 2 → length (t .throttles .sets) ≡ 160 → throttlesFrom (throttlesBody got (t .throttles)) ≡ t .throttles
 unfolding throttlesFrom throttlesBody toBE
@@ -135,21 +137,21 @@ throttles-back t got p l = λ i. record {
   sets = take-all 160 (t .throttles .sets) (omega (arith, l)) i;
 }
 
-pub tables-body : (t : Tables) (ch : Change) → Writable t ch → tablesIn (kindOf ch) (bodyOf t ch) ≡ t
+pub tables-body : (w : Way) (t : Tables) (ch : Change) → Writable w t ch → tablesIn (kindOf ch) (bodyOf t ch) ≡ t
 unfolding tablesIn kindOf bodyOf
-tables-body t (Clear place log) w = absurd w
-tables-body t (Unclear place log) w = sym w
-tables-body t (SetState state) w = sym w
-tables-body t (SetRole got role) w = sym w
-tables-body t (SetCaps got caps) w = sym (w .1)
-tables-body t (SetUser user) w = sym (w .1)
-tables-body t (SetThermal got) w = λ i. record { thermal = take-all 9 (t .thermal) (omega (arith, w .0)) i; throttles = sym (w .1) i }
-tables-body t (SetThrottles got) w = λ i. record { thermal = sym (w .2) i; throttles = throttles-back t got (w .0) (w .1) i }
-tables-body t (Reset log) w = absurd w
-tables-body t (Unreset state made) w = sym w
-tables-body t (SetMask mask) w = sym (w .1)
-tables-body t (SetDeadman deadman) w = sym (w .1)
-tables-body t (SetAreas areas) w = sym (w .2)
+tables-body w t (Clear place log) h = sym (h .1)
+tables-body w t (Unclear place log) h = sym (h .1)
+tables-body w t (SetState state) h = sym h
+tables-body w t (SetRole got role) h = sym h
+tables-body w t (SetCaps got caps) h = sym (h .1)
+tables-body w t (SetUser user) h = sym (h .1)
+tables-body w t (SetThermal got) h = λ i. record { thermal = take-all 9 (t .thermal) (omega (arith, h .0)) i; throttles = sym (h .1) i }
+tables-body w t (SetThrottles got) h = λ i. record { thermal = sym (h .2) i; throttles = throttles-back t got (h .0) (h .1) i }
+tables-body w t (Reset log) h = sym (h .1)
+tables-body w t (Unreset state made) h = sym (h .1)
+tables-body w t (SetMask mask) h = sym (h .1)
+tables-body w t (SetDeadman deadman) h = sym (h .1)
+tables-body w t (SetAreas areas) h = sym (h .2)
 
 -- ---- writing what was read gives the body
 
@@ -206,7 +208,18 @@ whole-field : (n : ℕ) (b : List ℕ) → Bytes b → length b ≡ n → toBE n
 whole-field n b h e = part-back n 0 b h (omega arith) ∙ take-all n b (omega arith)
 
 abbrev Back : ℕ → Type 0
-Back k = (b : List ℕ) → Bytes b → length b ≡ bodyLen k → bodyFound (tablesIn k b) (foundFor k b) ≡ b
+Back k = (w : Way) (b : List ℕ) → Bytes b → length b ≡ bodyLen k → bodyFound (tablesIn k b) (foundFor w k b) ≡ b
+
+-- the two kinds that the ways read differently
+cleared-body : (w : Way) (b : List ℕ) → length b ≡ 3 → bodyFound noTables (Good (clearedAs w (getD b 0 0) (record { id = getD b 1 0; reason = getD b 2 0 }))) ≡ b
+unfolding bodyFound bodyOf clearedBody clearedAs
+cleared-body Before b e = three-bytes b e
+cleared-body After b e = three-bytes b e
+
+reset-body : (w : Way) (b : List ℕ) → length b ≡ 2 → bodyFound noTables (Good (resetAs w (getD b 0 0) (getD b 1 0))) ≡ b
+unfolding bodyFound bodyOf resetAs
+reset-body Before b e = two-bytes b e
+reset-body After b e = two-bytes b e
 
 caps-body : (b : List ℕ) → Bytes b → length b ≡ 7 → capsBody (getD b 0 0) (capsAt 1 b) ≡ b
 unfolding capsBody capsAt
@@ -239,27 +252,27 @@ unfolding Rows bodyLen bodyFound foundFor tablesIn bodyOf clearedBody deadmanBod
 body-found = by-kind Back (
   (λ s. absurd (not-suc-le-zero s)),
   (
-    (λ s b h e. three-bytes b e),
+    (λ s w b h e. cleared-body w b e),
     (
-      (λ s b h e. head-on b 0 e),
+      (λ s w b h e. head-on b 0 e),
       (
-        (λ s b h e. two-bytes b e),
+        (λ s w b h e. two-bytes b e),
         (
-          (λ s b h e. caps-body b h e),
+          (λ s w b h e. caps-body b h e),
           (
-            (λ s b h e. whole-field 2 b h e),
+            (λ s w b h e. whole-field 2 b h e),
             (
-              (λ s b h e. head-on b 9 e),
+              (λ s w b h e. head-on b 9 e),
               (
-                (λ s b h e. throttles-body b h e),
+                (λ s w b h e. throttles-body b h e),
                 (
-                  (λ s b h e. two-bytes b e),
+                  (λ s w b h e. reset-body w b e),
                   (
-                    (λ s b h e. whole-field 4 b h e),
+                    (λ s w b h e. whole-field 4 b h e),
                     (
-                      (λ s b h e. deadman-body b h e),
+                      (λ s w b h e. deadman-body b h e),
                       (
-                        (λ s b h e. areas-body b h e),
+                        (λ s w b h e. areas-body b h e),
                         tt,
                       ),
                     ),

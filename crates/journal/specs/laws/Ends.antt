@@ -1,4 +1,4 @@
--- What demand 3 needs of the journal: after one more entry the bytes read as the entries before and this one, and cutting it off
+-- What demand 3 needs of a store: after one more entry the bytes read as the entries before and this one, and cutting it off
 -- gives the bytes back. Assumes nothing.
 use Prim.Native.Nat.{ℕ, suc, _+_, _-_, _≤_}
 use mathlib.Core.Bool.{true}
@@ -16,17 +16,18 @@ use Rattle.change.specs.Change.{kindOf}
 use Rattle.entries.specs.Entries.{Entry, bodyLen, bytesOf, between, scan}
 use Rattle.entries.specs.laws.Entries.{read-append}
 use Rattle.journal.specs.declared.End.the-variants.{At}
+use Rattle.journal.specs.declared.Way.{Way}
 use Rattle.journal.specs.Bytes.{entryFor, entryBytes}
 use Rattle.journal.specs.Add.{entryLen, endOf, addedTo, cutFrom}
 use Rattle.journal.specs.laws.Bodies.{Writable, length-body, some-body}
 
-pub length-entry : (e : Edit) → Writable (e .tables) (e .change) → length (entryBytes e) ≡ entryLen e
+pub length-entry : (way : Way) (e : Edit) → Writable way (e .tables) (e .change) → length (entryBytes e) ≡ entryLen e
 unfolding entryBytes entryFor bytesOf
-length-entry e w = ap suc (length-body (e .tables) (e .change) w) ∙ sym (add-one (bodyLen (kindOf (e .change))))
+length-entry way e w = ap suc (length-body way (e .tables) (e .change) w) ∙ sym (add-one (bodyLen (kindOf (e .change))))
 
-module _ (e : Edit) (used : ℕ) (j : List ℕ) (w : Writable (e .tables) (e .change)) (room : used + entryLen e ≤ length j) where
+module _ (way : Way) (e : Edit) (used : ℕ) (j : List ℕ) (w : Writable way (e .tables) (e .change)) (room : used + entryLen e ≤ length j) where
   long : used + length (entryBytes e) ≤ length j
-  long = omega (arith, length-entry e w)
+  long = omega (arith, length-entry way e w)
 
   pub end-at : endOf (length j) used e ≡ At (used + entryLen e)
   unfolding endOf
@@ -42,7 +43,7 @@ module _ (e : Edit) (used : ℕ) (j : List ℕ) (w : Writable (e .tables) (e .ch
   -- the used bytes are those before and the entry's
   pub take-added : take (used + entryLen e) (addedTo used e j) ≡ take used j ++ entryBytes e
   take-added =
-      ap (λ (n : ℕ). take (used + n) (addedTo used e j)) (sym (length-entry e w))
+      ap (λ (n : ℕ). take (used + n) (addedTo used e j)) (sym (length-entry way e w))
       ∙ ap (take (used + length (entryBytes e))) added
       ∙ take-pasted used (entryBytes e) j long
 
@@ -50,13 +51,13 @@ module _ (e : Edit) (used : ℕ) (j : List ℕ) (w : Writable (e .tables) (e .ch
   pub added-reads : (es : List Entry) → scan (take used j) ≡ between es → scan (take (used + entryLen e) (addedTo used e j)) ≡ between (entryFor e ∷ es)
   unfolding entryBytes entryFor
   added-reads es r =
-      let s = length-body (e .tables) (e .change) w in
-      ap scan take-added ∙ read-append (take used j) es (entryFor e) r (sym s) (omega (arith, s, some-body (e .tables) (e .change) w))
+      let s = length-body way (e .tables) (e .change) w in
+      ap scan take-added ∙ read-append (take used j) es (entryFor e) r (sym s) (omega (arith, s, some-body way (e .tables) (e .change) w))
 
   -- the unused bytes stay zero
   pub added-unused : allAre 0 (drop used j) ≡ true → allAre 0 (drop (used + entryLen e) (addedTo used e j)) ≡ true
   added-unused z =
-      ap (λ (n : ℕ). allAre 0 (drop (used + n) (addedTo used e j))) (sym (length-entry e w))
+      ap (λ (n : ℕ). allAre 0 (drop (used + n) (addedTo used e j))) (sym (length-entry way e w))
       ∙ ap (λ (l : List ℕ). allAre 0 (drop (used + length (entryBytes e)) l)) added
       ∙ ap (allAre 0) (drop-pasted used (entryBytes e) j long ∙ sym (drop-drop (length (entryBytes e)) used j))
       ∙ all-drop 0 (length (entryBytes e)) (drop used j) z
@@ -66,7 +67,7 @@ module _ (e : Edit) (used : ℕ) (j : List ℕ) (w : Writable (e .tables) (e .ch
   unfolding cutFrom
   cut-added z =
       let zeros : List ℕ = replicate (used + entryLen e - used) 0 in
-      let n : length zeros ≡ length (entryBytes e) = length-replicate (used + entryLen e - used) 0 ∙ omega (arith, length-entry e w) in
+      let n : length zeros ≡ length (entryBytes e) = length-replicate (used + entryLen e - used) 0 ∙ omega (arith, length-entry way e w) in
       sym (else-lt _ _ {m = length (addedTo used e j)} {n = used + entryLen e} (omega (arith, length-added)) (else-lt _ _ {m = used + entryLen e} {n = used} (omega arith) refl))
       ∙ ap (pasted used zeros) added
       ∙ paste-over used (entryBytes e) zeros j n long

@@ -13,7 +13,7 @@ use Rattle.record.specs.declared.Log.{Log}
 use Rattle.record.specs.declared.Record.{Record}
 use Rattle.change.specs.Logs.{pendingOf, removeAt, insertAt, pendsAt}
 use Rattle.change.specs.With.{withState, withRole, withCaps, withThrottles, withUser, withThermal, withLogs, withMask, withDeadman, withAreas}
-use Rattle.change.specs.Change.{accepted, clearOf, unclearOf, resetOf, unresetOf, putWith, backOf, kindOf, tablesFor, madeBy}
+use Rattle.change.specs.Change.{accepted, clearOf, unclearOf, resetOf, unresetOf, putWith, backOf, kindOf, tablesFor, madeBy, madeAgain}
 use Rattle.change.specs.declared.Change.{Change}
 use Rattle.change.specs.declared.Change.the-variants.{Clear, Unclear, SetState, SetRole, SetCaps, SetUser, SetThermal, SetThrottles, Reset, Unreset, SetMask, SetDeadman, SetAreas}
 use Rattle.change.specs.declared.Tables.{Tables}
@@ -55,16 +55,18 @@ next-ok n low high = sym (else-lt _ _ low (sym (le-leb n 256 high)))
 
 -- ---- each change
 
--- p, the change ch put into r: accepted, well formed with the ids that it draws, and what was before leads back
+-- p, the change ch put into r: accepted, well formed with the ids that it draws; what was before leads back, and what was after is the change
 pub record Landing (r : Record) (n : ℕ) (ch : Change) (p : Changed) : Type 0 where
   pub ok : p .ok ≡ true
   pub sound : Sound (p .after) (n + madeOf ch)
   pub typed : TypedRecord (p .after)
   pub back : putWith (p .after) (tablesFor (kindOf ch) r) (backOf r ch) ≡ accepted r
+  pub again : backOf (p .after) (backOf r ch) ≡ ch
 
-landed : {r : Record} {n : ℕ} {ch : Change} (x : Record) → Sound x (n + madeOf ch) → TypedRecord x → putWith x (tablesFor (kindOf ch) r) (backOf r ch) ≡ accepted r → Landing r n ch (accepted x)
+landed : {r : Record} {n : ℕ} {ch : Change} (x : Record) → Sound x (n + madeOf ch) → TypedRecord x → putWith x (tablesFor (kindOf ch) r) (backOf r ch) ≡ accepted r
+    → backOf x (backOf r ch) ≡ ch → Landing r n ch (accepted x)
 unfolding accepted
-landed x s y b = record { ok = refl; sound = s; typed = y; back = b }
+landed x s y b a = record { ok = refl; sound = s; typed = y; back = b; again = a }
 
 still : {r : Record} {n : ℕ} → Sound r n → Sound r (n + 0)
 still {n = n} s = rw (add-zero n) s
@@ -82,12 +84,12 @@ module _ (r : Record) (n : ℕ) (s : Sound r n) (y : TypedRecord r) where
   clear-lands p x h =
       let out = removed n (r .logs) (s .logs) (y .logs) p x h in
       let ok : logsOk n (removeAt p (r .logs)) ≡ true = logs-remove n (r .logs) (s .logs) p in
-      subst (Landing r n (Clear p x)) (sym (clear-puts r p x h)) (landed _ (still (search (s, ok))) (search (y, out)) (clear-back p x out))
+      subst (Landing r n (Clear p x)) (sym (clear-puts r p x h)) (landed _ (still (search (s, ok))) (search (y, out)) (clear-back p x out) refl)
 
   -- a reset without a log
   plain-lands : Landing r n (Reset noLog) (resetOf r noLog)
-  unfolding madeOf madeBy putWith backOf resetOf unresetOf withState stateOk
-  plain-lands = let state : stateOk 1 ≡ true = refl in landed _ (still (search (s, state))) (search y) refl
+  unfolding madeOf madeBy madeAgain putWith backOf resetOf unresetOf withState stateOk
+  plain-lands = let state : stateOk 1 ≡ true = refl in landed _ (still (search (s, state))) (search y) refl refl
 
   -- a reset with a log, which draws the next id
   module _ (x : Log) (new : NewLog r n x) where
@@ -113,27 +115,32 @@ module _ (r : Record) (n : ℕ) (s : Sound r n) (y : TypedRecord r) where
         unreset-puts (withLogs (withState r 1) more) (r .state) (madeBy x) (pendingOf (r .logs)) (made-by-used x used) (into .pending-inserted)
         ∙ ap (λ (l : List Log). accepted (withLogs r l)) (into .remove-inserted)
 
+    -- and it is the one that a redo brings back
+    reset-again : Reset (madeAgain more (madeBy x)) ≡ Reset x
+    unfolding madeAgain
+    reset-again = ap Reset (sym (else-eq _ _ {m = madeBy x} {n = 0} (λ z. omega (arith, made-by-used x used)) refl) ∙ into .last-inserted)
+
     reset-lands : Landing r n (Reset x) (resetOf r x)
     unfolding madeOf putWith backOf withLogs withState stateOk
     reset-lands =
         let state : stateOk 1 ≡ true = refl in
         let next : nextOk (n + madeBy x) ≡ true = next-ok (n + madeBy x) (omega arith) (omega (arith, made-by-used x used)) in
         subst (Landing r n (Reset x)) (sym (reset-puts r x used (new .room)))
-        (landed _ (search (s, state, next, more-ok)) (search (y, into)) reset-back)
+        (landed _ (search (s, state, next, more-ok)) (search (y, into)) reset-back reset-again)
 
   pub lands : (t : Tables) (ch : Change) → Made r n t ch → Landing r n ch (putWith r t ch)
   unfolding putWith madeOf tablesFor kindOf backOf changeOk withState withRole withCaps withThrottles withUser withThermal withMask withDeadman withAreas
   lands t (Clear place log) m = clear-lands place log (m .0)
   lands t (Unclear place log) m = absurd m
-  lands t (SetState state) m = landed _ (still (search (s, m))) (search y) refl
-  lands t (SetRole got role) m = landed _ (still (search (s, m))) (search y) refl
-  lands t (SetCaps got caps) m = landed _ (still (search (s, m))) (search (y, m)) refl
-  lands t (SetUser user) m = landed _ (still (search s)) (search (y, m)) refl
-  lands t (SetThermal got) m = landed _ (still (search (s, m))) (search (y, m)) refl
-  lands t (SetThrottles got) m = landed _ (still (search (s, m))) (search (y, m)) refl
+  lands t (SetState state) m = landed _ (still (search (s, m))) (search y) refl refl
+  lands t (SetRole got role) m = landed _ (still (search (s, m))) (search y) refl refl
+  lands t (SetCaps got caps) m = landed _ (still (search (s, m))) (search (y, m)) refl refl
+  lands t (SetUser user) m = landed _ (still (search s)) (search (y, m)) refl refl
+  lands t (SetThermal got) m = landed _ (still (search (s, m))) (search (y, m)) refl refl
+  lands t (SetThrottles got) m = landed _ (still (search (s, m))) (search (y, m)) refl refl
   lands t (Reset log) m =
       ⊎-elim (λ e. subst (λ (x : Log). Landing r n (Reset x) (resetOf r x)) (sym e) plain-lands) (reset-lands log) (m .0)
   lands t (Unreset state made) m = absurd m
-  lands t (SetMask mask) m = landed _ (still (search s)) (search (y, m)) refl
-  lands t (SetDeadman deadman) m = landed _ (still (search (s, m))) (search (y, m)) refl
-  lands t (SetAreas areas) m = landed _ (still (search (s, m))) (search (y, m)) refl
+  lands t (SetMask mask) m = landed _ (still (search s)) (search (y, m)) refl refl
+  lands t (SetDeadman deadman) m = landed _ (still (search (s, m))) (search (y, m)) refl refl
+  lands t (SetAreas areas) m = landed _ (still (search (s, m))) (search (y, m)) refl refl

@@ -1,7 +1,7 @@
 -- Each change that a command makes is undone by its entry. Assumes nothing.
 use Prim.Native.Nat.{ℕ, _+_, _≤_}
 use mathlib.Core.Bool.{true}
-use mathlib.Core.Path.{_≡_, refl, sym, subst}
+use mathlib.Core.Path.{_≡_, refl, sym, ap, subst, _∙_}
 use mathlib.Core.Logic.{⊎-elim}
 use native.Mathlib.Omega.{arith}
 use borrow.Author.Tests.{ltb-false}
@@ -9,7 +9,8 @@ use lib.Dec.{ltb, leb}
 use Rattle.wire.specs.laws.Cases.{else-eq}
 use Rattle.record.specs.declared.Log.{Log}
 use Rattle.record.specs.declared.Record.{Record}
-use Rattle.change.specs.Change.{accepted, putOf, backOf, kindOf, tablesFor, inverseOf}
+use Rattle.change.specs.With.{withThrottles, withThermal}
+use Rattle.change.specs.Change.{accepted, putWith, putOf, backOf, kindOf, tablesFor, inverseOf}
 use Rattle.change.specs.declared.Change.{Change}
 use Rattle.change.specs.declared.Change.the-variants.{Clear, Unclear, SetState, SetRole, SetCaps, SetUser, SetThermal, SetThrottles, Reset, Unreset, SetMask, SetDeadman, SetAreas}
 use Rattle.change.specs.declared.Tables.{Tables}
@@ -20,6 +21,10 @@ use Rattle.journal.specs.Bytes.{entryFor, entryBytes}
 use Rattle.journal.specs.Read.{gotOf, entryOk}
 use Rattle.journal.specs.laws.Bodies.{Writable}
 use Rattle.journal.specs.declared.Found.the-variants.{Good}
+use Rattle.journal.specs.declared.Way.{Way}
+use Rattle.journal.specs.declared.Way.the-variants.{Before, After}
+use Rattle.journal.specs.Ways.{byWay, other}
+use Rattle.journal.specs.laws.Says.{Holds}
 use Rattle.session.specs.Session.{madeOf}
 use Rattle.links.specs.Typed.{TypedRecord}
 use Rattle.links.specs.laws.Logs.{passed}
@@ -63,22 +68,70 @@ made-ok r n t (SetMask mask) s m = m .ok
 made-ok r n t (SetDeadman deadman) s m = m .ok
 made-ok r n t (SetAreas areas) s m = m .ok
 
--- what was before has the widths of the record's fields
-writable-back : (r : Record) (n : ℕ) (t : Tables) (ch : Change) → TypedRecord r → Made r n t ch → Writable (tablesFor (kindOf ch) r) (backOf r ch)
-unfolding tablesFor kindOf backOf
-writable-back r n t (Clear place log) y m = refl
-writable-back r n t (Unclear place log) y m = absurd m
-writable-back r n t (SetState state) y m = refl
-writable-back r n t (SetRole got role) y m = refl
-writable-back r n t (SetCaps got caps) y m = (y .caps, refl)
-writable-back r n t (SetUser user) y m = (y .user, refl)
-writable-back r n t (SetThermal got) y m = (y .thermal, refl)
-writable-back r n t (SetThrottles got) y m = (y .present, y .sets, refl)
-writable-back r n t (Reset log) y m = refl
-writable-back r n t (Unreset state made) y m = absurd m
-writable-back r n t (SetMask mask) y m = (y .mask, refl)
-writable-back r n t (SetDeadman deadman) y m = (y .time, refl)
-writable-back r n t (SetAreas areas) y m = (y .ffdc, y .pass, refl)
+-- what takes a change back goes into the other store, and has the widths of the record's fields
+pub writable-back : (w : Way) (r : Record) (ch : Change) → TypedRecord r → Holds w ch → Writable (other w) (tablesFor (kindOf ch) r) (backOf r ch)
+unfolding tablesFor kindOf backOf other byWay
+writable-back w r (Clear place log) y h = (ap other h, refl)
+writable-back w r (Unclear place log) y h = (ap other h, refl)
+writable-back w r (SetState state) y h = refl
+writable-back w r (SetRole got role) y h = refl
+writable-back w r (SetCaps got caps) y h = (y .caps, refl)
+writable-back w r (SetUser user) y h = (y .user, refl)
+writable-back w r (SetThermal got) y h = (y .thermal, refl)
+writable-back w r (SetThrottles got) y h = (y .present, y .sets, refl)
+writable-back w r (Reset log) y h = (ap other h, refl)
+writable-back w r (Unreset state made) y h = (ap other h, refl)
+writable-back w r (SetMask mask) y h = (y .mask, refl)
+writable-back w r (SetDeadman deadman) y h = (y .time, refl)
+writable-back w r (SetAreas areas) y h = (y .ffdc, y .pass, refl)
+
+-- and so has the change itself
+writable-made : (r : Record) (n : ℕ) (t : Tables) (ch : Change) → Made r n t ch → Writable After t ch
+writable-made r n t (Clear place log) m = (refl, m .1)
+writable-made r n t (Unclear place log) m = absurd m
+writable-made r n t (SetState state) m = m .fits
+writable-made r n t (SetRole got role) m = m .fits
+writable-made r n t (SetCaps got caps) m = m .fits
+writable-made r n t (SetUser user) m = m .fits
+writable-made r n t (SetThermal got) m = m .fits
+writable-made r n t (SetThrottles got) m = m .fits
+writable-made r n t (Reset log) m = (refl, m .1)
+writable-made r n t (Unreset state made) m = absurd m
+writable-made r n t (SetMask mask) m = m .fits
+writable-made r n t (SetDeadman deadman) m = m .fits
+writable-made r n t (SetAreas areas) m = m .fits
+
+holds-made : (w : Way) (t : Tables) (ch : Change) → Writable w t ch → Holds w ch
+holds-made w t (Clear place log) h = h .0
+holds-made w t (Unclear place log) h = h .0
+holds-made w t (SetState state) h = tt
+holds-made w t (SetRole got role) h = tt
+holds-made w t (SetCaps got caps) h = tt
+holds-made w t (SetUser user) h = tt
+holds-made w t (SetThermal got) h = tt
+holds-made w t (SetThrottles got) h = tt
+holds-made w t (Reset log) h = h .0
+holds-made w t (Unreset state made) h = h .0
+holds-made w t (SetMask mask) h = tt
+holds-made w t (SetDeadman deadman) h = tt
+holds-made w t (SetAreas areas) h = tt
+
+-- the tables beside it are those that the record after it has
+tables-again : (r : Record) (n : ℕ) (t : Tables) (ch : Change) → Made r n t ch → tablesFor (kindOf ch) (putWith r t ch .after) ≡ t
+unfolding tablesFor kindOf putWith accepted withThermal withThrottles
+tables-again r n t (Clear place log) m = sym (m .1)
+tables-again r n t (Unclear place log) m = absurd m
+tables-again r n t (SetState state) m = sym (m .fits)
+tables-again r n t (SetRole got role) m = sym (m .fits)
+tables-again r n t (SetCaps got caps) m = sym (m .fits .1)
+tables-again r n t (SetUser user) m = sym (m .fits .1)
+tables-again r n t (SetThermal got) m = λ i. record { thermal = t .thermal; throttles = sym (m .fits .1) i }
+tables-again r n t (SetThrottles got) m = λ i. record { thermal = sym (m .fits .2) i; throttles = t .throttles }
+tables-again r n t (Reset log) m = sym (m .1)
+tables-again r n t (Unreset state made) m = absurd m
+tables-again r n t (SetMask mask) m = sym (m .fits .1)
+tables-again r n t (SetDeadman deadman) m = sym (m .fits .1)
+tables-again r n t (SetAreas areas) m = sym (m .fits .2)
 
 -- a change and what takes it back are of one kind
 pub kind-of-back : (r : Record) (ch : Change) → kindOf (backOf r ch) ≡ kindOf ch
@@ -97,34 +150,47 @@ kind-of-back r (SetMask mask) = refl
 kind-of-back r (SetDeadman deadman) = refl
 kind-of-back r (SetAreas areas) = refl
 
--- ---- all that is known of a change e that is made on the record r with the next id n, whose entry holds inverseOf r e
+-- ---- all that is known of a change e that is made on the record r with the next id n: its entry holds inverseOf r e, and once it is undone, the
+-- redo store e itself
 
 pub record Link (r : Record) (n : ℕ) (e : Edit) : Type 0 where
   pub put-accepted : putOf r e .ok ≡ true
   pub put-sound : recordOk (putOf r e .after) (n + madeOf (e .change)) ≡ true
   pub put-typed : TypedRecord (putOf r e .after)
-  pub back-writable : Writable (inverseOf r e .tables) (inverseOf r e .change)
+  pub back-writable : Writable Before (inverseOf r e .tables) (inverseOf r e .change)
+  pub here-writable : Writable After (e .tables) (e .change)
   pub back-ok : editOk (inverseOf r e) ≡ true
   pub put-back : putOf (putOf r e .after) (inverseOf r e) ≡ accepted r
+  pub again : inverseOf (putOf r e .after) (inverseOf r e) ≡ e
   pub kind-back : kindOf (inverseOf r e .change) ≡ kindOf (e .change)
-  pub entry-good : entryOk (entryFor (inverseOf r e)) ≡ true
-  pub entry-reads : gotOf (entryBytes (inverseOf r e)) ≡ record { found = Good (inverseOf r e .change); tables = inverseOf r e .tables }
+  pub entry-good : entryOk Before (entryFor (inverseOf r e)) ≡ true
+  pub entry-reads : gotOf Before (entryBytes (inverseOf r e)) ≡ record { found = Good (inverseOf r e .change); tables = inverseOf r e .tables }
+  pub redo-good : entryOk After (entryFor e) ≡ true
+  pub redo-reads : gotOf After (entryBytes e) ≡ record { found = Good (e .change); tables = e .tables }
 
 pub link : (r : Record) (n : ℕ) (e : Edit) → recordOk r n ≡ true → TypedRecord r → Made r n (e .tables) (e .change) → Link r n e
-unfolding putOf inverseOf editOk
+unfolding putOf inverseOf editOk other byWay
 link r n e ok y m =
     let s = sound ok in
     let l = lands r n s y (e .tables) (e .change) m in
-    let back : Writable (inverseOf r e .tables) (inverseOf r e .change) = writable-back r n (e .tables) (e .change) y m in
-    let good : editOk (inverseOf r e) ≡ true = inverse-ok r n e s (made-ok r n (e .tables) (e .change) s m) in
+    let here = writable-made r n (e .tables) (e .change) m in
+    let back : Writable Before (inverseOf r e .tables) (inverseOf r e .change) = writable-back After r (e .change) y (holds-made After (e .tables) (e .change) here) in
+    let ok-here : editOk e ≡ true = made-ok r n (e .tables) (e .change) s m in
+    let good : editOk (inverseOf r e) ≡ true = inverse-ok r n e s ok-here in
+    let kind = kind-of-back r (e .change) in
+    let tables = ap (λ (k : ℕ). tablesFor k (putOf r e .after)) kind ∙ tables-again r n (e .tables) (e .change) m in
     record {
       put-accepted = l .ok;
       put-sound = sound-ok (l .sound);
       put-typed = l .typed;
       back-writable = back;
+      here-writable = here;
       back-ok = good;
       put-back = l .back;
-      kind-back = kind-of-back r (e .change);
-      entry-good = entry-ok (inverseOf r e) back good;
-      entry-reads = entry-got (inverseOf r e) back;
+      again = λ i. record { change = l .again i; tables = tables i };
+      kind-back = kind;
+      entry-good = entry-ok Before (inverseOf r e) back good;
+      entry-reads = entry-got Before (inverseOf r e) back;
+      redo-good = entry-ok After e here ok-here;
+      redo-reads = entry-got After e here;
     }

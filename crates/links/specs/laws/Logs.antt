@@ -1,5 +1,5 @@
 -- Pending logs: a log taken out and put in again, and one put last and taken out again, leave the four places as they were. Assumes nothing.
-use Prim.Native.Nat.{ℕ, zero, suc, _≤_, _<_}
+use Prim.Native.Nat.{ℕ, zero, suc, _-_, _≤_, _<_}
 use mathlib.Core.Bool.{Bool, true, false, cond}
 use mathlib.Core.Path.{_≡_, refl, sym, ap, _∙_}
 use mathlib.Core.List.{List, [], _∷_, _++_}
@@ -13,6 +13,7 @@ use Rattle.wire.specs.laws.Cases.{if-lt, if-eq, else-eq, cond-elim}
 use Rattle.record.specs.Record.{noLog}
 use Rattle.record.specs.declared.Log.{Log}
 use Rattle.change.specs.Logs.{pendingOf, removeAt, insertAt, pendsAt}
+use Rattle.change.specs.Change.{lastOf}
 use Rattle.formed.specs.Formed.{unused, logsOk}
 use Rattle.formed.specs.laws.Formed.{both-hold, logs-used}
 
@@ -59,6 +60,12 @@ into-out : (p : ℕ) (x : Log) (l : List Log) → p < length l → unused (drop 
 into-out p x [] h u = absurd (not-suc-le-zero h)
 into-out zero x (y ∷ l) h u = unused-last y l u
 into-out (suc p) x (y ∷ l) h u = ap (λ (k : List Log). y ∷ k) (into-out p x l (le-of-suc-le-suc h) u)
+
+-- and stands at its place
+into-there : (p : ℕ) (x : Log) (l : List Log) → p < length l → getD (into (length l) p x l) p noLog ≡ x
+into-there p x [] h = absurd (not-suc-le-zero h)
+into-there zero x (y ∷ l) h = refl
+into-there (suc p) x (y ∷ l) h = into-there p x l (le-of-suc-le-suc h)
 
 -- ---- how many pend
 
@@ -165,6 +172,7 @@ pub record Inserted (x : Log) (l : List Log) : Type 0 where
   pub length-inserted : length (insertAt (pendingOf l) x l) ≡ 4
   pub pending-inserted : pendingOf (insertAt (pendingOf l) x l) ≡ suc (pendingOf l)
   pub remove-inserted : removeAt (pendingOf l) (insertAt (pendingOf l) x l) ≡ l
+  pub last-inserted : lastOf (insertAt (pendingOf l) x l) ≡ x
 
 module _ (next : ℕ) (l : List Log) (ok : logsOk next l ≡ true) (four : length l ≡ 4) where
   -- a log that pends leaves its place
@@ -188,14 +196,23 @@ module _ (next : ℕ) (l : List Log) (ok : logsOk next l ≡ true) (four : lengt
 
   -- a log is put last, where fewer than four pend
   pub inserted : (x : Log) → Used x → pendingOf l < 4 → Inserted x l
+  unfolding lastOf
   inserted x used room =
       let inside : pendingOf l < length l = omega arith in
       let is : insertAt (pendingOf l) x l ≡ into (length l) (pendingOf l) x l = into-at (length l) (pendingOf l) x l four room in
+      let more = ap pendingOf is ∙ pending-into (pendingOf l) x l used refl inside in
+      let some : pendingOf (insertAt (pendingOf l) x l) ≡ 0 → ⊥ = λ z. omega (arith, more) in
+      let place : pendingOf (insertAt (pendingOf l) x l) - 1 ≡ pendingOf l = omega (arith, more) in
       record {
         length-inserted = ap length is ∙ length-into (pendingOf l) x l inside ∙ four;
-        pending-inserted = ap pendingOf is ∙ pending-into (pendingOf l) x l used refl inside;
+        pending-inserted = more;
         remove-inserted =
             ap (removeAt (pendingOf l)) is
             ∙ out-at (pendingOf l) (into (length l) (pendingOf l) x l) room
             ∙ into-out (pendingOf l) x l inside (logs-used next l ok);
+        last-inserted =
+            sym (else-eq _ _ some refl)
+            ∙ ap (λ (p : ℕ). getD (insertAt (pendingOf l) x l) p noLog) place
+            ∙ ap (λ (k : List Log). getD k (pendingOf l) noLog) is
+            ∙ into-there (pendingOf l) x l inside;
       }

@@ -13,6 +13,7 @@ use Rattle.change.specs.declared.Change.the-variants.{Clear, Unclear, SetState,
 use Rattle.change.specs.declared.Tables.{Tables}
 use Rattle.formed.specs.Formed.{reasonOk, changeOk}
 use Rattle.journal.specs.laws.Bodies.{Writable}
+use Rattle.journal.specs.declared.Way.the-variants.{After}
 
 -- "0x25 reset prep": the log that it makes has the next id; 0x15, "4 pend or the next id is 256", did not hold
 pub record NewLog (r : Record) (n : ℕ) (log : Log) : Type 0 where
@@ -25,7 +26,7 @@ pub record NewLog (r : Record) (n : ℕ) (log : Log) : Type 0 where
 -- values that a well-formed record could hold, of the widths of its fields
 pub record Values (t : Tables) (ch : Change) : Type 0 where
   pub ok : changeOk t ch ≡ true
-  pub fits : Writable t ch
+  pub fits : Writable After t ch
 
 -- a clear names a log that pends; the others set values, or reset with a log or without; none takes back
 abbrev pub Made : Record → ℕ → Tables → Change → Type 0

@@ -1,7 +1,8 @@
 -- A well-formed session by its parts. Assumes nothing.
-use Prim.Native.Nat.{ℕ, _≤_}
+use Prim.Native.Nat.{ℕ, _+_, _≤_}
 use mathlib.Core.Bool.{Bool, true, false, cond, not, false≢true, true≢false}
 use mathlib.Core.Path.{_≡_, refl, sym, ap, _∙_}
+use mathlib.Core.List.{List}
 use native.Mathlib.Omega.{arith}
 use borrow.Author.Tests.{ltb-false, leb-true, eqb-true, eq-eqb}
 use lib.Dec.{ltb, eqb}
@@ -12,14 +13,16 @@ use Rattle.record.specs.Record.{workedOf}
 use Rattle.record.specs.declared.Worked.{Worked}
 use Rattle.formed.specs.Formed.{recordOk, nextOk}
 use Rattle.formed.specs.laws.Formed.{both-hold, hold-both, sound}
-use Rattle.journal.specs.Read.{journalOk}
+use Rattle.journal.specs.Read.{entriesOk}
 use Rattle.session.specs.declared.Session.{Session}
 use Rattle.change.specs.Change.{inverseOf}
 use Rattle.change.specs.declared.Edit.{Edit}
 use Rattle.journal.specs.Add.{endOf}
 use Rattle.journal.specs.declared.End.{End}
 use Rattle.journal.specs.declared.End.the-variants.{At, Full}
-use Rattle.session.specs.Session.{workedFits, heldOk, storeOk, wellFormed, withHeld, carriedTo, carriedOf}
+use Rattle.journal.specs.declared.Way.{Way}
+use Rattle.journal.specs.declared.Way.the-variants.{Before, After}
+use Rattle.session.specs.Session.{workedFits, heldOk, storeOk, storesOk, wellFormed, withHeld, carriedTo, carriedOf}
 
 -- a first test that must not hold, and the rest
 ltb-hold : (m n : ℕ) (b : Bool) → cond (ltb m n) false b ≡ true → (n ≤ m) × (b ≡ true)
@@ -48,29 +51,45 @@ worked-fits a =
     (else-ne _ _ {m = a .observation} {n = a .observation} refl
     (else-ne _ _ {m = a .active} {n = a .active} refl (sym (eq-eqb (a .wanted) (a .wanted) refl)))))
 
--- what the test for answer 1 says, part by part
+-- what the test for answer 1 says, part by part; of a store first
+pub record Store (w : Way) (j : List ℕ) (used : ℕ) : Type 0 where
+  pub fits : used ≤ length j
+  pub reads : entriesOk w (take used j) ≡ true
+  pub unused : allAre 0 (drop used j) ≡ true
+
+pub store : (w : Way) (j : List ℕ) (used : ℕ) → storeOk w j used ≡ true → Store w j used
+unfolding storeOk
+store w j used h =
+    let r = ltb-hold (length j) used _ h in
+    let t = both-hold (entriesOk w (take used j)) _ (r .1) in
+    record { fits = r .0; reads = t .0; unused = t .1 }
+
+pub store-ok : (w : Way) (j : List ℕ) (used : ℕ) → Store w j used → storeOk w j used ≡ true
+unfolding storeOk
+store-ok w j used f = sym (else-lt _ _ {m = length j} {n = used} (f .fits) (sym (hold-both (f .reads) (f .unused))))
+
 pub record Formed (s : Session) : Type 0 where
   pub record-ok : recordOk (s .held) (s .next) ≡ true
   pub worked-is : s .worked ≡ workedOf (s .held)
-  pub fits : s .used ≤ length (s .journal)
-  pub reads : journalOk (take (s .used) (s .journal)) ≡ true
-  pub unused : allAre 0 (drop (s .used) (s .journal)) ≡ true
+  pub both-fit : s .used + s .ahead ≤ 2048
+  pub journal : Store Before (s .journal) (s .used)
+  pub redo : Store After (s .redo) (s .ahead)
 
 pub formed : (s : Session) → wellFormed s ≡ true → Formed s
-unfolding wellFormed heldOk storeOk
+unfolding wellFormed heldOk storesOk
 formed s h =
     let p = both-hold (heldOk (s .held) (s .worked) (s .next)) _ h in
     let q = both-hold (recordOk (s .held) (s .next)) _ (p .0) in
-    let r = ltb-hold (length (s .journal)) (s .used) _ (p .1) in
-    let t = both-hold (journalOk (take (s .used) (s .journal))) _ (r .1) in
-    record { record-ok = q .0; worked-is = sym (worked-same _ _ (q .1)); fits = r .0; reads = t .0; unused = t .1 }
+    let r = ltb-hold 2048 (s .used + s .ahead) _ (p .1) in
+    let t = both-hold (storeOk Before (s .journal) (s .used)) _ (r .1) in
+    record { record-ok = q .0; worked-is = sym (worked-same _ _ (q .1)); both-fit = r .0; journal = store Before _ _ (t .0); redo = store After _ _ (t .1) }
 
 pub formed-ok : (s : Session) → Formed s → wellFormed s ≡ true
-unfolding wellFormed heldOk storeOk
+unfolding wellFormed heldOk storesOk
 formed-ok s f =
     hold-both
     (hold-both (f .record-ok) (ap (workedFits (workedOf (s .held))) (f .worked-is) ∙ worked-fits (workedOf (s .held))))
-    (sym (else-lt _ _ {m = length (s .journal)} {n = s .used} (f .fits) (sym (hold-both (f .reads) (f .unused)))))
+    (sym (else-lt _ _ {m = 2048} {n = s .used + s .ahead} (f .both-fit) (sym (hold-both (store-ok Before _ _ (f .journal)) (store-ok After _ _ (f .redo))))))
 
 pub formed-next : (s : Session) → wellFormed s ≡ true → s .next ≤ 256
 unfolding nextOk

@@ -1,21 +1,34 @@
 use mathlib.Core.Logic.{⊎-elim}
 use native.Mathlib.Omega.{arith}
-use Rattle.undo_call.proofs.Taking.{none-held, used-fits, newest-fits, not-whole, by-reading, entry-bad, entry-good}
+use Rattle.image.specs.laws.Stores.{store-low}
+use Rattle.undo_call.proofs.Taking.{none-held, sum-fits, count-fits, newest-fits, not-whole, by-reading, entry-bad, entry-good, entry-ends}
 use borrow.Author.Needs.{needs}
 use Rattle.undo_call.proofs.take_newest.Statement.{statement}
 use Rattle.undo_call.proofs.take_newest.Tie as tie
 
-cast-used : tie.Need-cast-used
-cast-used c = search needs
+cast-by-way : tie.Need-cast-by-way
+cast-by-way c = search needs
+
+cast-by-way-2 : tie.Need-cast-by-way-2
+cast-by-way-2 c = search needs
+
+by-way-requires : tie.Need-by-way-requires
+by-way-requires c κs = search needs
+
+none-left-requires : tie.Need-none-left-requires
+none-left-requires c κs = search needs
 
 answer-with-requires : tie.Need-answer-with-requires
 answer-with-requires c κs = search needs
 
 returns : tie.Need-returns
-returns c = none-held _ (c .before .before .before .before .args .lent .now) (c .before .before .before .before .pre .0) (c .before .before .before .before .pre .1) _ (c .answer-with .ensures) (c .before .if1 .taken)
+returns c = none-held (c .before .before .before .before .before .before .before .args .way) _ (c .before .before .before .before .before .before .before .args .lent .now) (c .before .before .before .before .before .before .before .pre .0) (c .before .before .before .before .before .before .before .pre .1) _ (c .before .before .before .by-way .ensures .0) _ _ (c .before .none-left .ensures) (c .answer-with .ensures) (c .before .before .if1 .taken)
+
+store-at-requires : tie.Need-store-at-requires
+store-at-requires c κs = search needs
 
 add-end : tie.Need-add-end
-add-end c = search needs
+add-end c = omega (arith, count-fits (c .before .before .before .before .before .before .args .way) _ (c .before .before .before .before .before .before .args .lent .now) (c .before .before .before .before .before .before .pre .0) (c .before .before .before .before .before .before .pre .1) _ (c .before .before .by-way .ensures .0), c .store-at .ensures, store-low (c .before .before .before .before .before .before .args .way))
 
 sub-read : tie.Need-sub-read
 sub-read c = search needs
@@ -24,7 +37,7 @@ part-read-start : tie.Need-part-read-start
 part-read-start c = search needs
 
 part-read-end : tie.Need-part-read-end
-part-read-end c = omega (arith, used-fits _ (c .before .before .before .before .args .lent .now) (c .before .before .before .before .pre .0) (c .before .before .before .before .pre .1), c .before .before .before .before .pre .0 .long)
+part-read-end c = omega (arith, count-fits (c .before .before .before .before .before .before .before .args .way) _ (c .before .before .before .before .before .before .before .args .lent .now) (c .before .before .before .before .before .before .before .pre .0) (c .before .before .before .before .before .before .before .pre .1) _ (c .before .before .before .by-way .ensures .0), c .before .before .before .before .before .before .before .pre .0 .long, c .before .store-at .ensures, store-low (c .before .before .before .before .before .before .before .args .way))
 
 read-requires : tie.Need-read-requires
 read-requires c κs = search needs
@@ -39,19 +52,19 @@ same-length : tie.Need-same-length
 same-length c = search needs
 
 returns-2 : tie.Need-returns-2
-returns-2 c = not-whole _ (c .before .before .before .before .before .before .before .before .args .lent .now) (c .before .before .before .before .before .before .before .before .pre .0) (c .before .before .before .before .before .before .before .before .pre .1) (c .before .before .before .before .before .if1 .left) _ (c .before .before .read .ensures .0) _ (c .answer-with2 .ensures) (λ z. ⊎-elim (λ e. omega arith) (λ e. omega arith) (c .before .match .keys2))
+returns-2 c = not-whole (c .before .before .before .before .before .before .before .before .before .before .before .args .way) _ (c .before .before .before .before .before .before .before .before .before .before .before .args .lent .now) (c .before .before .before .before .before .before .before .before .before .before .before .pre .0) (c .before .before .before .before .before .before .before .before .before .before .before .pre .1) _ (c .before .before .before .before .before .store-at .ensures) _ (c .before .before .before .before .before .before .before .by-way .ensures .0) (c .before .before .before .before .before .before .if1 .left) _ (c .before .before .read .ensures .0) _ (c .answer-with2 .ensures) (λ z. ⊎-elim (λ e. omega arith) (λ e. omega arith) (c .before .match .keys2))
 
 add-start : tie.Need-add-start
-add-start c = omega (arith, used-fits _ (c .before .before .before .before .before .before .before .before .before .args .lent .now) (c .before .before .before .before .before .before .before .before .before .pre .0) (c .before .before .before .before .before .before .before .before .before .pre .1), newest-fits _ (c .before .before .before .before .before .before .before .before .before .args .lent .now) (c .before .before .before .before .before .before .before .before .before .pre .0) (c .before .before .before .before .before .before .before .before .before .pre .1) (c .before .before .before .before .before .before .if1 .left) _ (c .before .before .before .read .ensures .0) (c .before .before .before .read .ensures .1) _ _ (c .before .reading .given .1))
+add-start c = omega (arith, count-fits (c .before .before .before .before .before .before .before .before .before .before .before .before .args .way) _ (c .before .before .before .before .before .before .before .before .before .before .before .before .args .lent .now) (c .before .before .before .before .before .before .before .before .before .before .before .before .pre .0) (c .before .before .before .before .before .before .before .before .before .before .before .before .pre .1) _ (c .before .before .before .before .before .before .before .before .by-way .ensures .0), newest-fits (c .before .before .before .before .before .before .before .before .before .before .before .before .args .way) _ (c .before .before .before .before .before .before .before .before .before .before .before .before .args .lent .now) (c .before .before .before .before .before .before .before .before .before .before .before .before .pre .0) (c .before .before .before .before .before .before .before .before .before .before .before .before .pre .1) _ (c .before .before .before .before .before .before .store-at .ensures) _ (c .before .before .before .before .before .before .before .before .by-way .ensures .0) (c .before .before .before .before .before .before .before .if1 .left) _ (c .before .before .before .read .ensures .0) (c .before .before .before .read .ensures .1) _ _ (c .before .reading .given .1), c .before .before .before .before .before .before .store-at .ensures, store-low (c .before .before .before .before .before .before .before .before .before .before .before .before .args .way))
 
 sub-get : tie.Need-sub-get
-sub-get c = omega (arith, newest-fits _ (c .before .before .before .before .before .before .before .before .before .args .lent .now) (c .before .before .before .before .before .before .before .before .before .pre .0) (c .before .before .before .before .before .before .before .before .before .pre .1) (c .before .before .before .before .before .before .if1 .left) _ (c .before .before .before .read .ensures .0) (c .before .before .before .read .ensures .1) _ _ (c .before .reading .given .1))
+sub-get c = omega (arith, newest-fits (c .before .before .before .before .before .before .before .before .before .before .before .before .args .way) _ (c .before .before .before .before .before .before .before .before .before .before .before .before .args .lent .now) (c .before .before .before .before .before .before .before .before .before .before .before .before .pre .0) (c .before .before .before .before .before .before .before .before .before .before .before .before .pre .1) _ (c .before .before .before .before .before .before .store-at .ensures) _ (c .before .before .before .before .before .before .before .before .by-way .ensures .0) (c .before .before .before .before .before .before .before .if1 .left) _ (c .before .before .before .read .ensures .0) (c .before .before .before .read .ensures .1) _ _ (c .before .reading .given .1))
 
 part-get-start : tie.Need-part-get-start
-part-get-start c = omega (arith, newest-fits _ (c .before .before .before .before .before .before .before .before .before .before .args .lent .now) (c .before .before .before .before .before .before .before .before .before .before .pre .0) (c .before .before .before .before .before .before .before .before .before .before .pre .1) (c .before .before .before .before .before .before .before .if1 .left) _ (c .before .before .before .before .read .ensures .0) (c .before .before .before .before .read .ensures .1) _ _ (c .before .before .reading .given .1))
+part-get-start c = omega (arith, newest-fits (c .before .before .before .before .before .before .before .before .before .before .before .before .before .args .way) _ (c .before .before .before .before .before .before .before .before .before .before .before .before .before .args .lent .now) (c .before .before .before .before .before .before .before .before .before .before .before .before .before .pre .0) (c .before .before .before .before .before .before .before .before .before .before .before .before .before .pre .1) _ (c .before .before .before .before .before .before .before .store-at .ensures) _ (c .before .before .before .before .before .before .before .before .before .by-way .ensures .0) (c .before .before .before .before .before .before .before .before .if1 .left) _ (c .before .before .before .before .read .ensures .0) (c .before .before .before .before .read .ensures .1) _ _ (c .before .before .reading .given .1))
 
 part-get-end : tie.Need-part-get-end
-part-get-end c = omega (arith, used-fits _ (c .before .before .before .before .before .before .before .before .before .before .args .lent .now) (c .before .before .before .before .before .before .before .before .before .before .pre .0) (c .before .before .before .before .before .before .before .before .before .before .pre .1), c .before .before .before .before .before .before .before .before .before .before .pre .0 .long)
+part-get-end c = omega (arith, count-fits (c .before .before .before .before .before .before .before .before .before .before .before .before .before .args .way) _ (c .before .before .before .before .before .before .before .before .before .before .before .before .before .args .lent .now) (c .before .before .before .before .before .before .before .before .before .before .before .before .before .pre .0) (c .before .before .before .before .before .before .before .before .before .before .before .before .before .pre .1) _ (c .before .before .before .before .before .before .before .before .before .by-way .ensures .0), c .before .before .before .before .before .before .before .before .before .before .before .before .before .pre .0 .long, c .before .before .before .before .before .before .before .store-at .ensures, store-low (c .before .before .before .before .before .before .before .before .before .before .before .before .before .args .way))
 
 get-requires : tie.Need-get-requires
 get-requires c κs = search needs
@@ -69,24 +82,28 @@ same-length-2 : tie.Need-same-length-2
 same-length-2 c = search needs
 
 returns-3 : tie.Need-returns-3
-returns-3 c = by-reading _ (c .before .before .before .before .before .before .before .before .before .before .before .before .before .before .before .before .args .lent .now) (c .before .before .before .before .before .before .before .before .before .before .before .before .before .before .before .before .pre .0) (c .before .before .before .before .before .before .before .before .before .before .before .before .before .before .before .before .pre .1) (c .before .before .before .before .before .before .before .before .before .before .before .before .before .if1 .left) _ (c .before .before .before .before .before .before .before .before .before .before .read .ensures .0) _ _ (entry-bad _ (c .before .before .before .before .before .before .before .before .before .before .before .before .before .before .before .before .args .lent .now) (c .before .before .before .before .before .before .before .before .before .before .before .before .before .before .before .before .pre .0) (used-fits _ (c .before .before .before .before .before .before .before .before .before .before .before .before .before .before .before .before .args .lent .now) (c .before .before .before .before .before .before .before .before .before .before .before .before .before .before .before .before .pre .0) (c .before .before .before .before .before .before .before .before .before .before .before .before .before .before .before .before .pre .1)) _ (newest-fits _ (c .before .before .before .before .before .before .before .before .before .before .before .before .before .before .before .before .args .lent .now) (c .before .before .before .before .before .before .before .before .before .before .before .before .before .before .before .before .pre .0) (c .before .before .before .before .before .before .before .before .before .before .before .before .before .before .before .before .pre .1) (c .before .before .before .before .before .before .before .before .before .before .before .before .before .if1 .left) _ (c .before .before .before .before .before .before .before .before .before .before .read .ensures .0) (c .before .before .before .before .before .before .before .before .before .before .read .ensures .1) _ _ (c .before .before .before .before .before .before .before .before .reading .given .1)) _ (c .before .before .before .before .get .ensures) _ _ _ (c .answer-with3 .ensures) (c .before .enum-told .given .1) (c .before .before .before .before .before .before .before .before .reading .given .1))
+returns-3 c = by-reading (c .before .before .before .before .before .before .before .before .before .before .before .before .before .before .before .before .before .before .before .args .way) _ (c .before .before .before .before .before .before .before .before .before .before .before .before .before .before .before .before .before .before .before .args .lent .now) (c .before .before .before .before .before .before .before .before .before .before .before .before .before .before .before .before .before .before .before .pre .0) (c .before .before .before .before .before .before .before .before .before .before .before .before .before .before .before .before .before .before .before .pre .1) _ (c .before .before .before .before .before .before .before .before .before .before .before .before .before .store-at .ensures) _ (c .before .before .before .before .before .before .before .before .before .before .before .before .before .before .before .by-way .ensures .0) (c .before .before .before .before .before .before .before .before .before .before .before .before .before .before .if1 .left) _ (c .before .before .before .before .before .before .before .before .before .before .read .ensures .0) _ _ (entry-bad (c .before .before .before .before .before .before .before .before .before .before .before .before .before .before .before .before .before .before .before .args .way) _ (c .before .before .before .before .before .before .before .before .before .before .before .before .before .before .before .before .before .before .before .args .lent .now) (c .before .before .before .before .before .before .before .before .before .before .before .before .before .before .before .before .before .before .before .pre .0) _ (c .before .before .before .before .before .before .before .before .before .before .before .before .before .store-at .ensures) _ (c .before .before .before .before .before .before .before .before .before .before .before .before .before .before .before .by-way .ensures .0) (count-fits (c .before .before .before .before .before .before .before .before .before .before .before .before .before .before .before .before .before .before .before .args .way) _ (c .before .before .before .before .before .before .before .before .before .before .before .before .before .before .before .before .before .before .before .args .lent .now) (c .before .before .before .before .before .before .before .before .before .before .before .before .before .before .before .before .before .before .before .pre .0) (c .before .before .before .before .before .before .before .before .before .before .before .before .before .before .before .before .before .before .before .pre .1) _ (c .before .before .before .before .before .before .before .before .before .before .before .before .before .before .before .by-way .ensures .0)) _ (newest-fits (c .before .before .before .before .before .before .before .before .before .before .before .before .before .before .before .before .before .before .before .args .way) _ (c .before .before .before .before .before .before .before .before .before .before .before .before .before .before .before .before .before .before .before .args .lent .now) (c .before .before .before .before .before .before .before .before .before .before .before .before .before .before .before .before .before .before .before .pre .0) (c .before .before .before .before .before .before .before .before .before .before .before .before .before .before .before .before .before .before .before .pre .1) _ (c .before .before .before .before .before .before .before .before .before .before .before .before .before .store-at .ensures) _ (c .before .before .before .before .before .before .before .before .before .before .before .before .before .before .before .by-way .ensures .0) (c .before .before .before .before .before .before .before .before .before .before .before .before .before .before .if1 .left) _ (c .before .before .before .before .before .before .before .before .before .before .read .ensures .0) (c .before .before .before .before .before .before .before .before .before .before .read .ensures .1) _ _ (c .before .before .before .before .before .before .before .before .reading .given .1)) _ (c .before .before .before .before .get .ensures) _ _ _ (c .answer-with3 .ensures) (c .before .enum-told .given .1) (c .before .before .before .before .before .before .before .before .reading .given .1))
 
-take-back-requires : tie.Need-take-back-requires
-take-back-requires c κs = (c .before .before .before .before .before .before .before .before .before .before .before .before .before .before .before .before .before .pre .0, newest-fits _ (c .before .before .before .before .before .before .before .before .before .before .before .before .before .before .before .before .before .args .lent .now) (c .before .before .before .before .before .before .before .before .before .before .before .before .before .before .before .before .before .pre .0) (c .before .before .before .before .before .before .before .before .before .before .before .before .before .before .before .before .before .pre .1) (c .before .before .before .before .before .before .before .before .before .before .before .before .before .before .if1 .left) _ (c .before .before .before .before .before .before .before .before .before .before .before .read .ensures .0) (c .before .before .before .before .before .before .before .before .before .before .before .read .ensures .1) _ _ (c .before .before .before .before .before .before .before .before .before .reading .given .1), used-fits _ (c .before .before .before .before .before .before .before .before .before .before .before .before .before .before .before .before .before .args .lent .now) (c .before .before .before .before .before .before .before .before .before .before .before .before .before .before .before .before .before .pre .0) (c .before .before .before .before .before .before .before .before .before .before .before .before .before .before .before .before .before .pre .1))
+take-requires : tie.Need-take-requires
+take-requires c κs = (c .before .before .before .before .before .before .before .before .before .before .before .before .before .before .before .before .before .before .before .before .pre .0, entry-ends (c .before .before .before .before .before .before .before .before .before .before .before .before .before .before .before .before .before .before .before .before .args .way) _ (c .before .before .before .before .before .before .before .before .before .before .before .before .before .before .before .before .before .before .before .before .args .lent .now) (c .before .before .before .before .before .before .before .before .before .before .before .before .before .before .before .before .before .before .before .before .pre .0) _ (c .before .before .before .before .before .before .before .before .before .before .before .before .before .before .store-at .ensures) _ (c .before .before .before .before .before .before .before .before .before .before .before .before .before .before .before .before .by-way .ensures .0) (count-fits (c .before .before .before .before .before .before .before .before .before .before .before .before .before .before .before .before .before .before .before .before .args .way) _ (c .before .before .before .before .before .before .before .before .before .before .before .before .before .before .before .before .before .before .before .before .args .lent .now) (c .before .before .before .before .before .before .before .before .before .before .before .before .before .before .before .before .before .before .before .before .pre .0) (c .before .before .before .before .before .before .before .before .before .before .before .before .before .before .before .before .before .before .before .before .pre .1) _ (c .before .before .before .before .before .before .before .before .before .before .before .before .before .before .before .before .by-way .ensures .0)) _ (newest-fits (c .before .before .before .before .before .before .before .before .before .before .before .before .before .before .before .before .before .before .before .before .args .way) _ (c .before .before .before .before .before .before .before .before .before .before .before .before .before .before .before .before .before .before .before .before .args .lent .now) (c .before .before .before .before .before .before .before .before .before .before .before .before .before .before .before .before .before .before .before .before .pre .0) (c .before .before .before .before .before .before .before .before .before .before .before .before .before .before .before .before .before .before .before .before .pre .1) _ (c .before .before .before .before .before .before .before .before .before .before .before .before .before .before .store-at .ensures) _ (c .before .before .before .before .before .before .before .before .before .before .before .before .before .before .before .before .by-way .ensures .0) (c .before .before .before .before .before .before .before .before .before .before .before .before .before .before .before .if1 .left) _ (c .before .before .before .before .before .before .before .before .before .before .before .read .ensures .0) (c .before .before .before .before .before .before .before .before .before .before .before .read .ensures .1) _ _ (c .before .before .before .before .before .before .before .before .before .reading .given .1)) _ (c .before .before .before .before .before .get .ensures) _ (c .before .before .found .given .1), sum-fits (c .before .before .before .before .before .before .before .before .before .before .before .before .before .before .before .before .before .before .before .before .args .way) _ (c .before .before .before .before .before .before .before .before .before .before .before .before .before .before .before .before .before .before .before .before .args .lent .now) (c .before .before .before .before .before .before .before .before .before .before .before .before .before .before .before .before .before .before .before .before .pre .0) (c .before .before .before .before .before .before .before .before .before .before .before .before .before .before .before .before .before .before .before .before .pre .1))
 
 same-length-3 : tie.Need-same-length-3
 same-length-3 c = search needs
 
 returns-4 : tie.Need-returns-4
-returns-4 c = by-reading _ (c .before .before .before .before .before .before .before .before .before .before .before .before .before .before .before .before .before .before .before .before .args .lent .now) (c .before .before .before .before .before .before .before .before .before .before .before .before .before .before .before .before .before .before .before .before .pre .0) (c .before .before .before .before .before .before .before .before .before .before .before .before .before .before .before .before .before .before .before .before .pre .1) (c .before .before .before .before .before .before .before .before .before .before .before .before .before .before .before .before .before .if1 .left) _ (c .before .before .before .before .before .before .before .before .before .before .before .before .before .before .read .ensures .0) _ _ (entry-good _ (c .before .before .before .before .before .before .before .before .before .before .before .before .before .before .before .before .before .before .before .before .args .lent .now) (c .before .before .before .before .before .before .before .before .before .before .before .before .before .before .before .before .before .before .before .before .pre .0) (used-fits _ (c .before .before .before .before .before .before .before .before .before .before .before .before .before .before .before .before .before .before .before .before .args .lent .now) (c .before .before .before .before .before .before .before .before .before .before .before .before .before .before .before .before .before .before .before .before .pre .0) (c .before .before .before .before .before .before .before .before .before .before .before .before .before .before .before .before .before .before .before .before .pre .1)) _ (newest-fits _ (c .before .before .before .before .before .before .before .before .before .before .before .before .before .before .before .before .before .before .before .before .args .lent .now) (c .before .before .before .before .before .before .before .before .before .before .before .before .before .before .before .before .before .before .before .before .pre .0) (c .before .before .before .before .before .before .before .before .before .before .before .before .before .before .before .before .before .before .before .before .pre .1) (c .before .before .before .before .before .before .before .before .before .before .before .before .before .before .before .before .before .if1 .left) _ (c .before .before .before .before .before .before .before .before .before .before .before .before .before .before .read .ensures .0) (c .before .before .before .before .before .before .before .before .before .before .before .before .before .before .read .ensures .1) _ _ (c .before .before .before .before .before .before .before .before .before .before .before .before .reading .given .1)) _ (c .before .before .before .before .before .before .before .before .get .ensures) _ _ _ _ _ (c .before .before .before .before .before .found .given .1) (c .before .before .before .before .before .before .before .before .before .before .before .before .reading .given .1) (c .before .before .take-back .ensures))
+returns-4 c = by-reading (c .before .before .before .before .before .before .before .before .before .before .before .before .before .before .before .before .before .before .before .before .before .before .before .args .way) _ (c .before .before .before .before .before .before .before .before .before .before .before .before .before .before .before .before .before .before .before .before .before .before .before .args .lent .now) (c .before .before .before .before .before .before .before .before .before .before .before .before .before .before .before .before .before .before .before .before .before .before .before .pre .0) (c .before .before .before .before .before .before .before .before .before .before .before .before .before .before .before .before .before .before .before .before .before .before .before .pre .1) _ (c .before .before .before .before .before .before .before .before .before .before .before .before .before .before .before .before .before .store-at .ensures) _ (c .before .before .before .before .before .before .before .before .before .before .before .before .before .before .before .before .before .before .before .by-way .ensures .0) (c .before .before .before .before .before .before .before .before .before .before .before .before .before .before .before .before .before .before .if1 .left) _ (c .before .before .before .before .before .before .before .before .before .before .before .before .before .before .read .ensures .0) _ _ (entry-good (c .before .before .before .before .before .before .before .before .before .before .before .before .before .before .before .before .before .before .before .before .before .before .before .args .way) _ (c .before .before .before .before .before .before .before .before .before .before .before .before .before .before .before .before .before .before .before .before .before .before .before .args .lent .now) (c .before .before .before .before .before .before .before .before .before .before .before .before .before .before .before .before .before .before .before .before .before .before .before .pre .0) _ (c .before .before .before .before .before .before .before .before .before .before .before .before .before .before .before .before .before .store-at .ensures) _ (c .before .before .before .before .before .before .before .before .before .before .before .before .before .before .before .before .before .before .before .by-way .ensures .0) (count-fits (c .before .before .before .before .before .before .before .before .before .before .before .before .before .before .before .before .before .before .before .before .before .before .before .args .way) _ (c .before .before .before .before .before .before .before .before .before .before .before .before .before .before .before .before .before .before .before .before .before .before .before .args .lent .now) (c .before .before .before .before .before .before .before .before .before .before .before .before .before .before .before .before .before .before .before .before .before .before .before .pre .0) (c .before .before .before .before .before .before .before .before .before .before .before .before .before .before .before .before .before .before .before .before .before .before .before .pre .1) _ (c .before .before .before .before .before .before .before .before .before .before .before .before .before .before .before .before .before .before .before .by-way .ensures .0)) _ (newest-fits (c .before .before .before .before .before .before .before .before .before .before .before .before .before .before .before .before .before .before .before .before .before .before .before .args .way) _ (c .before .before .before .before .before .before .before .before .before .before .before .before .before .before .before .before .before .before .before .before .before .before .before .args .lent .now) (c .before .before .before .before .before .before .before .before .before .before .before .before .before .before .before .before .before .before .before .before .before .before .before .pre .0) (c .before .before .before .before .before .before .before .before .before .before .before .before .before .before .before .before .before .before .before .before .before .before .before .pre .1) _ (c .before .before .before .before .before .before .before .before .before .before .before .before .before .before .before .before .before .store-at .ensures) _ (c .before .before .before .before .before .before .before .before .before .before .before .before .before .before .before .before .before .before .before .by-way .ensures .0) (c .before .before .before .before .before .before .before .before .before .before .before .before .before .before .before .before .before .before .if1 .left) _ (c .before .before .before .before .before .before .before .before .before .before .before .before .before .before .read .ensures .0) (c .before .before .before .before .before .before .before .before .before .before .before .before .before .before .read .ensures .1) _ _ (c .before .before .before .before .before .before .before .before .before .before .before .before .reading .given .1)) _ (c .before .before .before .before .before .before .before .before .get .ensures) _ _ _ _ _ (c .before .before .before .before .before .found .given .1) (c .before .before .before .before .before .before .before .before .before .before .before .before .reading .given .1) (c .before .before .take .ensures))
 
 pub take-newest-spec : {M : Type 1} → statement M
 take-newest-spec =
     tie.close
     (tie.spec
-    cast-used
+    cast-by-way
+    cast-by-way-2
+    by-way-requires
+    none-left-requires
     answer-with-requires
     returns
+    store-at-requires
     add-end
     sub-read
     part-read-start
@@ -106,6 +123,6 @@ take-newest-spec =
     answer-with-requires-3
     same-length-2
     returns-3
-    take-back-requires
+    take-requires
     same-length-3
     returns-4)

@@ -1,0 +1,56 @@
+-- Demand 3 with redo: "each mark knows by which accepted undo it was struck; an accepted redo unstrikes the one with the latest stroke that is still struck".
+use Prim.Native.Nat.{ℕ, _+_}
+use mathlib.Core.Bool.{cond}
+use mathlib.Core.List.{List, [], _∷_}
+use lib.Dec.{eqb, ltb}
+use Rattle.change.specs.declared.Edit.{Edit}
+use Rattle.session.specs.Session.{madeOf}
+use Rattle.promises.specs.Ids.{idOf}
+
+-- a change, and by which accepted undo it is struck out, counted from 1; 0: it is not
+pub record Mark : Type 0 where
+  pub edit : Edit
+  pub stroke : ℕ
+
+-- ---- the changes, newest first
+
+-- "For each accepted undo, strike out the newest change not yet struck": undo number n
+unfoldable pub strike : ℕ → List Mark → List Mark
+strike n [] = []
+strike n (m ∷ ms) = cond (eqb (m .stroke) 0) (record { edit = m .edit; stroke = n } ∷ ms) (m ∷ strike n ms)
+
+-- the latest stroke of those still struck, 0 where none is
+unfoldable pub latest : List Mark → ℕ
+latest [] = 0
+latest (m ∷ ms) = cond (ltb (latest ms) (m .stroke)) (m .stroke) (latest ms)
+
+-- "an accepted redo unstrikes the change last struck and still struck": the one struck by undo n is struck no longer
+unfoldable pub unstrike : ℕ → List Mark → List Mark
+unstrike n [] = []
+unstrike n (m ∷ ms) = cond (eqb (m .stroke) n) (record { edit = m .edit; stroke = 0 } ∷ ms) (m ∷ unstrike n ms)
+
+-- the changes that are left
+unfoldable pub left : List Mark → List Edit
+left [] = []
+left (m ∷ ms) = cond (eqb (m .stroke) 0) (m .edit ∷ left ms) (left ms)
+
+-- the logs ever made, struck out or not
+unfoldable pub logsMade : List Mark → ℕ
+logsMade [] = 0
+logsMade (m ∷ ms) = logsMade ms + madeOf (m .edit .change)
+
+-- the ids of all logs ever made, newest first
+unfoldable pub idsMade : List Mark → List ℕ
+idsMade [] = []
+idsMade (m ∷ ms) = cond (eqb (idOf (m .edit .change)) 0) (idsMade ms) (idOf (m .edit .change) ∷ idsMade ms)
+
+-- ---- the answers
+
+-- "while one is left, undo is accepted"
+unfoldable pub undoAnswer : List Edit → ℕ
+undoAnswer [] = 6
+undoAnswer (e ∷ es) = 0
+
+-- "Redo is accepted exactly while something was struck since the last accepted change, and not yet unstruck"; since: the undos accepted before that change
+unfoldable pub redoAnswer : ℕ → List Mark → ℕ
+redoAnswer since ms = cond (ltb since (latest ms)) 0 8

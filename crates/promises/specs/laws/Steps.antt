@@ -282,7 +282,7 @@ module _ (base : Record) (e : Edit) (es : List Edit) (n : ℕ) (rs : List Edit) 
         ap (moveCall After) (flip r (suc n) (backs base es) (e ∷ rs))
         ∙ moved-standing After r (suc n) e rs (backs base es) formed (ahead-stored base (suc n) es (e ∷ rs) (g .ahead)) (omega (arith, g .fits))
         (putOf r e .after) (put-whole (putOf r e) (l .put-accepted)) after-ok (inverseOf r e) refl (length-entry Before (inverseOf r e) (l .back-writable)) (same-length again)
-        ∙ (λ i. record { answer = 0; kind = kindOf (e .change); session = flip (putOf r e .after) (suc n) (inverseOf r e ∷ backs base es) rs (~ i) })
+        ∙ ap (λ (s : Session). record { answer = 0; kind = kindOf (e .change); session = s }) (sym (flip (putOf r e .after) (suc n) (inverseOf r e ∷ backs base es) rs))
 
     pub redone-sane : Sane base (e ∷ es) n rs
     unfolding replay

@@ -20,6 +20,8 @@ pub mod ComputedSbe
 pub mod Outcomes
 pub mod OccWays
 pub mod OccAsks
+pub mod Stores
+pub mod Room
 pub mod Replies
 pub mod OccDemands
 pub mod SbeDemands

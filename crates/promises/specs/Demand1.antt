@@ -1,4 +1,4 @@
--- Demand 1, as document 01's tables: each session answer, and with answer 0 each status, when its row holds and none before it.
+-- Demand 1, as document 01's tables, with document 02's additions: each session answer, and with answer 0 each status, when its row holds and none before it.
 use Prim.Native.Nat.{ℕ, _+_, _≤_, _<_}
 use mathlib.Core.Bool.{true}
 use mathlib.Core.Path.{_≡_}
@@ -8,6 +8,8 @@ use Rattle.wire.specs.Wire.{toBE, packetSum}
 use Rattle.wire.specs.Conditions.{_and_, is, row}
 use Rattle.record.specs.Record.{workedOf}
 use Rattle.change.specs.declared.Edit.{Edit}
+use Rattle.journal.specs.declared.Way.{Way}
+use Rattle.journal.specs.declared.Way.the-variants.{Before, After}
 use Rattle.packet.specs.Packet.{dataOf}
 use Rattle.packet.specs.Conditions.{Overlong, Summed}
 use Rattle.occ.specs.Statuses.{CommandStatus}
@@ -18,7 +20,8 @@ use Rattle.session.specs.Session.{wellFormed}
 use Rattle.session.specs.declared.Session.{Session}
 use Rattle.occ_call.specs.Occ.{OccResult, says}
 use Rattle.sbe_call.specs.Sbe.{SbeResult, rung}
-use Rattle.promises.specs.Demand2.{atFront, entryLength, KnownSender, WellAsked, occKind, NotPoll, sbeKind, Newest, Undoable}
+use Rattle.undo_call.specs.Undo.{usedOf}
+use Rattle.promises.specs.Demand2.{atFront, entryLength, KnownSender, WellAsked, occKind, NotPoll, sbeKind, Newest, Movable}
 
 -- ---- session answers
 
@@ -43,13 +46,21 @@ SbeAnswer s r d =
     (row 5 (Accepted r and NoRoom s (sbeKind r))
     (is 0))))
 
--- 7: the newest entry is there, and one of the cases holds
-unfoldable pub UndoAnswer : Session → ℕ → Type 0
-UndoAnswer s =
+-- undo and redo, each with its number for an empty store. 7: the newest entry is there, and one of the cases holds
+unfoldable pub MoveAnswer : Way → ℕ → Session → ℕ → Type 0
+MoveAnswer w empty s =
     row 1 (wellFormed s ≡ true → ⊥)
-    (row 6 (s .used ≡ 0)
-    (row 7 ((e : Edit) × (Newest s e and (Undoable s e → ⊥)))
+    (row empty (usedOf w s ≡ 0)
+    (row 7 ((e : Edit) × (Newest w s e and (Movable s e → ⊥)))
     (is 0)))
+
+-- 6: "undo with an empty journal"
+abbrev pub UndoAnswer : Session → ℕ → Type 0
+UndoAnswer s = MoveAnswer Before 6 s
+
+-- document 02, d: "8, nothing to redo, tested where 6 is; 7 covers redo alike"
+abbrev pub RedoAnswer : Session → ℕ → Type 0
+RedoAnswer s = MoveAnswer After 8 s
 
 -- ---- statuses, where none of answers 1 to 4 is due
 

@@ -18,6 +18,8 @@ use Rattle.formed.specs.Formed.{recordOk}
 use Rattle.entries.specs.Entries.{Entry, bodyLen, between, scan}
 use Rattle.journal.specs.Read.{foundFor, tablesIn}
 use Rattle.journal.specs.declared.Found.the-variants.{Good}
+use Rattle.journal.specs.declared.Way.{Way}
+use Rattle.journal.specs.declared.Way.the-variants.{Before, After}
 use Rattle.packet.specs.Packet.{dataOf, replyBytes}
 use Rattle.packet.specs.Conditions.{Fits, Summed}
 use Rattle.poll.specs.Poll.{pollData}
@@ -27,6 +29,7 @@ use Rattle.sbe.specs.Conditions.{Accepted}
 use Rattle.session.specs.declared.Session.{Session}
 use Rattle.occ_call.specs.Occ.{occCall}
 use Rattle.sbe_call.specs.Sbe.{sbeCall}
+use Rattle.undo_call.specs.Undo.{storeOf, usedOf}
 
 -- "reply; bytes past it kept": a reply at the front of the buffer
 abbrev pub atFront : List ℕ → List ℕ → List ℕ
@@ -92,36 +95,42 @@ SbeAccepted s r d = (32 ≤ length d) and (32 ≤ length r) and Accepted r and H
 unfoldable pub SbeSucceeds : Session → List ℕ → List ℕ → Type 0
 SbeSucceeds s r d = (sbeCall s r d .outcome .answer ≡ 0) and (sbeCall s r d .reply ≡ atFront (responseBytes 0x00 0x00 r) d)
 
--- ---- undo
+-- ---- undo and redo (document 02, d): one road walked both ways, Before is undo and After redo (undo_call/specs/Undo.antt)
 
--- the newest entry of the used journal says that this was before
-pub record Newest (s : Session) (e : Edit) : Type 0 where
+-- the newest entry of the way's store says this: the journal's what was before, the redo store's "what was after"
+pub record Newest (w : Way) (s : Session) (e : Edit) : Type 0 where
   pub entry : Entry
   pub older : List Entry
-  pub read : scan (take (s .used) (s .journal)) ≡ between (entry ∷ older)
-  pub change : foundFor (entry .kind) (entry .body) ≡ Good (e .change)
+  pub read : scan (take (usedOf w s) (storeOf w s)) ≡ between (entry ∷ older)
+  pub change : foundFor w (entry .kind) (entry .body) ≡ Good (e .change)
   pub tables : tablesIn (entry .kind) (entry .body) ≡ e .tables
 
--- answer 7: "a cleared log's place is above the number pending or 4 pend, or the entry says a log was made and none pends". An entry never says
--- the two changes that only commands make
-abbrev pub TakesBack : Record → Change → Type 0
-TakesBack r (Unclear place log) = (place ≤ pendingOf (r .logs)) and (pendingOf (r .logs) < 4)
-TakesBack r (Unreset state made) = (made ≡ 0) ⊎ (1 ≤ pendingOf (r .logs))
-TakesBack r (SetState state) = Unit {0}
-TakesBack r (SetRole got role) = Unit {0}
-TakesBack r (SetCaps got caps) = Unit {0}
-TakesBack r (SetUser user) = Unit {0}
-TakesBack r (SetThermal got) = Unit {0}
-TakesBack r (SetThrottles got) = Unit {0}
-TakesBack r (SetMask mask) = Unit {0}
-TakesBack r (SetDeadman deadman) = Unit {0}
-TakesBack r (SetAreas areas) = Unit {0}
-TakesBack r (Clear place log) = pendsAt place log (r .logs) ≡ true
-TakesBack r (Reset log) = (log .id ≡ 0) ⊎ (pendingOf (r .logs) < 4)
+-- answer 7: "a cleared log's place is above the number pending or 4 pend, or the entry says a log was made and none pends". "7 covers redo alike, a
+-- clear whose log isn't at its place included": the redo store's entries say `Clear` and `Reset`, which brings its log back, where 4 don't pend
+abbrev pub GoesIn : Record → Change → Type 0
+GoesIn r (Unclear place log) = (place ≤ pendingOf (r .logs)) and (pendingOf (r .logs) < 4)
+GoesIn r (Unreset state made) = (made ≡ 0) ⊎ (1 ≤ pendingOf (r .logs))
+GoesIn r (Clear place log) = pendsAt place log (r .logs) ≡ true
+GoesIn r (Reset log) = (log .id ≡ 0) ⊎ (pendingOf (r .logs) < 4)
+GoesIn r (SetState state) = Unit {0}
+GoesIn r (SetRole got role) = Unit {0}
+GoesIn r (SetCaps got caps) = Unit {0}
+GoesIn r (SetUser user) = Unit {0}
+GoesIn r (SetThermal got) = Unit {0}
+GoesIn r (SetThrottles got) = Unit {0}
+GoesIn r (SetMask mask) = Unit {0}
+GoesIn r (SetDeadman deadman) = Unit {0}
+GoesIn r (SetAreas areas) = Unit {0}
 
--- none of answer 7's cases: it can be taken back, and the record that it gives is well formed
-abbrev pub Undoable : Session → Edit → Type 0
-Undoable s e = TakesBack (s .held) (e .change) and (recordOk (putOf (s .held) e .after) (s .next) ≡ true)
+-- none of answer 7's cases: what the entry says goes in, and the record that it gives is well formed
+abbrev pub Movable : Session → Edit → Type 0
+Movable s e = GoesIn (s .held) (e .change) and (recordOk (putOf (s .held) e .after) (s .next) ≡ true)
+
+abbrev pub MoveAccepted : Way → Session → Type 0
+MoveAccepted w s = (e : Edit) × (Newest w s e and Movable s e)
 
 abbrev pub UndoAccepted : Session → Type 0
-UndoAccepted s = (e : Edit) × (Newest s e and Undoable s e)
+UndoAccepted s = MoveAccepted Before s
+
+abbrev pub RedoAccepted : Session → Type 0
+RedoAccepted s = MoveAccepted After s

@@ -1,4 +1,5 @@
--- Demand 2, the effects: what the session is after each accepted command, one row a command. All that a row doesn't name is as before.
+-- Demand 2, the effects: what the session is after each accepted command, one row a command, and after an accepted undo or redo. All that a row doesn't
+-- name is as before.
 use Prim.Native.Nat.{ℕ, _+_, _-_, _%_, _<_}
 use mathlib.Core.Logic.{_⊎_}
 use mathlib.Core.Path.{_≡_}
@@ -11,26 +12,25 @@ use Rattle.record.specs.declared.Throttles.{Throttles}
 use Rattle.record.specs.declared.Record.{Record}
 use Rattle.change.specs.Logs.{pendingOf, removeAt, insertAt}
 use Rattle.change.specs.With.{withState, withRole, withCaps, withThrottles, withUser, withThermal, withLogs, withMask, withDeadman, withAreas}
-use Rattle.change.specs.Change.{kindOf, putOf}
+use Rattle.change.specs.Change.{putOf, inverseOf}
 use Rattle.change.specs.declared.Edit.{Edit}
-use Rattle.entries.specs.Entries.{written}
-use Rattle.journal.specs.Bytes.{clearedBody, capsBody, throttlesBody, deadmanBody, areasBody}
+use Rattle.entries.specs.Entries.{Entry, bytesOf, written}
+use Rattle.journal.specs.Bytes.{clearedBody, capsBody, throttlesBody, deadmanBody, areasBody, entryFor}
+use Rattle.journal.specs.declared.Way.{Way}
+use Rattle.journal.specs.declared.Way.the-variants.{Before, After}
 use Rattle.sets.specs.Conditions.{SentPairs, SentFrus}
 use Rattle.occ.specs.Commands.{sentCaps}
 use Rattle.sbe.specs.Mailbox.{flagsOf, wordAt}
 use Rattle.sbe.specs.Conditions.{Names, startAsked, stopAsked, areasAsked}
 use Rattle.session.specs.Session.{withHeld}
 use Rattle.session.specs.declared.Session.{Session}
-use Rattle.undo_call.specs.Undo.{Undone}
+use Rattle.undo_call.specs.Undo.{Moved}
 use Rattle.promises.specs.Demand2.{Newest}
 
--- the session with this record, what is worked out of it, this next id, and one entry more after the used journal
+-- the session with this record, what is worked out of it, this next id, and one entry more after the used journal; d: "Any accepted change empties the
+-- store", the redo store
 abbrev pub becomes : Session → Record → ℕ → List ℕ → Session
-becomes s held next entry = withHeld held next (pasted (s .used) entry (s .journal)) (s .used + length entry)
-
--- the session with this record, what is worked out of it, and zeros from the place on where the newest entry begins
-abbrev pub withoutNewest : Session → Record → ℕ → Session
-withoutNewest s held at = withHeld held (s .next) (pasted at (replicate (s .used - at) 0) (s .journal)) at
+becomes s held next entry = withHeld held next (pasted (s .used) entry (s .journal)) (s .used + length entry) (replicate 2048 0) 0
 
 -- "A log is made for reason 1, and for 2 on a master"
 abbrev pub LogDue : ℕ → ℕ → Type 0
@@ -74,9 +74,36 @@ pub data SbeEffect (s : Session) (r : List ℕ) : Session → Type 0 where
   -- D7 04: both areas are those sent; size 0 makes address and size 0
   set-areas : Names 0xD7 0x04 r → SbeEffect s r (becomes s (withAreas (s .held) (areasAsked r)) (s .next) (0x0B ∷ areasBody (s .held .areas)))
 
--- an accepted undo: what the newest entry says was before is in the record again, the entry is zeroed, its kind reported; the next id stays
-pub record UndoEffect (s : Session) (q : Undone) : Type 0 where
-  pub before : Edit
-  pub newest : Newest s before
-  pub kind-is : q .kind ≡ kindOf (before .change)
-  pub session-is : q .session ≡ withoutNewest s (putOf (s .held) before .after) (length (written (newest .older)))
+-- ---- undo and redo
+
+-- used bytes with zeros from the place on where the newest entry begins
+abbrev pub zeroedFrom : ℕ → ℕ → List ℕ → List ℕ
+zeroedFrom at used bytes = pasted at (replicate (used - at) 0) bytes
+
+-- the session with this record and what is worked out of it, and the next id that it had. Undo: the journal ends at a place, and one entry more stands after the used
+-- redo store; redo: the other way round
+abbrev pub movesTo : Way → Session → Record → ℕ → List ℕ → Session
+movesTo Before s held at entry =
+    withHeld held (s .next) (zeroedFrom at (s .used) (s .journal)) at (pasted (s .ahead) entry (s .redo)) (s .ahead + length entry)
+movesTo After s held at entry =
+    withHeld held (s .next) (pasted (s .used) entry (s .journal)) (s .used + length entry) (zeroedFrom at (s .ahead) (s .redo)) at
+
+-- what goes to the other store: the entry that takes a change back, with the values now in the record (change/specs/Change.antt)
+abbrev pub entryBack : Session → Edit → Entry
+entryBack s e = entryFor (inverseOf (s .held) e)
+
+-- an accepted undo or redo: what the newest entry says is put into the record, the entry is zeroed, its kind reported; "An undone change moves to a redo
+-- store .. in the same kinds and lengths, but holding what was after", and a redone one to the journal, holding what was before
+pub record MoveEffect (w : Way) (s : Session) (q : Moved) : Type 0 where
+  pub edit : Edit
+  pub newest : Newest w s edit
+  pub kind-is : q .kind ≡ newest .entry .kind
+  pub same-kind : entryBack s edit .kind ≡ newest .entry .kind
+  pub same-length : length (entryBack s edit .body) ≡ length (newest .entry .body)
+  pub session-is : q .session ≡ movesTo w s (putOf (s .held) edit .after) (length (written (newest .older))) (bytesOf (entryBack s edit))
+
+abbrev pub UndoEffect : Session → Moved → Type 0
+UndoEffect s q = MoveEffect Before s q
+
+abbrev pub RedoEffect : Session → Moved → Type 0
+RedoEffect s q = MoveEffect After s q

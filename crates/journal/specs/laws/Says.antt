@@ -36,7 +36,7 @@ Holds w (SetMask mask) = Unit {0}
 Holds w (SetDeadman deadman) = Unit {0}
 Holds w (SetAreas areas) = Unit {0}
 
-abbrev Says : Way → ℕ → Found → Type 0
+abbrev pub Says : Way → ℕ → Found → Type 0
 Says w k (Good ch) = (kindOf ch ≡ k) × Holds w ch
 Says w k Bad = Unit {0}
 
@@ -50,7 +50,7 @@ unfolding resetAs kindOf
 reset-says Before k a b e = (sym e, refl)
 reset-says After k a b e = (sym e, refl)
 
-found-says : (w : Way) (k : ℕ) (b : List ℕ) → Says w k (foundFor w k b)
+pub found-says : (w : Way) (k : ℕ) (b : List ℕ) → Says w k (foundFor w k b)
 unfolding foundFor kindOf
 found-says w k b =
     cond-cases (Says w k) (eqb k 0x01) (λ t. cleared-says w k _ _ (eqb-true k 0x01 t))

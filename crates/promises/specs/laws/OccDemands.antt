@@ -34,7 +34,8 @@ use Rattle.promises.specs.Demand1.{NoRoom, OccAnswer, OccDue, OccStatus,
 use Rattle.promises.specs.Demand2.{atFront, HasRoom, KnownSender, WellAsked, occKind, NotPoll, OccAccepted, successData, successReply, OccSucceeds}
 use Rattle.promises.specs.laws.OccAsks.{Asks, asks, poll-type, made-kind}
 use Rattle.promises.specs.laws.OccWays.{judged, edit, Heard, ill-read, declined, polled, no-room, carried, Called, ill-formed, unknown, short-reply, short-command, due, called}
-use Rattle.promises.specs.laws.Replies.{replied-front, length-byte, error-bytes, success-other, has-room, has-none}
+use Rattle.promises.specs.laws.Room.{has-room, has-none}
+use Rattle.promises.specs.laws.Replies.{replied-front, length-byte, error-bytes, success-other}
 
 abbrev Answers : OccResult → ℕ → Type 0
 Answers q n = q .outcome .answer ≡ n

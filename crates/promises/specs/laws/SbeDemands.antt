@@ -33,7 +33,8 @@ use Rattle.promises.specs.Demand1.{NoRoom, SbeAnswer, SbeDue, sbeError}
 use Rattle.promises.specs.Demand2.{atFront, HasRoom, sbeKind, SbeAccepted, SbeSucceeds}
 use Rattle.promises.specs.History.{Deed, keeps, adds, adding, sbeVerdict, deed}
 use Rattle.promises.specs.laws.Demand3.{by-both}
-use Rattle.promises.specs.laws.Replies.{front-is, carried-longer, has-room, has-none}
+use Rattle.promises.specs.laws.Room.{carried-longer, has-room, has-none}
+use Rattle.promises.specs.laws.Replies.{front-is}
 
 abbrev pub edit : Change → Edit
 edit ch = record { change = ch; tables = noTables }

@@ -26,5 +26,6 @@ pub mod Replies
 pub mod OccDemands
 pub mod SbeDemands
 pub mod UndoDemands
+pub mod Moves
 pub mod Effects
 pub mod Answers

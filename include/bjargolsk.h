@@ -14,7 +14,8 @@
  *   4  the command is too short: under 4 bytes for the OCC, under 32 for the SBE
  *   5  the journal has no room for the change
  *   6  nothing to undo
- *   7  undo would give an ill-formed record
+ *   7  undo or redo would give an ill-formed record
+ *   8  nothing to redo
  * After any answer but 0 the session and the reply buffer hold the bytes that they held before.
  */
 #ifndef BJARGOLSK_H
@@ -28,7 +29,7 @@ extern "C" {
 #endif
 
 enum {
-    BJARGOLSK_SESSION = 2287,
+    BJARGOLSK_SESSION = 4337,
     BJARGOLSK_OCC_REPLY = 4096,
     BJARGOLSK_SBE_REPLY = 32,
     BJARGOLSK_HTMGT = 0x10,
@@ -53,6 +54,10 @@ uint32_t bjargolsk_sbe(uint8_t *session, size_t session_length, const uint8_t *r
 
 /* Takes the newest change back. Answers 0, 1, 6 and 7; the high 16 bits are the kind of the entry that was taken back, 0 if none was. */
 uint32_t bjargolsk_undo(uint8_t *session, size_t session_length);
+
+/* Puts the change that was last taken back in again; an accepted command that makes a change leaves none to put in. Answers 0, 1, 7 and 8;
+ * the high 16 bits are the kind of its entry, 0 if none was put in. */
+uint32_t bjargolsk_redo(uint8_t *session, size_t session_length);
 
 #ifdef __cplusplus
 }

@@ -20,4 +20,5 @@ extern "C" {
         reply_length: usize,
     ) -> u32;
     pub fn bjargolsk_undo(session: *mut u8, session_length: usize) -> u32;
+    pub fn bjargolsk_redo(session: *mut u8, session_length: usize) -> u32;
 }

@@ -1,4 +1,4 @@
-/* A master OCC brought up, capped, and one change taken back. */
+/* A master OCC brought up and capped; changes taken back, one step too far, and one put in again. */
 #include <stdio.h>
 
 #include "bjargolsk.h"
@@ -37,10 +37,19 @@ static void sbe(const char *name, const uint8_t *request, size_t length)
     show(BJARGOLSK_ANSWER(result) == 0 ? BJARGOLSK_SBE_REPLY : 0);
 }
 
+static void show_kind(const char *name, uint32_t result)
+{
+    printf("%s: answer %u kind %02X\n", name, (unsigned)BJARGOLSK_ANSWER(result), (unsigned)BJARGOLSK_HIGH(result));
+}
+
 static void undo(void)
 {
-    uint32_t result = bjargolsk_undo(session, sizeof session);
-    printf("undo: answer %u kind %02X\n", (unsigned)BJARGOLSK_ANSWER(result), (unsigned)BJARGOLSK_HIGH(result));
+    show_kind("undo", bjargolsk_undo(session, sizeof session));
+}
+
+static void redo(void)
+{
+    show_kind("redo", bjargolsk_redo(session, sizeof session));
 }
 
 int main(void)
@@ -66,7 +75,11 @@ int main(void)
     undo();
     occ("poll", BJARGOLSK_BMC, 0x00, poll, sizeof poll);
     sbe("deadman", deadman, sizeof deadman);
+    /* The deadman is to go. The state went too: that was one step too far. */
     undo();
+    undo();
+    redo();
+    occ("poll", BJARGOLSK_BMC, 0x00, poll, sizeof poll);
     occ("stranger", 0x30, 0x00, poll, sizeof poll);
     return 0;
 }

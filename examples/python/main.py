@@ -1,4 +1,4 @@
-"""A master OCC brought up, capped, and one change taken back.
+"""A master OCC brought up and capped; changes taken back, one step too far, and one put in again.
 
 usage: python3 main.py LIBRARY, the shared object that is made from the archive
 """
@@ -6,6 +6,7 @@ import ctypes
 import sys
 
 HTMGT, BMC = 0x10, 0x20
+SESSION = 4337  # BJARGOLSK_SESSION of bjargolsk.h
 
 
 def load(path):
@@ -16,7 +17,8 @@ def load(path):
     lib.bjargolsk_occ.argtypes = buffer + [ctypes.c_uint8] + buffer + buffer
     lib.bjargolsk_sbe.argtypes = buffer + buffer + buffer
     lib.bjargolsk_undo.argtypes = buffer
-    for name in ("fresh", "occ", "sbe", "undo"):
+    lib.bjargolsk_redo.argtypes = buffer
+    for name in ("fresh", "occ", "sbe", "undo", "redo"):
         getattr(lib, "bjargolsk_" + name).restype = ctypes.c_uint32
     return lib
 
@@ -26,10 +28,10 @@ class Bench:
 
     def __init__(self, lib):
         self.lib = lib
-        self.session = ctypes.create_string_buffer(2287)
+        self.session = ctypes.create_string_buffer(SESSION)
         self.reply = ctypes.create_string_buffer(4096)
         self.sequence = 0
-        print("fresh: answer %d" % lib.bjargolsk_fresh(self.session, 2287))
+        print("fresh: answer %d" % lib.bjargolsk_fresh(self.session, SESSION))
 
     def shown(self, answer, length):
         return "".join(" %02X" % b for b in self.reply.raw[:length]) if answer == 0 else ""
@@ -39,19 +41,25 @@ class Bench:
         self.sequence += 1
         packet = bytes([self.sequence, kind]) + len(data).to_bytes(2, "big") + bytes(data)
         packet += (sum(packet) % 65536).to_bytes(2, "big")
-        result = self.lib.bjargolsk_occ(self.session, 2287, sender, packet, len(packet), self.reply, 4096)
+        result = self.lib.bjargolsk_occ(self.session, SESSION, sender, packet, len(packet), self.reply, 4096)
         answer = result & 0xFFFF
         length = 7 + int.from_bytes(self.reply.raw[3:5], "big")
         print("%s: answer %d%s" % (name, answer, self.shown(answer, length)))
 
     def sbe(self, name, request):
-        result = self.lib.bjargolsk_sbe(self.session, 2287, request, len(request), self.reply, 4096)
+        result = self.lib.bjargolsk_sbe(self.session, SESSION, request, len(request), self.reply, 4096)
         answer = result & 0xFFFF
         print("%s: answer %d bell %04X%s" % (name, answer, result >> 16, self.shown(answer, 32)))
 
     def undo(self):
-        result = self.lib.bjargolsk_undo(self.session, 2287)
-        print("undo: answer %d kind %02X" % (result & 0xFFFF, result >> 16))
+        show_kind("undo", self.lib.bjargolsk_undo(self.session, SESSION))
+
+    def redo(self):
+        show_kind("redo", self.lib.bjargolsk_redo(self.session, SESSION))
+
+
+def show_kind(name, result):
+    print("%s: answer %d kind %02X" % (name, result & 0xFFFF, result >> 16))
 
 
 def main():
@@ -69,7 +77,11 @@ def main():
     bench.undo()
     bench.occ("poll", BMC, 0x00, [0x10])
     bench.sbe("deadman", bytes([0, 0, 0x01, 0x01, 0, 7, 0xD1, 0x01, 0, 0, 0, 0, 0, 0, 0x03, 0xE8]) + bytes(16))
+    # The deadman is to go. The state went too: that was one step too far.
     bench.undo()
+    bench.undo()
+    bench.redo()
+    bench.occ("poll", BMC, 0x00, [0x10])
     bench.occ("stranger", 0x30, 0x00, [0x10])
 
 

@@ -1,12 +1,13 @@
-"""Calls of the bench stand-in, each with the answer that document 01 gives it, written by hand. Writes vectors.txt, the lines for
+"""Calls of the bench stand-in, each with the answer that documents 01 and 02 give it, written by hand. Writes vectors.txt, the lines for
 `standin` with a remark above each call that needs one, and vectors.out, one line of answer for each line that has one:
 
     python3 second/cases/vectors.py
 
-The answers to all 1,047 calls are spelled in full, none by its first bytes only; so are those to the other 89 lines (`fresh`, `buffer`, and
-lines that are no call). Nothing here works an answer out: the hand gives the status, the session answer, the kind undone or a poll's
-values, and the helpers put a frame, its sum and the doorbell bits that were asked for around them. `cargo test` in second/ holds the
-second program to vectors.out; second/store puts the lines among the stored cases, to which rt holds the proved program."""
+The answers to all calls are spelled in full, none by its first bytes only; so are those to the other lines (`fresh`, `load`, `image`,
+`buffer`, and lines that are no call). Nothing here works an answer out: the hand gives the status, the session answer, the kind undone
+or redone, a poll's values or an image's fields, and the helpers put a frame, its sum and the doorbell bits that were asked for around
+them. `cargo test` in second/ holds the second program to vectors.out; second/store puts the lines among the stored cases, to which rt
+holds the proved program."""
 import os
 
 OUT = []          # lines for standin
@@ -99,6 +100,50 @@ def undo(kind, note=None):
     put("undo", "0 %02X" % kind if kind else "6")
 
 
+def redo(kind, note=None):
+    if note:
+        say(note)
+    put("redo", "0 %02X" % kind if kind else "8")
+
+
+def image(state=1, role=0, caps=(0, 0, 0), presence=0, sets=b"", user=0, thermal=b"\xff" * 9, received=(0, 0, 0, 0), logs=(), mask=0,
+          deadman=(0, 0), ffdc=(0, 0), passing=(0, 0), limit=0, ready=(0, 0), wanted=3, next_id=1, journal=b"", redo=b"", used=None,
+          redo_used=None):
+    """A session's image, field by field; what is worked out is given by hand too. What isn't given is as fresh."""
+    b = bytes([state, role]) + b"".join(be(2, c) for c in caps) + be(2, presence) + sets.ljust(160, b"\0") + be(2, user) + thermal
+    b += bytes(received) + b"".join(bytes(log) for log in logs).ljust(8, b"\0") + be(4, mask) + be(1, deadman[0]) + be(8, deadman[1])
+    b += be(8, ffdc[0]) + be(4, ffdc[1]) + be(8, passing[0]) + be(4, passing[1])
+    b += be(2, limit) + bytes(ready) + bytes([wanted]) + be(2, next_id)
+    b += be(2, len(journal) if used is None else used) + journal.ljust(2048, b"\0")
+    return b + be(2, len(redo) if redo_used is None else redo_used) + redo.ljust(2048, b"\0")
+
+
+def load(note=None, **fields):
+    if note:
+        say(note)
+    put("load " + image(**fields).hex().upper(), "ok")
+
+
+def is_image(note=None, **fields):
+    """the session's image, every byte given by hand"""
+    if note:
+        say(note)
+    put("image", "image " + image(**fields).hex().upper())
+
+
+def damaged(note, **fields):
+    """answer 1 to every call, redo too"""
+    load(note, **fields)
+    raw("10 01 00 00 01 10 00 12", "1")
+    put("sbe 00 00 01 00 00 07 D1 03" + " 00" * 24, "1")
+    put("undo", "1")
+    put("redo", "1")
+
+
+def hexes(text):
+    return bytes.fromhex(text)
+
+
 def undo_all(kind, times, word):
     """all the changes since fresh are of one kind: each is taken back, then none is left"""
     say("%s were accepted: undo of kind %02X %s times, then answer 6" % (word, kind, word))
@@ -159,7 +204,7 @@ def area(note, sizes, addresses, code=(0, 0), flags=0x0100):
     sbe(note, 0xD7, 0x04, flags, (sizes[0] << 32 | sizes[1], addresses[0], addresses[1]), code)
 
 
-say("Calls of the bench stand-in; what document 01 gives for each stands in vectors.out. cases/vectors.py writes both.",
+say("Calls of the bench stand-in; what documents 01 and 02 give for each stands in vectors.out. cases/vectors.py writes both.",
     "A remark stands above the call that it is about, and names the status or the answer that is due.")
 
 title("The ten worked examples")
@@ -786,9 +831,362 @@ put("buffer-1", "? unknown word at column 1")
 say("buffers are whole")
 poll(None, 0, 3, 1)
 
+title("Redo of all eleven kinds, each undone and redone, then all of them")
+fresh()
+redo(0, "answer 8: nothing was undone")
+role(1)
+caps(500, 1500, 100)
+thermal([(1, 70, 80, 9)])
+throttles([mem(2, 1)])
+user(900)
+state(3)
+reset(2)
+clear(1)
+sbe(None, 0xD1, 0x03, 0x0000, (0x0000000300000000, 0, 0))
+sbe(None, 0xD1, 0x01, 0x0001, (77, 0, 0))
+area(None, (Z, Z), (A, B), flags=0)
+BEFORE = [hexes(x) for x in (
+    "03 00 00", "04 00 0000 0000 0000", "06 00 FFFFFF FFFFFF FFFFFF", "07 00 0000" + "00" * 160, "05 0000", "02 01", "08 03 01", "01 00 01 02",
+    "09 00000000", "0A 00 0000000000000000", "0B 0000000000000000 00000000 0000000000000000 00000000")]
+AFTER = [hexes(x) for x in (
+    "03 01 01", "04 01 01F4 05DC 0064", "06 01 FFFFFF 465009 FFFFFF", "07 01 0020" + "00" * 50 + "00010002000300040005" + "00" * 100, "05 0384",
+    "02 03", "08 01 02", "01 00 01 02", "09 00000003", "0A 01 000000000000004D",
+    "0B 0000000000001000 00000080 8000000000000000 00000080")]
+UP = dict(role=1, caps=(500, 1500, 100), presence=0x0020, sets=bytes(50) + hexes("00010002000300040005"), user=900,
+          thermal=hexes("FFFFFF 465009 FFFFFF"), received=(1, 1, 1, 1), mask=3, deadman=(1, 77), ffdc=(A, Z), passing=(B, Z), limit=900,
+          ready=(1, 1), wanted=0, next_id=2)
+is_image("eleven entries, the redo store is empty", journal=b"".join(BEFORE), **UP)
+redo(0, "answer 8: nothing was undone since")
+for n in range(11):
+    undo(AFTER[10][0])
+    redo(AFTER[10][0])
+is_image("eleven times the areas undone and redone: as before", journal=b"".join(BEFORE), **UP)
+for n in range(10, -1, -1):
+    undo(BEFORE[n][0], "kind %02X undone, redone and undone" % BEFORE[n][0])
+    redo(BEFORE[n][0])
+    undo(BEFORE[n][0])
+undo(0, "answer 6: the journal is empty")
+is_image("as fresh, but for the next id; the redo store holds what was after, the oldest change last",
+         next_id=2, redo=b"".join(reversed(AFTER)))
+redo(3, "redo of kind 03: master")
+poll(None, 0x80, 0x13, 1)
+redo(4, "redo of kind 04: the caps, and the limit with them")
+poll(None, 0x80, 0x13, 1, caps=(1500, 500, 1500, 0))
+redo(6, "redo of kind 06: observation-ready")
+poll(None, 0x82, 0x12, 1, caps=(1500, 500, 1500, 0))
+redo(7, "redo of kind 07: active-ready")
+poll(None, 0x83, 0, 1, caps=(1500, 500, 1500, 0))
+redo(5, "redo of kind 05: the limit is 900")
+poll(None, 0x83, 0, 1, caps=(900, 500, 1500, 900))
+redo(2, "redo of kind 02: state 03")
+poll(None, 0x83, 0, 3, caps=(900, 500, 1500, 900))
+redo(8, "redo of kind 08: standby, and log 1 is back")
+poll(None, 0x83, 0, 1, log=1, caps=(900, 500, 1500, 900))
+redo(1, "redo of kind 01: log 1 is cleared again")
+poll(None, 0x83, 0, 1, caps=(900, 500, 1500, 900))
+is_image("half of each store", journal=b"".join(BEFORE[:8]), redo=b"".join(reversed(AFTER[8:])), **dict(UP, mask=0, deadman=(0, 0), ffdc=(0, 0), passing=(0, 0)))
+redo(9)
+redo(10)
+redo(11)
+redo(0, "answer 8: all is redone")
+is_image("as before the first undo", journal=b"".join(BEFORE), **UP)
+
+title("What empties the redo store: accepted commands that make an entry, and nothing else")
+fresh()
+role(1)
+state(1)
+undo(2)
+poll("a poll keeps it", 0x80, 0x13, 1)
+raw("10 01 00 00 01 10 00 13", reply(0x01, 0x00, 0x14), note="so does a wrong checksum, a wrong role, an unknown format, a state that is forbidden")
+role(2, None, 0x13)
+occ(None, [0x99], 0x13)
+state(2, None, 0x16)
+put("occ 30 01 00 00 01 10 00 12", "2")
+put("occ 10 01", "4")
+short(4095, "occ 10 05 20 00 03 00 01 00 00 29", "3")
+short(31, "sbe 00 00 01 00 00 07 D1 03" + " 00" * 24, "3")
+sbe("and a refused SBE request: 01/01, 02/19", 0xD2, 0x01, 0x0100, code=(1, 1))
+sbe(None, 0xD1, 0x03, 0x0101, code=(2, 0x19))
+redo(2, "the state can be redone still")
+undo(2)
+undo(3)
+redo(3)
+state(1, "an accepted set state empties it")
+redo(0, "answer 8")
+undo(2, "undo takes the new one back, and redo puts that one in again")
+redo(2)
+redo(0)
+undo(2)
+undo(3)
+sbe("two are undone; an accepted SBE request empties the store", 0xD1, 0x03, 0x0100, (0x0000000100000000, 0, 0))
+redo(0, "answer 8")
+undo(9)
+undo(0)
+redo(9)
+user(5, "0x13 keeps it", 0x13)
+undo(9)
+role(0, "a role that sets equal values empties it too")
+redo(0, "answer 8")
+is_image("one entry, and an empty redo store", received=(1, 0, 0, 0), wanted=0x13, journal=hexes("030000"))
+load("a change that has no room (answer 5) keeps it: the journal has 2,046 bytes, the redo store 2",
+     journal=hexes("0201") * 1023, redo=hexes("0203"))
+reset(0, None, "5")
+sbe(None, 0xD1, 0x03, 0x0300, (0, 0, 0), "5")
+redo(2)
+is_image("redo never lacks room: the journal is full", state=3, journal=hexes("0201") * 1024)
+state(1, "answer 5", "5")
+redo(0)
+undo(2)
+state(1, "2 bytes of room are enough for a state, whatever the redo store holds; it is emptied")
+redo(0, "answer 8")
+
+title("Redo: ids are never wound back, and the counter doesn't move")
+fresh()
+reset(1, "log 1")
+undo(8)
+redo(8, "log 1 is back")
+poll(None, 0, 3, 1, log=1)
+is_image(None, logs=[(1, 1)], next_id=2, journal=hexes("080101"))
+reset(1, "the next is log 2: redo didn't move the counter")
+clear(1)
+poll("log 2", 0, 3, 1, log=2)
+undo(1)
+undo(8)
+undo(8)
+poll("none pends", 0, 3, 1)
+redo(8)
+poll("log 1", 0, 3, 1, log=1)
+redo(8)
+redo(1)
+poll("log 2 alone", 0, 3, 1, log=2)
+redo(0)
+undo(1)
+undo(8)
+reset(1, "a new reset after the undo of log 2: log 3; log 2 is gone for good")
+redo(0, "answer 8")
+clear(1)
+poll("log 3 follows 1", 0, 3, 1, log=3)
+is_image(None, logs=[(3, 1)], next_id=4, journal=hexes("080101 080101 01000101"))
+undo(1)
+clear(2, "0x13: log 2", 0x13)
+redo(1, "that kept the store: log 1 is cleared again")
+poll(None, 0, 3, 1, log=3)
+fresh()
+say("254 times a reset with a log, undone; the 255th is undone and redone again and again")
+for _ in range(254):
+    reset(1)
+    undo(8)
+redo(8, "log 254")
+poll(None, 0, 3, 1, log=254)
+undo(8)
+reset(1, "log 255, the last")
+for _ in range(3):
+    undo(8)
+    redo(8)
+poll(None, 0, 3, 1, log=255)
+reset(1, "0x15: the next id is 256", 0x15)
+undo(8)
+reset(1, "0x15 still, though log 255 was taken back; the redo store is kept", 0x15)
+redo(8)
+poll(None, 0, 3, 1, log=255)
+is_image(None, logs=[(255, 1)], next_id=256, journal=hexes("080101"))
+
+title("Redo of resets and clears, by place")
+fresh()
+role(1)
+for _ in range(4):
+    reset(2)
+clear(2, "log 2 of 1, 2, 3, 4, at place 1")
+clear(4, "log 4, now at place 2")
+clear(1, "log 1, at place 0")
+FOUR = dict(role=1, received=(1, 0, 0, 0), wanted=0x13, next_id=5)
+MADE = hexes("030000") + hexes("080101") * 4
+is_image(None, logs=[(3, 2)], journal=MADE + hexes("01010202 01020402 01000102"), **FOUR)
+undo(1)
+undo(1)
+undo(1)
+is_image("what was after a clear is told as what was before it", logs=[(1, 2), (2, 2), (3, 2), (4, 2)], journal=MADE,
+         redo=hexes("01000102 01020402 01010202"), **FOUR)
+redo(1)
+is_image("log 2 is cleared again", logs=[(1, 2), (3, 2), (4, 2)], journal=MADE + hexes("01010202"), redo=hexes("01000102 01020402"), **FOUR)
+redo(1)
+redo(1)
+poll("log 3 alone", 0x80, 0x13, 1, log=3)
+for _ in range(3):
+    undo(1)
+for _ in range(4):
+    undo(8)
+undo(3)
+is_image("all undone", next_id=5, redo=hexes("01000102 01020402 01010202 080402 080302 080202 080102 030101"))
+redo(3)
+for n in range(4):
+    redo(8)
+    poll("log 1 is the oldest", 0x80, 0x13, 1, log=1)
+redo(1)
+redo(1)
+redo(1)
+poll("log 3 alone", 0x80, 0x13, 1, log=3)
+redo(0)
+fresh()
+say("a reset from state 3 without a log, undone and redone: 0 and 0 in the redo store")
+role(0)
+thermal([(0, 1, 2, 3)])
+throttles([mem(0, 0)])
+state(3)
+reset(0)
+undo(8)
+poll("state 03", 3, 0, 3)
+is_image(None, state=3, presence=1, sets=mem(0, 0)[2:], thermal=hexes("010203 FFFFFF FFFFFF"), received=(1, 0, 1, 1), ready=(1, 1), wanted=0,
+         journal=hexes("030000 0600FFFFFFFFFFFFFFFFFF 07000000") + bytes(160) + hexes("0201"), redo=hexes("080000"))
+redo(8)
+poll("state 01", 3, 0, 1)
+undo(8)
+undo(2)
+redo(2)
+redo(8)
+undo(8)
+poll("state 03 again: redo entered the state that it found", 3, 0, 3)
+
+title("Redo of stores that no command made: what is found goes into the journal")
+load("state 2, and the redo store says 3", state=2, redo=hexes("0203"))
+redo(2)
+is_image("the journal's entry holds 2, which was in force", state=3, journal=hexes("0202"))
+undo(2)
+is_image("and back", state=2, redo=hexes("0203"))
+load("two entries: the last is the newest", user=7, redo=hexes("050009 050008"))
+redo(5)
+is_image(None, user=8, journal=hexes("050007"), redo=hexes("050009"))
+redo(5)
+is_image(None, user=9, journal=hexes("050007 050008"))
+redo(0)
+load("state 3, a reset with log 9: standby, and the log", state=3, next_id=10, redo=hexes("080902"))
+redo(8)
+is_image(None, state=1, logs=[(9, 2)], next_id=10, journal=hexes("080301"))
+load("behind logs 3 and 5, log 9", logs=[(3, 1), (5, 2)], next_id=256, redo=hexes("080901"))
+redo(8)
+is_image(None, logs=[(3, 1), (5, 2), (9, 1)], next_id=256, journal=hexes("080101"))
+load("a reset without a log goes with four that pend", state=2, logs=[(1, 1), (2, 1), (3, 1), (4, 1)], next_id=5, redo=hexes("080000"))
+redo(8)
+is_image(None, logs=[(1, 1), (2, 1), (3, 1), (4, 1)], next_id=5, journal=hexes("080200"))
+load("a clear of log 5 at place 1", logs=[(3, 1), (5, 2), (9, 1)], next_id=10, redo=hexes("01010502"))
+redo(1)
+is_image(None, logs=[(3, 1), (9, 1)], next_id=10, journal=hexes("01010502"))
+load("a clear of the fourth, with four that pend", logs=[(1, 1), (2, 1), (3, 1), (4, 2)], next_id=5, redo=hexes("01030402"))
+redo(1)
+is_image(None, logs=[(1, 1), (2, 1), (3, 1)], next_id=5, journal=hexes("01030402"))
+
+title("Redo: answer 7")
+SEVEN = (
+    ("a clear of log 5 at place 0, where log 3 is", dict(logs=[(3, 1), (5, 2)], next_id=10, redo=hexes("01000502"))),
+    ("a clear of log 5 with reason 1; it has reason 2", dict(logs=[(3, 1), (5, 2)], next_id=10, redo=hexes("01010501"))),
+    ("a clear at place 2, where no log is", dict(logs=[(3, 1), (5, 2)], next_id=10, redo=hexes("01020502"))),
+    ("a clear at place 0, and none pends", dict(redo=hexes("01000101"))),
+    ("a reset's log, and four pend", dict(logs=[(1, 1), (2, 1), (3, 1), (4, 1)], next_id=10, redo=hexes("080501"))),
+    ("a reset's log 3 behind log 3: ids wouldn't rise", dict(logs=[(3, 1)], next_id=10, redo=hexes("080301"))),
+    ("a reset's log 2 behind log 3", dict(logs=[(3, 1)], next_id=10, redo=hexes("080202"))),
+    ("a reset's log 10, and the next id is 10", dict(logs=[(3, 1)], next_id=10, redo=hexes("080A01"))),
+    ("a reset's log 255, and the next id is 1", dict(redo=hexes("08FF02"))),
+)
+for note, fields in SEVEN:
+    load("answer 7: " + note, **fields)
+    put("redo", "7")
+    is_image(None, **fields)
+load("answer 7 for the newest, though the one before it could be redone; undo is open still", journal=hexes("0203"), redo=hexes("0202 08FF02"))
+put("redo", "7")
+undo(2)
+redo(2, "what was undone now is the newest")
+put("redo", "7")
+state(1, "an accepted change empties the store")
+redo(0, "answer 8")
+load("answer 7 of undo leaves the redo store as it is", journal=hexes("080101"), redo=hexes("0203"))
+put("undo", "7")
+redo(2)
+is_image(None, state=3, journal=hexes("080101 0201"))
+load("undo of a clear whose id isn't below the next id: 7, and nothing goes to the redo store", journal=hexes("01000101"))
+put("undo", "7")
+redo(0)
+
+title("Redo: answer 1 comes before 8 and 7")
+damaged("the redo store is empty, the state is 0", state=0)
+damaged("the next id is 257", next_id=257, redo=hexes("0203"))
+damaged("used 1, and the byte is 0: no kind", redo_used=1)
+damaged("used 2,049", redo_used=2049)
+damaged("used 65,535", redo_used=65535)
+damaged("kind 0C", redo=hexes("0C"))
+damaged("a body cut by one byte", redo=hexes("0203 0501"))
+damaged("a body that goes on behind the used bytes", redo=hexes("0203 050100"), redo_used=4)
+damaged("the first unused byte isn't 0", redo=hexes("0203 01"), redo_used=2)
+damaged("the last byte isn't 0", redo=(hexes("0203") + bytes(2045) + b"\1"), redo_used=2)
+damaged("the first byte of an empty store isn't 0", redo=hexes("02"), redo_used=0)
+load("lengths together of exactly 2,048: 1,024 and 1,024", journal=hexes("0201") * 512, redo=hexes("0203") * 512)
+redo(2)
+undo(2)
+load("2,048 and 0, and 0 and 2,048", journal=hexes("0201") * 1024)
+redo(0)
+load(None, redo=hexes("0203") * 1024)
+redo(2)
+undo(2)
+undo(0)
+damaged("2,049: 1,024 and 1,025", journal=hexes("0201") * 512, redo=hexes("050000") + hexes("0203") * 511)
+damaged("2,050: 2,048 and 2", journal=hexes("0201") * 1024, redo=hexes("0203"))
+damaged("4,096", journal=hexes("0201") * 1024, redo=hexes("0203") * 1024)
+for body, note in (
+        ("01 04 05 01", "place 4"), ("01 00 00 01", "id 0"), ("01 00 05 00", "reason 0"), ("01 00 05 03", "reason 3"),
+        ("02 00", "state 0"), ("02 04", "state 4"),
+        ("03 02 00", "mark 2"), ("03 01 02", "role 2"), ("03 00 01", "not received, and master"),
+        ("04 02 0000 0000 0000", "mark 2"), ("04 00 0000 0000 0001", "not received, and not 0"), ("04 01 0002 0001 0000", "minimum over maximum"),
+        ("06 02 FFFFFF FFFFFF FFFFFF", "mark 2"), ("06 00 FFFFFF FFFFFF FFFFFE", "not received, and not FF"),
+        ("06 01 FFFFFF 605F05 FFFFFF", "DVFS over ERROR"),
+        ("07 02 0000" + "00" * 160, "mark 2"), ("07 00 0001" + "00" * 160, "not received, and a pair"),
+        ("07 01 7FFF" + "00" * 159 + "01", "an absent pair that isn't 0"),
+        ("08 00 01", "no id, and a reason"), ("08 01 00", "an id, and no reason"), ("08 01 03", "reason 3"), ("08 00 02", "no id, and reason 2"),
+        ("0A 02 0000000000000000", "running 2"), ("0A 00 0000000000000001", "off, with a time"),
+        ("0B 0000000000000080 00000000 0000000000000000 00000000", "FFDC: an address without a size"),
+        ("0B 0000000000000000 00000000 0000000000000040 00000080", "the second address is no multiple of 128"),
+        ("0B FFFFFFFFFFFFFF80 00000100 0000000000000000 00000000", "FFDC: the sum is over 2^64"),
+        ("0B 0000000000000000 00000000 0000000000000080 00000081", "the second size is no multiple of 128")):
+    damaged("kind %s of the redo store: %s" % (body[:2], note), redo=hexes(body) + hexes("0203"))
+load("bodies at their bounds are well formed: place 3, id 255; log 255 with reason 2; a state with a mark; running with time 0",
+     redo=hexes("0103FF02 08FF02 03 01 01 0A 01 0000000000000000 0B 0000000000000000 00000000 FFFFFFFFFFFFFF80 00000080 02 03"))
+redo(2)
+redo(11)
+redo(10)
+redo(3)
+put("redo", "7")
+
+title("A chain of 1,024 undos and as many redos")
+say("the entry of number n, from 0, holds state 1 + n mod 3; the state is 3. State 2 and 3 without readiness are well formed.")
+CHAIN = b"".join(bytes([2, 1 + n % 3]) for n in range(1024))
+load(None, state=3, journal=CHAIN)
+for n in range(1023, -1, -1):
+    undo(2)
+    if n in (1023, 1022, 1021, 512, 1, 0):
+        poll("entry %d is undone: state %d" % (n, 1 + n % 3), 0, 3, 1 + n % 3)
+undo(0)
+is_image("the redo store: 3, and then the states of the entries 1,023 down to 1", state=1,
+         redo=hexes("0203") + b"".join(bytes([2, 1 + n % 3]) for n in range(1023, 0, -1)))
+for n in range(1, 1024):
+    redo(2)
+    if n in (1, 2, 3, 512, 1023):
+        poll("entry %d again: state %d" % (n - 1, 1 + n % 3), 0, 3, 1 + n % 3)
+redo(2)
+poll("state 3", 0, 3, 3)
+redo(0)
+is_image("as it was loaded", state=3, journal=CHAIN)
+say("back and forth: two undos and one redo, 20 times; then 20 redos")
+for n in range(20):
+    undo(2)
+    undo(2)
+    redo(2)
+for n in range(20):
+    redo(2)
+redo(0)
+is_image("as it was loaded", state=3, journal=CHAIN)
+fresh()
+
 here = os.path.dirname(os.path.abspath(__file__))
 for name, lines in (("vectors.txt", OUT), ("vectors.out", WANT)):
     with open(os.path.join(here, name), "w") as file:
         file.write("\n".join(lines) + "\n")
-others = sum(want == "ok" or want[0] == "?" for want in WANT)
+others = sum(want == "ok" or want[0] == "?" or want.startswith("image") for want in WANT)
 print("%d calls, %d other lines" % (len(WANT) - others, others))

@@ -1,6 +1,6 @@
-//! Counts what a file of lines reaches: answers, statuses, kinds undone, rules broken, complaints.
+//! Counts what a file of lines reaches: answers, statuses, kinds undone and redone, rules broken, complaints.
 
-use crate::journal::Change;
+use crate::journal::{entries, Change, Holding};
 use crate::occ::command_packet;
 use crate::protocol::{for_each_line, parse, Order, Program};
 use crate::session::Session;
@@ -57,7 +57,9 @@ fn count_order(counts: &mut Counts, program: &mut Program, order: Order) {
     let described = describe(&order, &before);
     let loaded = matches!(order, Order::Load(_));
     let named = match &described {
-        Described::Occ(what) | Described::Sbe(what) | Described::Undo(what) => what.clone(),
+        Described::Occ(what) | Described::Sbe(what) | Described::Undo(what) | Described::Redo(what) => {
+            what.clone()
+        }
         Described::Other => String::new(),
     };
     let answer = program.obey(order);
@@ -82,9 +84,16 @@ fn count_order(counts: &mut Counts, program: &mut Program, order: Order) {
             add(counts, "call undo".to_string());
             add(counts, format!("undo {what} answer {number}"));
         }
+        Described::Redo(what) => {
+            add(counts, "call redo".to_string());
+            add(counts, format!("redo {what} answer {number}"));
+        }
         Described::Other => add(counts, "line not a call".to_string()),
     }
-    count_room(counts, &before, &program.session, number, &named);
+    if !named.is_empty() {
+        count_room(counts, &before, &program.session, number, &named);
+        count_redo_store(counts, &before, &program.session, number);
+    }
     if loaded {
         count_rules(counts, &program.session);
     }
@@ -94,6 +103,7 @@ enum Described {
     Occ(String),
     Sbe(String),
     Undo(String),
+    Redo(String),
     Other,
 }
 
@@ -112,6 +122,7 @@ fn describe(order: &Order, session: &Session) -> Described {
             None => "short".to_string(),
         }),
         Order::Undo => Described::Undo(undo_sort(session)),
+        Order::Redo => Described::Redo(redo_sort(session)),
         _ => Described::Other,
     }
 }
@@ -138,8 +149,7 @@ fn undo_sort(session: &Session) -> String {
     if !session.well_formed() {
         return "of a damaged session".to_string();
     }
-    let newest = session.journal.survey().newest.and_then(|offset| session.journal.read(offset));
-    let Some(newest) = newest else {
+    let Some(newest) = session.journal.newest(Holding::Before) else {
         return "of an empty journal".to_string();
     };
     let pending = session.record.pending();
@@ -153,6 +163,48 @@ fn undo_sort(session: &Session) -> String {
         _ => "",
     };
     format!("kind {:02X}{why}", newest.kind())
+}
+
+/// The newest entry's kind in the redo store, and why it may not be put back.
+fn redo_sort(session: &Session) -> String {
+    if !session.well_formed() {
+        return "of a damaged session".to_string();
+    }
+    let Some(newest) = session.redo.newest(Holding::After) else {
+        return "of an empty store".to_string();
+    };
+    let (logs, pending) = (&session.record.logs, session.record.pending());
+    let there = |place: u8| logs.get(usize::from(place)).copied().unwrap_or_default();
+    let why = match newest {
+        Change::ClearAgain { place, .. } if usize::from(place) >= pending => " (no log there)",
+        Change::ClearAgain { place, log } if there(place).id != log.id => " (another id there)",
+        Change::ClearAgain { place, log } if there(place) != log => " (another reason there)",
+        Change::ResetAgain(log) if log.id == 0 => " (no log)",
+        Change::ResetAgain(_) if pending == 4 => " (4 pend)",
+        Change::ResetAgain(log) if log.id <= session.record.newest_log().id => " (id not above)",
+        Change::ResetAgain(log) if u16::from(log.id) >= session.next_id => " (id not below next)",
+        Change::ResetAgain(_) => " (a log)",
+        _ => "",
+    };
+    format!("kind {:02X}{why}", newest.kind())
+}
+
+/// How many entries the store has, by powers of two, and what calls do to a store that isn't empty.
+fn count_redo_store(counts: &mut Counts, before: &Session, after: &Session, number: &str) {
+    let held = |session: &Session| entries(session.redo.used_bytes().unwrap_or(&[])).count();
+    let (had, has) = (held(before), held(after));
+    if number == "0" && had > 0 && has == 0 && after.journal.used > before.journal.used && had > 1 {
+        add(counts, "redo store of several entries emptied by a change".to_string());
+    }
+    if number == "0" && has > had {
+        add(counts, format!("redo store of {} entries or more", 1 << has.ilog2()));
+    }
+    if number == "5" && had > 0 {
+        add(counts, "answer 5 with a redo store that isn't empty".to_string());
+    }
+    if number == "0" && before.redo.used + before.journal.used == 2048 && had > 0 {
+        add(counts, "call with both stores full together".to_string());
+    }
 }
 
 /// Changes that took the last of the room, and refusals for want of one byte.

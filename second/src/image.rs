@@ -5,15 +5,18 @@ use crate::journal::*;
 use crate::record::*;
 use crate::session::Session;
 
-/// All before the journal's bytes.
+/// All before the journal's bytes; the redo store's used length follows them.
 const HEAD_LENGTH: usize = 239;
-pub const IMAGE_LENGTH: usize = HEAD_LENGTH + JOURNAL_LENGTH;
+const REDO_AT: usize = HEAD_LENGTH + STORE_LENGTH;
+pub const IMAGE_LENGTH: usize = REDO_AT + 2 + STORE_LENGTH;
 
 pub fn write(session: &Session) -> Vec<u8> {
     let mut bytes = vec![0; IMAGE_LENGTH];
-    let (head, journal) = bytes.split_at_mut(HEAD_LENGTH);
-    write_head(head, session);
-    journal.copy_from_slice(&session.journal.bytes);
+    write_head(&mut bytes[..HEAD_LENGTH], session);
+    let mut rest = Writer::new(&mut bytes[HEAD_LENGTH..]);
+    rest.put(&session.journal.bytes);
+    rest.put(&session.redo.used.to_be_bytes());
+    rest.put(&session.redo.bytes);
     bytes
 }
 
@@ -47,23 +50,31 @@ fn write_record(head: &mut Writer, record: &Record) {
 
 /// `None` if the number of bytes isn't the image's.
 pub fn read(bytes: &[u8]) -> Option<Session> {
-    let (head, journal) = bytes.split_at_checked(HEAD_LENGTH)?;
-    read_head(head, journal.try_into().ok()?)
+    let (head, rest) = bytes.split_at_checked(HEAD_LENGTH)?;
+    let mut rest = Reader::new(rest);
+    let journal = rest.array()?;
+    let redo = Store { used: rest.u16()?, bytes: rest.array()? };
+    rest.is_empty().then_some(())?;
+    read_head(head, journal, redo)
 }
 
-/// Makes a call on an image in place: the journal stays where it is, all before it is written back. `None` as above.
+/// Makes a call on an image in place: the stores stay where they are, all else is written back. `None` as above.
 pub fn call<R>(bytes: &mut [u8], make: impl FnOnce(&mut Session<&mut [u8]>) -> R) -> Option<R> {
-    let (head, journal) = bytes.split_at_mut_checked(HEAD_LENGTH)?;
-    if journal.len() != JOURNAL_LENGTH {
+    if bytes.len() != IMAGE_LENGTH {
         return None;
     }
-    let mut session = read_head(head, journal)?;
+    let (front, behind) = bytes.split_at_mut(REDO_AT);
+    let (head, journal) = front.split_at_mut(HEAD_LENGTH);
+    let (redo_used, redo) = behind.split_first_chunk_mut::<2>()?;
+    let redo = Store { used: u16::from_be_bytes(*redo_used), bytes: redo };
+    let mut session = read_head(head, journal, redo)?;
     let result = make(&mut session);
     write_head(head, &session);
+    *redo_used = session.redo.used.to_be_bytes();
     Some(result)
 }
 
-fn read_head<B>(head: &[u8], journal: B) -> Option<Session<B>> {
+fn read_head<B>(head: &[u8], journal: B, redo: Store<B>) -> Option<Session<B>> {
     let mut rest = Reader::new(head);
     Some(Session {
         record: read_record(&mut rest)?,
@@ -75,6 +86,7 @@ fn read_head<B>(head: &[u8], journal: B) -> Option<Session<B>> {
         },
         next_id: rest.u16()?,
         journal: Store { used: rest.u16()?, bytes: journal },
+        redo,
     })
 }
 

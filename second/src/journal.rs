@@ -1,9 +1,9 @@
-//! The journal: entries of a kind and a body that holds what was before.
+//! The two stores, journal and redo store: entries of a kind and a body that holds what was before, or what was after.
 
 use crate::bytes::{all_zero, hex, Reader, Writer};
 use crate::record::*;
 
-pub const JOURNAL_LENGTH: usize = 2048;
+pub const STORE_LENGTH: usize = 2048;
 
 pub fn body_length(kind: u8) -> Option<usize> {
     match kind {
@@ -57,7 +57,7 @@ impl<'a> Iterator for Entries<'a> {
 
 /// The lister: judges kinds and lengths, not values.
 pub fn list(bytes: &[u8]) -> String {
-    if bytes.len() > JOURNAL_LENGTH {
+    if bytes.len() > STORE_LENGTH {
         return "too long\n".to_string();
     }
     match entries(bytes).collect::<Result<Vec<Entry>, usize>>() {
@@ -78,14 +78,22 @@ impl<T: AsRef<[u8]> + AsMut<[u8]>> Bytes for T {}
 
 /// Entries at the front, zeros behind them.
 #[derive(Clone, PartialEq, Eq, Debug)]
-pub struct Store<B = [u8; JOURNAL_LENGTH]> {
+pub struct Store<B = [u8; STORE_LENGTH]> {
     pub used: u16,
     pub bytes: B,
+}
+
+/// What the bodies of a store hold: the journal's what was before a change, the redo store's what was after it.
+#[derive(Clone, Copy, PartialEq, Eq, Debug)]
+pub enum Holding {
+    Before,
+    After,
 }
 
 /// What one pass over a store finds.
 #[derive(Default)]
 pub struct Survey {
+    pub used: u16,
     /// The used length is over the store's.
     pub too_long: bool,
     pub damaged: bool,
@@ -97,7 +105,7 @@ pub struct Survey {
 
 impl Store {
     pub fn empty() -> Self {
-        Store { used: 0, bytes: [0; JOURNAL_LENGTH] }
+        Store { used: 0, bytes: [0; STORE_LENGTH] }
     }
 }
 
@@ -115,15 +123,17 @@ impl<B: Bytes> Store<B> {
         self.unused_bytes().len()
     }
 
-    pub fn survey(&self) -> Survey {
+    pub fn survey(&self, holding: Holding) -> Survey {
+        let mut found = Survey { used: self.used, ..Survey::default() };
         let Some(used) = self.used_bytes() else {
-            return Survey { too_long: true, ..Survey::default() };
+            found.too_long = true;
+            return found;
         };
-        let mut found = Survey { rest_not_zero: !all_zero(self.unused_bytes()), ..Survey::default() };
+        found.rest_not_zero = !all_zero(self.unused_bytes());
         for entry in entries(used) {
             match entry {
                 Ok(entry) => {
-                    found.wrong_body |= !body_fits(entry.kind, entry.body);
+                    found.wrong_body |= !body_fits(entry.kind, entry.body, holding);
                     found.newest = Some(entry.offset);
                 }
                 Err(_) => found.damaged = true,
@@ -133,9 +143,13 @@ impl<B: Bytes> Store<B> {
     }
 
     /// The entry that stands there.
-    pub fn read(&self, offset: usize) -> Option<Change> {
+    pub fn read(&self, offset: usize, holding: Holding) -> Option<Change> {
         let (kind, body) = self.used_bytes()?.get(offset..)?.split_first()?;
-        Change::read(*kind, body)
+        Change::read(*kind, body, holding)
+    }
+
+    pub fn newest(&self, holding: Holding) -> Option<Change> {
+        self.read(self.survey(holding).newest?, holding)
     }
 
     /// The room for an entry of that length, behind the others; it counts as used from now on. `None` if there isn't any.
@@ -167,20 +181,52 @@ impl<B: Bytes> Store<B> {
     }
 }
 
-/// What stood before a change, as an entry's body tells it.
+/// What stood before a change or after it, as an entry's body tells it.
 #[derive(Clone, Copy, PartialEq, Eq, Debug)]
 pub enum Change {
-    Clear { place: u8, log: Log },
+    /// A log was cleared from that place.
+    Clear {
+        place: u8,
+        log: Log,
+    },
+    /// In the redo store: it is to be cleared again.
+    ClearAgain {
+        place: u8,
+        log: Log,
+    },
     State(u8),
-    Role { received: u8, role: u8 },
-    Caps { received: u8, caps: Caps },
+    Role {
+        received: u8,
+        role: u8,
+    },
+    Caps {
+        received: u8,
+        caps: Caps,
+    },
     UserCap(u16),
-    Thermal { received: u8, thermal: [u8; 9] },
-    Throttles { received: u8, throttles: Throttles },
-    Reset { state: u8, log_made: u8 },
+    Thermal {
+        received: u8,
+        thermal: [u8; 9],
+    },
+    Throttles {
+        received: u8,
+        throttles: Throttles,
+    },
+    Reset {
+        state: u8,
+        log_made: u8,
+    },
+    /// In the redo store: the log that the reset had made, zero without one.
+    ResetAgain(Log),
     Mask(u32),
-    Deadman { running: u8, time: u64 },
-    Areas { ffdc: Area, pass: Area },
+    Deadman {
+        running: u8,
+        time: u64,
+    },
+    Areas {
+        ffdc: Area,
+        pass: Area,
+    },
 }
 
 fn read_log(body: &mut Reader) -> Option<Log> {
@@ -218,18 +264,21 @@ pub fn write_area(bytes: &mut Writer, area: &Area) {
 }
 
 /// A body of the kind's length has values that a well-formed record could hold.
-fn body_fits(kind: u8, body: &[u8]) -> bool {
+fn body_fits(kind: u8, body: &[u8], holding: Holding) -> bool {
     match (kind, body) {
         (0x02, [state]) => state_fits(*state), // the shortest, and so the most at a time
-        _ => Change::read(kind, body).is_some_and(|change| change.fits()),
+        _ => Change::read(kind, body, holding).is_some_and(|change| change.fits()),
     }
 }
 
 impl Change {
     /// `None` if the kind is unknown or the body is shorter than the kind's.
-    pub fn read(kind: u8, body: &[u8]) -> Option<Change> {
+    pub fn read(kind: u8, body: &[u8], holding: Holding) -> Option<Change> {
         let mut body = Reader::new(body);
         Some(match kind {
+            0x01 if holding == Holding::After => {
+                Change::ClearAgain { place: body.u8()?, log: read_log(&mut body)? }
+            }
             0x01 => Change::Clear { place: body.u8()?, log: read_log(&mut body)? },
             0x02 => Change::State(body.u8()?),
             0x03 => Change::Role { received: body.u8()?, role: body.u8()? },
@@ -241,6 +290,7 @@ impl Change {
                 let throttles = Throttles { presence: body.u16()?, sets: read_sets(&mut body)? };
                 Change::Throttles { received, throttles }
             }
+            0x08 if holding == Holding::After => Change::ResetAgain(read_log(&mut body)?),
             0x08 => Change::Reset { state: body.u8()?, log_made: body.u8()? },
             0x09 => Change::Mask(body.u32()?),
             0x0A => Change::Deadman { running: body.u8()?, time: body.u64()? },
@@ -251,14 +301,14 @@ impl Change {
 
     pub fn kind(&self) -> u8 {
         match self {
-            Change::Clear { .. } => 0x01,
+            Change::Clear { .. } | Change::ClearAgain { .. } => 0x01,
             Change::State(_) => 0x02,
             Change::Role { .. } => 0x03,
             Change::Caps { .. } => 0x04,
             Change::UserCap(_) => 0x05,
             Change::Thermal { .. } => 0x06,
             Change::Throttles { .. } => 0x07,
-            Change::Reset { .. } => 0x08,
+            Change::Reset { .. } | Change::ResetAgain(_) => 0x08,
             Change::Mask(_) => 0x09,
             Change::Deadman { .. } => 0x0A,
             Change::Areas { .. } => 0x0B,
@@ -273,7 +323,9 @@ impl Change {
     fn write(&self, entry: &mut Writer) {
         entry.put(&[self.kind()]);
         match self {
-            Change::Clear { place, log } => entry.put(&[*place, log.id, log.reason]),
+            Change::Clear { place, log } | Change::ClearAgain { place, log } => {
+                entry.put(&[*place, log.id, log.reason])
+            }
             Change::State(state) => entry.put(&[*state]),
             Change::Role { received, role } => entry.put(&[*received, *role]),
             Change::Caps { received, caps } => {
@@ -290,6 +342,7 @@ impl Change {
                 write_throttles(entry, throttles);
             }
             Change::Reset { state, log_made } => entry.put(&[*state, *log_made]),
+            Change::ResetAgain(log) => entry.put(&[log.id, log.reason]),
             Change::Mask(mask) => entry.put(&mask.to_be_bytes()),
             Change::Deadman { running, time } => {
                 entry.put(&[*running]);
@@ -305,7 +358,9 @@ impl Change {
     /// Values that a well-formed record could hold.
     fn fits(&self) -> bool {
         match self {
-            Change::Clear { place, log } => usize::from(*place) < LOG_PLACES && log_fits(log),
+            Change::Clear { place, log } | Change::ClearAgain { place, log } => {
+                usize::from(*place) < LOG_PLACES && log_fits(log)
+            }
             Change::State(state) => state_fits(*state),
             Change::Role { received, role } => role_fits(*received, *role),
             Change::Caps { received, caps } => caps_fit(*received, caps),
@@ -313,19 +368,21 @@ impl Change {
             Change::Thermal { received, thermal } => thermal_fits(*received, thermal),
             Change::Throttles { received, throttles } => throttles_fit(*received, throttles),
             Change::Reset { state, log_made } => state_fits(*state) && flag_fits(*log_made),
+            Change::ResetAgain(log) => *log == Log::default() || log_fits(log),
             Change::Deadman { running, time } => deadman_fits(*running, *time),
             Change::Areas { ffdc, pass } => area_fits(ffdc) && area_fits(pass),
         }
     }
 
-    /// The record as it was before; `None` if a log can't go back to its place or none is there to remove.
-    pub fn restore(&self, now: &Record) -> Option<Record> {
+    /// The record with these values put in; `None` if a log can't go to its place or isn't there to go.
+    pub fn put(&self, now: &Record) -> Option<Record> {
         let mut record = *now;
         match *self {
-            Change::Clear { place, log } => {
-                if !record.insert_log(usize::from(place), log) {
-                    return None;
-                }
+            Change::Clear { place, log } => insert(&mut record, usize::from(place), log)?,
+            Change::ClearAgain { place, log } => {
+                let place = usize::from(place);
+                record.logs.get(place).filter(|there| **there == log)?;
+                record.remove_log(place);
             }
             Change::State(state) => record.state = state,
             Change::Role { received, role } => {
@@ -347,10 +404,47 @@ impl Change {
                     record.remove_log(record.pending().checked_sub(1)?);
                 }
             }
+            Change::ResetAgain(log) => {
+                record.state = STANDBY;
+                if log != Log::default() {
+                    let behind = record.pending();
+                    insert(&mut record, behind, log)?;
+                }
+            }
             Change::Mask(mask) => record.mask = mask,
             Change::Deadman { running, time } => (record.running, record.time) = (running, time),
             Change::Areas { ffdc, pass } => (record.ffdc, record.pass) = (ffdc, pass),
         }
         Some(record)
     }
+
+    /// What the other store gets when this is put into the record: the values now in force, and of logs what takes it back.
+    pub fn opposite(&self, now: &Record) -> Change {
+        match *self {
+            Change::Clear { place, log } => Change::ClearAgain { place, log },
+            Change::ClearAgain { place, log } => Change::Clear { place, log },
+            Change::State(_) => Change::State(now.state),
+            Change::Role { .. } => Change::Role { received: now.role_received, role: now.role },
+            Change::Caps { .. } => Change::Caps { received: now.caps_received, caps: now.caps },
+            Change::UserCap(_) => Change::UserCap(now.user_cap),
+            Change::Thermal { .. } => {
+                Change::Thermal { received: now.thermal_received, thermal: now.thermal }
+            }
+            Change::Throttles { .. } => {
+                Change::Throttles { received: now.throttles_received, throttles: now.throttles }
+            }
+            Change::Reset { log_made: 0, .. } => Change::ResetAgain(Log::default()),
+            Change::Reset { .. } => Change::ResetAgain(now.newest_log()),
+            Change::ResetAgain(log) => {
+                Change::Reset { state: now.state, log_made: u8::from(log != Log::default()) }
+            }
+            Change::Mask(_) => Change::Mask(now.mask),
+            Change::Deadman { .. } => Change::Deadman { running: now.running, time: now.time },
+            Change::Areas { .. } => Change::Areas { ffdc: now.ffdc, pass: now.pass },
+        }
+    }
+}
+
+fn insert(record: &mut Record, place: usize, log: Log) -> Option<()> {
+    record.insert_log(place, log).then_some(())
 }

@@ -17,8 +17,9 @@ const HELP: &str = "\
 occ SS BYTES      an OCC command from sender SS (10 HTMGT, 20 BMC)
 sbe BYTES         an SBE mailbox request of 32 bytes
 undo              take the newest change back
+redo              put the change last taken back in again
 fresh             begin again with a fresh session
-image             the session as 2287 bytes
+image             the session as 4337 bytes
 load BYTES        go on with the session of such an image
 send SS TT DATA   as occ: a packet of type TT, framed for you
 buffer N          reply buffers of N bytes; alone: whole ones again
@@ -37,6 +38,7 @@ pub enum Order {
     },
     Sbe(Vec<u8>),
     Undo,
+    Redo,
     Fresh,
     Image,
     Load(Vec<u8>),
@@ -149,7 +151,7 @@ fn command_over(column: usize) -> Complaint {
 }
 
 fn wrong_image(_column: usize) -> Complaint {
-    "? image must be 2287 bytes".to_string()
+    "? image must be 4337 bytes".to_string()
 }
 
 /// `None` for a line that is skipped. The line comes without its end.
@@ -180,6 +182,7 @@ fn parse_words(rest: &mut Scanner) -> Result<Order, Complaint> {
         b"load" => parse_image(rest),
         b"buffer" => parse_buffer(rest),
         b"undo" => rest.nothing_more(Order::Undo),
+        b"redo" => rest.nothing_more(Order::Redo),
         b"fresh" => rest.nothing_more(Order::Fresh),
         b"image" => rest.nothing_more(Order::Image),
         b"show" => rest.nothing_more(Order::Show),
@@ -238,10 +241,8 @@ impl Program {
                 self.sequence = self.sequence.wrapping_add(1);
                 self.occ(sender, &command_packet(self.sequence, command_type, &data))
             }
-            Order::Undo => match self.session.undo() {
-                (DONE, kind) => format!("{DONE} {kind:02X}\n"),
-                (answer, _) => format!("{answer}\n"),
-            },
+            Order::Undo => taken(self.session.undo()),
+            Order::Redo => taken(self.session.redo()),
             Order::Fresh => self.go_on_with(Some(Session::fresh())),
             Order::Load(bytes) => self.go_on_with(image::read(&bytes)),
             Order::Buffer(length) => {
@@ -281,6 +282,14 @@ impl Program {
             Some(written) if answer == DONE => format!("{DONE} {} bell {bell:04X}\n", hex_spaced(written)),
             _ => format!("{answer}\n"),
         }
+    }
+}
+
+/// The answer of an undo or a redo, and the kind if it was done.
+fn taken((answer, kind): (u8, u8)) -> String {
+    match answer {
+        DONE => format!("{DONE} {kind:02X}\n"),
+        _ => format!("{answer}\n"),
     }
 }
 

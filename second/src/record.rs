@@ -145,6 +145,11 @@ impl Record {
         self.logs.iter().take_while(|log| log.id != 0).count()
     }
 
+    /// The last that pends, zero without one.
+    pub fn newest_log(&self) -> Log {
+        self.logs.iter().take(self.pending()).next_back().copied().unwrap_or_default()
+    }
+
     /// `None` for an id that isn't pending; 0 never is.
     pub fn place_of(&self, id: u8) -> Option<usize> {
         self.logs.iter().position(|log| log.id != 0 && log.id == id)

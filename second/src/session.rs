@@ -1,6 +1,6 @@
-//! The session, its answers, and undo.
+//! The session, its answers, undo and redo.
 
-use crate::journal::{Bytes, Change, Store, Survey, JOURNAL_LENGTH};
+use crate::journal::{Bytes, Change, Holding, Store, Survey, STORE_LENGTH};
 use crate::occ;
 use crate::record::*;
 use crate::sbe;
@@ -16,18 +16,21 @@ pub const REPLY_TOO_SHORT: u8 = 3;
 pub const COMMAND_TOO_SHORT: u8 = 4;
 pub const JOURNAL_FULL: u8 = 5;
 pub const NOTHING_TO_UNDO: u8 = 6;
+/// Redo alike.
 pub const CANNOT_UNDO: u8 = 7;
+pub const NOTHING_TO_REDO: u8 = 8;
 
-/// The journal's bytes are the session's own, or a part of an image that was lent.
+/// The bytes of the two stores are the session's own, or parts of an image that was lent.
 #[derive(Clone, PartialEq, Eq, Debug)]
-pub struct Session<B = [u8; JOURNAL_LENGTH]> {
+pub struct Session<B = [u8; STORE_LENGTH]> {
     pub record: Record,
     pub worked_out: WorkedOut,
     pub next_id: u16,
     pub journal: Store<B>,
+    pub redo: Store<B>,
 }
 
-/// What commands are judged by: the session without its journal.
+/// What commands are judged by: the session without its stores.
 pub struct Standing<'a> {
     pub record: &'a Record,
     pub worked_out: &'a WorkedOut,
@@ -46,6 +49,7 @@ pub struct Inspection<'a> {
     standing: Standing<'a>,
     due: WorkedOut,
     journal: Survey,
+    redo: Survey,
 }
 
 /// A rule of well-formedness: its name and whether a session obeys it.
@@ -75,9 +79,18 @@ pub const RULES: &[Rule] = &[
     // Of a journal that can't be read to its end, no body is judged.
     ("journal bodies", |s| !s.journal.wrong_body || s.journal.damaged),
     ("unused journal zero", |s| !s.journal.rest_not_zero),
+    ("redo used length", |s| !s.redo.too_long),
+    ("redo entries", |s| !s.redo.damaged),
+    ("redo bodies", |s| !s.redo.wrong_body || s.redo.damaged),
+    ("unused redo zero", |s| !s.redo.rest_not_zero),
+    ("lengths together", |s| s.journal.too_long || s.redo.too_long || s.lengths() <= STORE_LENGTH),
 ];
 
 impl Inspection<'_> {
+    fn lengths(&self) -> usize {
+        usize::from(self.journal.used) + usize::from(self.redo.used)
+    }
+
     fn well_formed(&self) -> bool {
         RULES.iter().all(|(_, obeyed)| obeyed(self))
     }
@@ -86,7 +99,8 @@ impl Inspection<'_> {
 impl Session {
     pub fn fresh() -> Self {
         let record = Record::fresh();
-        Session { record, worked_out: record.work_out(), next_id: 1, journal: Store::empty() }
+        let (journal, redo) = (Store::empty(), Store::empty());
+        Session { record, worked_out: record.work_out(), next_id: 1, journal, redo }
     }
 }
 
@@ -96,7 +110,12 @@ impl<B: Bytes> Session<B> {
     }
 
     fn inspect(&self) -> Inspection<'_> {
-        Inspection { standing: self.standing(), due: self.record.work_out(), journal: self.journal.survey() }
+        Inspection {
+            standing: self.standing(),
+            due: self.record.work_out(),
+            journal: self.journal.survey(Holding::Before),
+            redo: self.redo.survey(Holding::After),
+        }
     }
 
     pub fn well_formed(&self) -> bool {
@@ -114,13 +133,15 @@ impl<B: Bytes> Session<B> {
         self.worked_out = record.work_out();
     }
 
-    /// Adds the entry and makes the change; false, and nothing done, if the entry is longer than the room.
+    /// Adds the entry, makes the change and empties the redo store; false, and nothing done, if the entry is longer than
+    /// the journal's room.
     fn accept(&mut self, accepted: &Accepted) -> bool {
         if !self.journal.push(&accepted.before) {
             return false;
         }
         self.set_record(accepted.record);
         self.next_id = accepted.next_id;
+        self.redo.cut(0);
         true
     }
 
@@ -167,24 +188,41 @@ impl<B: Bytes> Session<B> {
         (DONE, sbe::doorbell(request.flags))
     }
 
-    /// The answer and the kind taken back, 0 when refused. The next id is never wound back.
+    /// Takes the newest change back: the answer and its kind, 0 when refused. The next id is never wound back.
     pub fn undo(&mut self) -> (u8, u8) {
+        self.take_newest(Holding::Before)
+    }
+
+    /// Puts the change last taken back in again: likewise. The next id doesn't move.
+    pub fn redo(&mut self) -> (u8, u8) {
+        self.take_newest(Holding::After)
+    }
+
+    /// The newest entry of the store that holds that goes into the record; what it finds there goes into the other store.
+    fn take_newest(&mut self, holding: Holding) -> (u8, u8) {
         let inspection = self.inspect();
         if !inspection.well_formed() {
             return (NOT_WELL_FORMED, 0);
         }
-        let Some(newest) = inspection.journal.newest else {
-            return (NOTHING_TO_UNDO, 0);
+        let newest = [inspection.journal.newest, inspection.redo.newest];
+        let (from, to, newest, nothing) = match holding {
+            Holding::Before => (&mut self.journal, &mut self.redo, newest[0], NOTHING_TO_UNDO),
+            Holding::After => (&mut self.redo, &mut self.journal, newest[1], NOTHING_TO_REDO),
         };
-        let undone =
-            self.journal.read(newest).and_then(|change| Some((change.kind(), change.restore(&self.record)?)));
-        match undone {
-            Some((kind, record)) if record_fits(&record, self.next_id) => {
-                self.set_record(record);
-                self.journal.cut(newest);
-                (DONE, kind)
-            }
-            _ => (CANNOT_UNDO, 0),
-        }
+        let Some(newest) = newest else {
+            return (nothing, 0);
+        };
+        let change = from.read(newest, holding);
+        let record = change.and_then(|change| change.put(&self.record));
+        let (Some(change), Some(record)) =
+            (change, record.filter(|record| record_fits(record, self.next_id)))
+        else {
+            return (CANNOT_UNDO, 0);
+        };
+        from.cut(newest);
+        let moved = to.push(&change.opposite(&self.record));
+        assert!(moved, "both stores together hold at most what one has room for");
+        self.set_record(record);
+        (DONE, change.kind())
     }
 }

@@ -1,6 +1,6 @@
 //! The session for a person; a damaged one shows too.
 
-use crate::journal::{list, JOURNAL_LENGTH};
+use crate::journal::{list, Store, STORE_LENGTH};
 use crate::record::*;
 use crate::session::Session;
 use std::fmt::Write;
@@ -30,12 +30,23 @@ fn joined(words: impl Iterator<Item = String>) -> String {
     }
 }
 
-/// The listing of the used journal, as the lister writes it.
-pub fn journal_listing(session: &Session) -> String {
-    match session.journal.used_bytes() {
+/// The listing of the used part, as the lister writes it.
+fn listing(store: &Store) -> String {
+    match store.used_bytes() {
         Some(used) => list(used),
-        None => list(&[0; JOURNAL_LENGTH + 1]),
+        None => list(&[0; STORE_LENGTH + 1]),
     }
+}
+
+pub fn journal_listing(session: &Session) -> String {
+    listing(&session.journal)
+}
+
+/// `redo` and what the listing's first line says, a number without its word.
+fn redo_line(session: &Session) -> String {
+    let listing = listing(&session.redo);
+    let first = listing.lines().next().unwrap_or("");
+    format!("redo {}", first.strip_prefix("journal ").unwrap_or(first))
 }
 
 pub fn show(session: &Session) -> String {
@@ -89,6 +100,7 @@ fn write_rest(text: &mut String, session: &Session) -> std::fmt::Result {
     for (name, area) in [("ffdc", &record.ffdc), ("pass", &record.pass)] {
         writeln!(text, "area {name} {:016X} {:08X}", area.address, area.size)?;
     }
+    writeln!(text, "{}", redo_line(session))?;
     writeln!(text, "next id {}", session.next_id)?;
     let listing = journal_listing(session);
     writeln!(text, "{}", listing.lines().next().unwrap_or(""))?;

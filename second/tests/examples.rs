@@ -119,10 +119,10 @@ fn reply_buffers_one_short() {
 fn images_are_read_back_as_they_were() {
     for factor in [1usize, 7, 251] {
         let bytes: Vec<u8> = (0..image::IMAGE_LENGTH).map(|at| (at * factor % 256) as u8).collect();
-        let session = image::read(&bytes).expect("2287 bytes are an image");
+        let session = image::read(&bytes).expect("an image");
         assert_eq!(image::write(&session), bytes);
     }
-    assert!(image::read(&[0; 2286]).is_none() && image::read(&[0; 2288]).is_none());
+    assert!(image::read(&[0; 4336]).is_none() && image::read(&[0; 4338]).is_none());
 }
 
 #[test]
@@ -162,6 +162,6 @@ fn a_fresh_session_shows_as_the_page_says() {
                 thresholds 255 255 255 255 255 255 255 255 255 not received\n\
                 throttles none not received\nlogs none\ncores out none\ndeadman off 0\n\
                 area ffdc 0000000000000000 00000000\narea pass 0000000000000000 00000000\n\
-                next id 1\njournal 0\nroom 2048\n.\n";
+                redo 0\nnext id 1\njournal 0\nroom 2048\n.\n";
     assert_eq!(after(&["show"]).1, page);
 }

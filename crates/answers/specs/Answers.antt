@@ -8,6 +8,7 @@ use Rattle.wire.specs.Wire.{beNat, toBE}
 use Rattle.text.specs.Text.{ascii, lineEnd, hexOf, hexes, spaced, decimal}
 use Rattle.listing.specs.Listing.{tooLong, listing, longest}
 use Rattle.orders.specs.declared.Wrong.{Wrong}
+use Rattle.orders.specs.Orders.{imageBytes}
 use Rattle.orders.specs.declared.Wrong.the-variants.{LongLine, NoWord, MoreText, NoDigit, TooMany, NoImage, NoNumber, LongBuffer}
 
 -- "Every answer line ends in one LF"
@@ -19,13 +20,16 @@ lineText s = s ∷ lineEnd ∷ []
 unfoldable pub columnText : List ℕ → ℕ → List (List ℕ)
 columnText what column = ascii "? " ∷ what ∷ ascii " at column " ∷ decimal column ∷ lineEnd ∷ []
 
+unfoldable pub imageComplaint : List (List ℕ)
+imageComplaint = ascii "? image must be " ∷ decimal imageBytes ∷ ascii " bytes\n" ∷ []
+
 unfoldable pub complaintText : Wrong → ℕ → List (List ℕ)
 complaintText LongLine column = columnText (ascii "line over 32768 bytes") column
 complaintText NoWord column = columnText (ascii "unknown word") column
 complaintText MoreText column = columnText (ascii "nothing more expected") column
 complaintText NoDigit column = columnText (ascii "hex digit expected") column
 complaintText TooMany column = columnText (ascii "command over 8192 bytes") column
-complaintText NoImage column = lineText (ascii "? image must be 2287 bytes")
+complaintText NoImage column = imageComplaint
 complaintText NoNumber column = columnText (ascii "number expected") column
 complaintText LongBuffer column = columnText (ascii "number over 8192") column
 
@@ -54,13 +58,13 @@ bellText bell = ascii " bell " ∷ hexes (toBE 2 bell)
 unfoldable pub rungText : ℕ → List ℕ → ℕ → List (List ℕ)
 rungText answer response bell = callText answer (spaced response ++ bellText bell)
 
--- "a blank and the kind, two hex digits"
-unfoldable pub undoneText : ℕ → ℕ → List (List ℕ)
-undoneText answer kind = callText answer (ascii " " ∷ hexOf kind ∷ [])
+-- undo and redo: "a blank and the kind, two hex digits"
+unfoldable pub kindText : ℕ → ℕ → List (List ℕ)
+kindText answer kind = callText answer (ascii " " ∷ hexOf kind ∷ [])
 
 -- ---- views
 
--- "`image `, then the session's 2,287 bytes in capitals without blanks"
+-- "`image `, then the session's bytes in capitals without blanks"
 unfoldable pub imageText : List ℕ → List (List ℕ)
 imageText bytes = ascii "image " ∷ (hexes bytes ++ (lineEnd ∷ []))
 
@@ -80,8 +84,9 @@ helpText =
     ascii "occ SS BYTES      an OCC command from sender SS (10 HTMGT, 20 BMC)\n"
     ∷ ascii "sbe BYTES         an SBE mailbox request of 32 bytes\n"
     ∷ ascii "undo              take the newest change back\n"
+    ∷ ascii "redo              put the change last taken back in again\n"
     ∷ ascii "fresh             begin again with a fresh session\n"
-    ∷ ascii "image             the session as 2287 bytes\n"
+    ∷ ascii "image             the session as " ∷ decimal imageBytes ∷ ascii " bytes\n"
     ∷ ascii "load BYTES        go on with the session of such an image\n"
     ∷ ascii "send SS TT DATA   as occ: a packet of type TT, framed for you\n"
     ∷ ascii "buffer N          reply buffers of N bytes; alone: whole ones again\n"

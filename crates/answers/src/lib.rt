@@ -3,7 +3,7 @@ ghost use mathlib.Core.Path.{_≡_};
 ghost use lib.ListN.{length, take, drop};
 ghost use Rattle.io.specs.Counts.{Counts};
 ghost use Rattle.text.specs.Text.{sheet, putOn, putAll, atFront, lineEnd};
-ghost use Rattle.answers.specs.Answers.{lineText, columnText, complaintText, replyLength, replyText, bellText, rungText, undoneText, imageText, listText, journalText, helpText};
+ghost use Rattle.answers.specs.Answers.{lineText, columnText, imageComplaint, complaintText, replyLength, replyText, bellText, rungText, kindText, imageText, listText, journalText, helpText};
 use orders::Wrong;
 
 fn put_end(out: &mut [u8], at: usize) -> usize
@@ -34,6 +34,15 @@ fn at_column(out: &mut [u8], what: &[u8], column: usize) -> usize
     put_end(out, end)
 }
 
+fn not_an_image(out: &mut [u8]) -> usize
+    ensures { λ r. ⌜ Counts r (now (out .exit)) ⌝ }
+    ensures { λ r. ⌜ sheet (now (out .exit)) r ≡ atFront (now (out .entry)) imageComplaint ⌝ }
+{
+    let mark = text::put(out, 0, b"? image must be ");
+    let number = text::put_decimal(out, mark, orders::IMAGE as u64);
+    text::put(out, number, b" bytes\n")
+}
+
 pub fn complaint(out: &mut [u8], what: Wrong, column: usize) -> usize
     ensures { λ r. ⌜ Counts r (now (out .exit)) ⌝ }
     ensures { λ r. ⌜ sheet (now (out .exit)) r ≡ atFront (now (out .entry)) (complaintText what column) ⌝ }
@@ -44,7 +53,7 @@ pub fn complaint(out: &mut [u8], what: Wrong, column: usize) -> usize
         Wrong::MoreText => at_column(out, b"nothing more expected", column),
         Wrong::NoDigit => at_column(out, b"hex digit expected", column),
         Wrong::TooMany => at_column(out, b"command over 8192 bytes", column),
-        Wrong::NoImage => line(out, b"? image must be 2287 bytes"),
+        Wrong::NoImage => not_an_image(out),
         Wrong::NoNumber => at_column(out, b"number expected", column),
         Wrong::LongBuffer => at_column(out, b"number over 8192", column),
     }
@@ -104,10 +113,10 @@ pub fn rung(out: &mut [u8], answer: u8, response: &[u8], bell: u16) -> usize
     put_end(out, end)
 }
 
-// The session answer, and after 0 the kind.
-pub fn undone(out: &mut [u8], answer: u8, kind: u8) -> usize
+// The session answer of an undo or redo, and after 0 the kind.
+pub fn with_kind(out: &mut [u8], answer: u8, kind: u8) -> usize
     ensures { λ r. ⌜ Counts r (now (out .exit)) ⌝ }
-    ensures { λ r. ⌜ sheet (now (out .exit)) r ≡ atFront (now (out .entry)) (undoneText answer kind) ⌝ }
+    ensures { λ r. ⌜ sheet (now (out .exit)) r ≡ atFront (now (out .entry)) (kindText answer kind) ⌝ }
 {
     let at = text::put_decimal(out, 0, answer as u64);
     if answer != 0 {
@@ -147,9 +156,9 @@ pub fn journal(out: &mut [u8], j: &[u8], used: usize) -> usize
     text::put(out, end, b".\n")
 }
 
-// The words for calls and for the session as bytes.
+// The words for calls.
 fn put_calls(out: &mut [u8]) -> usize
-    ensures { λ r. ⌜ sheet (now (out .exit)) r ≡ atFront (now (out .entry)) (take 6 helpText) ⌝ }
+    ensures { λ r. ⌜ sheet (now (out .exit)) r ≡ atFront (now (out .entry)) (take 4 helpText) ⌝ }
 {
     let a = text::put(
         out,
@@ -162,22 +171,35 @@ fn put_calls(out: &mut [u8]) -> usize
         b"sbe BYTES         an SBE mailbox request of 32 bytes\n",
     );
     let c = text::put(out, b, b"undo              take the newest change back\n");
-    let d = text::put(
-        out,
-        c,
-        b"fresh             begin again with a fresh session\n",
-    );
-    let e = text::put(out, d, b"image             the session as 2287 bytes\n");
     text::put(
         out,
-        e,
+        c,
+        b"redo              put the change last taken back in again\n",
+    )
+}
+
+// The words for the session as a whole.
+fn put_sessions(out: &mut [u8], at: usize) -> usize
+    ensures { λ r. ⌜ sheet (now (out .exit)) r ≡ putAll (sheet (now (out .entry)) at) (take 5 (drop 4 helpText)) ⌝ }
+{
+    let a = text::put(
+        out,
+        at,
+        b"fresh             begin again with a fresh session\n",
+    );
+    let b = text::put(out, a, b"image             the session as ");
+    let c = text::put_decimal(out, b, orders::IMAGE as u64);
+    let d = text::put(out, c, b" bytes\n");
+    text::put(
+        out,
+        d,
         b"load BYTES        go on with the session of such an image\n",
     )
 }
 
 // The words for packets and for reply buffers.
 fn put_sends(out: &mut [u8], at: usize) -> usize
-    ensures { λ r. ⌜ sheet (now (out .exit)) r ≡ putAll (sheet (now (out .entry)) at) (take 2 (drop 6 helpText)) ⌝ }
+    ensures { λ r. ⌜ sheet (now (out .exit)) r ≡ putAll (sheet (now (out .entry)) at) (take 2 (drop 9 helpText)) ⌝ }
 {
     let a = text::put(
         out,
@@ -196,7 +218,8 @@ pub fn help(out: &mut [u8]) -> usize
     ensures { λ r. ⌜ sheet (now (out .exit)) r ≡ atFront (now (out .entry)) helpText ⌝ }
 {
     let calls = put_calls(out);
-    let a = put_sends(out, calls);
+    let sessions = put_sessions(out, calls);
+    let a = put_sends(out, sessions);
     let b = text::put(out, a, b"show              the session for a person\n");
     let c = text::put(out, b, b"journal           the journal's entries\n");
     let d = text::put(out, c, b"help              these words\n");

@@ -12,7 +12,7 @@ use Rattle.inplace.specs.declared.Told.{Told}
 use Rattle.inplace.specs.InPlace.{Left, noImage}
 use Rattle.occ_call.specs.Occ.{occOn}
 use Rattle.sbe_call.specs.Sbe.{sbeOn}
-use Rattle.undo_call.specs.Undo.{undoOn}
+use Rattle.undo_call.specs.Undo.{undoOn, redoOn}
 
 -- the answer in the low 16 bits, what stands beside it in the high 16
 unfoldable pub packed : Told → ℕ
@@ -41,3 +41,6 @@ SbeReturns b r d result image reply =
 
 abbrev pub UndoReturns : List ℕ → ℕ → List ℕ → Type 0
 UndoReturns b result image = (result ≡ packed (undoOn b .told)) and (image ≡ undoOn b .image)
+
+abbrev pub RedoReturns : List ℕ → ℕ → List ℕ → Type 0
+RedoReturns b result image = (result ≡ packed (redoOn b .told)) and (image ≡ redoOn b .image)

@@ -1,7 +1,7 @@
 // The calls for C: those of `occ_call`, `sbe_call` and `undo_call` under C names. A result has the answer in its low 16 bits and what stands
 // beside it in the high 16.
 ghost use mathlib.Core.Path.{_≡_};
-ghost use Rattle.bjargolsk.specs.Calls.{packed, FreshReturns, OccReturns, SbeReturns, UndoReturns};
+ghost use Rattle.bjargolsk.specs.Calls.{packed, FreshReturns, OccReturns, SbeReturns, UndoReturns, RedoReturns};
 use inplace::Told;
 
 fn pack(t: Told) -> u32
@@ -49,4 +49,12 @@ pub extern "C" fn bjargolsk_undo(lent: &mut [u8]) -> u32
     ensures { λ x. ⌜ UndoReturns (now (lent .entry)) x (now (lent .exit)) ⌝ }
 {
     pack(undo_call::undo(lent))
+}
+
+// The change last taken back put in again; the high 16 bits are its kind.
+#[no_mangle]
+pub extern "C" fn bjargolsk_redo(lent: &mut [u8]) -> u32
+    ensures { λ x. ⌜ RedoReturns (now (lent .entry)) x (now (lent .exit)) ⌝ }
+{
+    pack(undo_call::redo(lent))
 }

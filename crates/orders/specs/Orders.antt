@@ -2,7 +2,7 @@
 use Prim.Native.Nat.{ℕ, _+_, _-_}
 use mathlib.Core.Bool.{Bool, true, cond, not}
 use mathlib.Core.Path.{_≡_}
-use mathlib.Core.List.{List, [], _∷_}
+use mathlib.Core.List.{List}
 use lib.Dec.{eqb, ltb, leb}
 use lib.ListN.{length, take, drop, getD}
 use Rattle.wire.specs.Wire.{pasted}
@@ -10,10 +10,10 @@ use Rattle.text.specs.declared.Fault.{Fault}
 use Rattle.text.specs.declared.Fault.the-variants.{Nothing, Digit, Over}
 use Rattle.text.specs.declared.Number.{Number}
 use Rattle.text.specs.declared.Number.the-variants.{Missing, TooGreat, Is}
-use Rattle.text.specs.Text.{inWord, leading, pastBlanks, sameText, HexRun, hexRun}
+use Rattle.text.specs.Text.{ascii, inWord, leading, pastBlanks, sameText, HexRun, hexRun}
 use Rattle.text.specs.Numbers.{numberAt}
 use Rattle.orders.specs.declared.Call.{Call}
-use Rattle.orders.specs.declared.Call.the-variants.{Occ, Sbe, Send, Load, Undo, Fresh}
+use Rattle.orders.specs.declared.Call.the-variants.{Occ, Sbe, Send, Load, Undo, Redo, Fresh}
 use Rattle.orders.specs.declared.View.the-variants.{Image, Show, Journal, Help}
 use Rattle.orders.specs.declared.Buffer.the-variants.{Whole, Bytes}
 use Rattle.orders.specs.declared.Wrong.{Wrong}
@@ -21,6 +21,10 @@ use Rattle.orders.specs.declared.Wrong.the-variants.{LongLine, NoWord, M
 use Rattle.orders.specs.declared.Word.{Word}
 use Rattle.orders.specs.declared.Word.the-variants.{Make, Look, Lend, Fail, Skip}
 use Rattle.orders.specs.declared.Order.{Order}
+
+-- how many bytes an image has
+abbrev pub imageBytes : ℕ
+imageBytes = 4337
 
 abbrev pub plainly : Word → Order
 plainly w = record { word = w; count = 0; column = 0 }
@@ -32,22 +36,23 @@ wrongAt what column = record { word = Fail what; count = 0; column = column }
 
 unfoldable pub viewOf : List ℕ → Word
 viewOf w =
-    cond (sameText w (105 ∷ 109 ∷ 97 ∷ 103 ∷ 101 ∷ [])) (Look Image)
-    (cond (sameText w (115 ∷ 104 ∷ 111 ∷ 119 ∷ [])) (Look Show)
-    (cond (sameText w (106 ∷ 111 ∷ 117 ∷ 114 ∷ 110 ∷ 97 ∷ 108 ∷ [])) (Look Journal)
-    (cond (sameText w (104 ∷ 101 ∷ 108 ∷ 112 ∷ [])) (Look Help)
+    cond (sameText w (ascii "image")) (Look Image)
+    (cond (sameText w (ascii "show")) (Look Show)
+    (cond (sameText w (ascii "journal")) (Look Journal)
+    (cond (sameText w (ascii "help")) (Look Help)
     (Fail NoWord))))
 
 unfoldable pub wordOf : List ℕ → Word
 wordOf w =
-    cond (sameText w (111 ∷ 99 ∷ 99 ∷ [])) (Make Occ)
-    (cond (sameText w (115 ∷ 98 ∷ 101 ∷ [])) (Make Sbe)
-    (cond (sameText w (115 ∷ 101 ∷ 110 ∷ 100 ∷ [])) (Make Send)
-    (cond (sameText w (108 ∷ 111 ∷ 97 ∷ 100 ∷ [])) (Make Load)
-    (cond (sameText w (117 ∷ 110 ∷ 100 ∷ 111 ∷ [])) (Make Undo)
-    (cond (sameText w (102 ∷ 114 ∷ 101 ∷ 115 ∷ 104 ∷ [])) (Make Fresh)
-    (cond (sameText w (98 ∷ 117 ∷ 102 ∷ 102 ∷ 101 ∷ 114 ∷ [])) (Lend Whole)
-    (viewOf w)))))))
+    cond (sameText w (ascii "occ")) (Make Occ)
+    (cond (sameText w (ascii "sbe")) (Make Sbe)
+    (cond (sameText w (ascii "send")) (Make Send)
+    (cond (sameText w (ascii "load")) (Make Load)
+    (cond (sameText w (ascii "undo")) (Make Undo)
+    (cond (sameText w (ascii "redo")) (Make Redo)
+    (cond (sameText w (ascii "fresh")) (Make Fresh)
+    (cond (sameText w (ascii "buffer")) (Lend Whole)
+    (viewOf w))))))))
 
 -- ---- what follows a word
 
@@ -79,7 +84,7 @@ bytesBy (Over column) call n due end = wrongAt TooMany column
 
 -- "another number of bytes"
 unfoldable pub imageBy : Fault → ℕ → Order
-imageBy Nothing n = cond (not (eqb n 2287)) (wrongAt NoImage 0) (plainly (Make Load))
+imageBy Nothing n = cond (not (eqb n imageBytes)) (wrongAt NoImage 0) (plainly (Make Load))
 imageBy (Digit column) n = wrongAt NoDigit column
 imageBy (Over column) n = wrongAt NoImage 0
 
@@ -111,7 +116,8 @@ sendOf line from d = ordered (bytesOf Send 2 (hexRun line from 8188) line) (past
 
 unfoldable pub loadOf : List ℕ → ℕ → List ℕ → Ordered
 loadOf line from d =
-    ordered (imageBy ((hexRun line from 2287) .fault) (length ((hexRun line from 2287) .bytes))) (pasted 0 ((hexRun line from 2287) .bytes) d)
+    ordered (imageBy ((hexRun line from imageBytes) .fault) (length ((hexRun line from imageBytes) .bytes)))
+    (pasted 0 ((hexRun line from imageBytes) .bytes) d)
 
 unfoldable pub callOf : Call → List ℕ → ℕ → List ℕ → Ordered
 callOf Occ line from d = occOf line from d
@@ -119,6 +125,7 @@ callOf Sbe line from d = sbeOf line from d
 callOf Send line from d = sendOf line from d
 callOf Load line from d = loadOf line from d
 callOf Undo line from d = ordered (aloneOf (Make Undo) line from) d
+callOf Redo line from d = ordered (aloneOf (Make Redo) line from) d
 callOf Fresh line from d = ordered (aloneOf (Make Fresh) line from) d
 
 -- ---- lines

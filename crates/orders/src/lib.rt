@@ -13,7 +13,7 @@ use text::Taken;
 pub const MOST_LINE: usize = 32768;
 
 // How many bytes an image has.
-pub const IMAGE: usize = 2287;
+pub const IMAGE: usize = 4337;
 
 // A buffer with room for the longest command, as it is read and as it is framed.
 pub const ROOM: usize = 8198;
@@ -28,6 +28,7 @@ pub enum Call {
     Send,
     Load,
     Undo,
+    Redo,
     Fresh,
 }
 
@@ -131,6 +132,9 @@ fn word_of(word: &[u8]) -> Word
     }
     if text::same(word, b"undo") {
         return Word::Make(Call::Undo);
+    }
+    if text::same(word, b"redo") {
+        return Word::Make(Call::Redo);
     }
     if text::same(word, b"fresh") {
         return Word::Make(Call::Fresh);
@@ -281,6 +285,7 @@ fn read_call(call: Call, line: &[u8], from: usize, sent: &mut [u8]) -> Order
         Call::Send => send(line, from, sent),
         Call::Load => load(line, from, sent),
         Call::Undo => alone(Word::Make(Call::Undo), line, from),
+        Call::Redo => alone(Word::Make(Call::Redo), line, from),
         Call::Fresh => alone(Word::Make(Call::Fresh), line, from),
     }
 }

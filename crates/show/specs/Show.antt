@@ -153,24 +153,33 @@ restText r =
     ++ (deadmanText (r .deadman)
     ++ areasText (r .areas)))))
 
--- ---- the journal
+-- ---- the stores
 
--- "the first line of the listing"
-unfoldable pub readingText : Reading → List (List ℕ)
-readingText (Whole count newest) = namedText (ascii "journal") count
-readingText (Unknown place) = namedText (ascii "damaged at") place
-readingText (Cut place) = namedText (ascii "damaged at") place
+-- the number of entries after the name for a whole store, or the place where they break off after the one for a damaged store
+unfoldable pub readingText : List ℕ → List ℕ → Reading → List (List ℕ)
+readingText whole damaged (Whole count newest) = namedText whole count
+readingText whole damaged (Unknown place) = namedText damaged place
+readingText whole damaged (Cut place) = namedText damaged place
 
--- "the unused bytes of the journal; 0 if the used length is over 2,048"
+-- the first `used` bytes of a store, or the line for a used length that is too long
+unfoldable pub storeText : List ℕ → List ℕ → List ℕ → List ℕ → ℕ → List (List ℕ)
+storeText whole damaged long s used =
+    cond (ltb (length s) used) (long ∷ []) (readingText whole damaged (readingOf (scan (take used s))))
+
+-- "`redo N`, `redo damaged at N` or `redo too long`"
+unfoldable pub redoText : List ℕ → ℕ → List (List ℕ)
+redoText redo ahead = storeText (ascii "redo") (ascii "redo damaged at") (ascii "redo too long\n") redo ahead
+
+-- "`journal N`, `damaged at N` or `too long`"; "the unused bytes of the journal; 0 if the used length is over 2,048"
 unfoldable pub journalText : List ℕ → ℕ → List (List ℕ)
 journalText j used =
-    cond (ltb (length j) used) (ascii "too long\nroom 0\n" ∷ [])
-    (readingText (readingOf (scan (take used j))) ++ namedText (ascii "room") (length j - used))
+    storeText (ascii "journal") (ascii "damaged at") (ascii "too long\n") j used ++ namedText (ascii "room") (length j - used)
 
-unfoldable pub sessionText : Record → Worked → ℕ → List ℕ → ℕ → List (List ℕ)
-sessionText r w next j used =
+unfoldable pub sessionText : Record → Worked → ℕ → List ℕ → ℕ → List ℕ → ℕ → List (List ℕ)
+sessionText r w next j used redo ahead =
     settingsText r w
     ++ (restText r
+    ++ (redoText redo ahead
     ++ (namedText (ascii "next id") next
     ++ (journalText j used
-    ++ (ascii ".\n" ∷ []))))
+    ++ (ascii ".\n" ∷ [])))))

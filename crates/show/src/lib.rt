@@ -1,11 +1,12 @@
 // The session as text for a person, into a lent buffer, a function for each line of docs/PROTOCOL.md. Every byte pattern shows.
 ghost use mathlib.Core.Path.{_≡_};
+ghost use Prim.Native.Nat.{_-_};
 ghost use mathlib.Core.Bool.{cond};
 ghost use mathlib.Core.List.{[]};
 ghost use lib.Dec.{eqb};
 ghost use Rattle.io.specs.Counts.{Counts};
 ghost use Rattle.text.specs.Text.{sheet, putOn, putAll, atFront};
-ghost use Rattle.show.specs.Show.{numberText, numbersText, namedText, markText, yesText, stateWord, stateText, roleWord, roleText, capsText, wantedText, workedText, settingsText, thresholdsText, pairText, pairsText, throttlesText, logText, placesText, logsText, coresText, maskText, deadmanText, areaText, areasText, restText, readingText, journalText, sessionText};
+ghost use Rattle.show.specs.Show.{numberText, numbersText, namedText, markText, yesText, stateWord, stateText, roleWord, roleText, capsText, wantedText, workedText, settingsText, thresholdsText, pairText, pairsText, throttlesText, logText, placesText, logsText, coresText, maskText, deadmanText, areaText, areasText, restText, readingText, storeText, redoText, journalText, sessionText};
 use entries::Reading;
 use record::Area;
 use record::Areas;
@@ -294,26 +295,65 @@ fn put_areas(out: &mut [u8], at: usize, areas: Areas) -> usize
     put_area(out, mid, b"area pass ", pass)
 }
 
-// The first line of the journal's listing.
-fn put_reading(out: &mut [u8], at: usize, reading: Reading) -> usize
-    ensures { λ r. ⌜ sheet (now (out .exit)) r ≡ putAll (sheet (now (out .entry)) at) (readingText reading) ⌝ }
+// A number after the name that fits how a store reads.
+fn put_reading(out: &mut [u8], at: usize, whole: &[u8], damaged: &[u8], reading: Reading) -> usize
+    ensures { λ r. ⌜ sheet (now (out .exit)) r ≡ putAll (sheet (now (out .entry)) at) (readingText (now (whole .entry)) (now (damaged .entry)) reading) ⌝ }
 {
     match reading {
-        Reading::Whole { count, newest: _ } => put_named(out, at, b"journal", count as u64),
-        Reading::Unknown(place) => put_named(out, at, b"damaged at", place as u64),
-        Reading::Cut(place) => put_named(out, at, b"damaged at", place as u64),
+        Reading::Whole { count, newest: _ } => put_named(out, at, whole, count as u64),
+        Reading::Unknown(place) => put_named(out, at, damaged, place as u64),
+        Reading::Cut(place) => put_named(out, at, damaged, place as u64),
     }
+}
+
+// How a store's first `used` bytes read.
+fn put_store(
+    out: &mut [u8],
+    at: usize,
+    whole: &[u8],
+    damaged: &[u8],
+    long: &[u8],
+    s: &[u8],
+    used: usize,
+) -> usize
+    ensures { λ r. ⌜ sheet (now (out .exit)) r ≡ putAll (sheet (now (out .entry)) at) (storeText (now (whole .entry)) (now (damaged .entry)) (now (long .entry)) (now (s .entry)) used) ⌝ }
+{
+    if s.len() < used {
+        return text::put(out, at, long);
+    }
+    put_reading(out, at, whole, damaged, entries::read(&s[..used]))
+}
+
+fn put_redo(out: &mut [u8], at: usize, redo: &[u8], ahead: usize) -> usize
+    ensures { λ r. ⌜ sheet (now (out .exit)) r ≡ putAll (sheet (now (out .entry)) at) (redoText (now (redo .entry)) ahead) ⌝ }
+{
+    put_store(
+        out,
+        at,
+        b"redo",
+        b"redo damaged at",
+        b"redo too long\n",
+        redo,
+        ahead,
+    )
+}
+
+// The bytes of `n` that are not used.
+fn room(n: usize, used: usize) -> usize
+    ensures { λ r. ⌜ r ≡ n - used ⌝ }
+{
+    if n < used {
+        return 0;
+    }
+    n - used
 }
 
 // How the journal reads, and its unused bytes.
 fn put_journal(out: &mut [u8], at: usize, j: &[u8], used: usize) -> usize
     ensures { λ r. ⌜ sheet (now (out .exit)) r ≡ putAll (sheet (now (out .entry)) at) (journalText (now (j .entry)) used) ⌝ }
 {
-    if j.len() < used {
-        return text::put(out, at, b"too long\nroom 0\n");
-    }
-    let first = put_reading(out, at, entries::read(&j[..used]));
-    put_named(out, first, b"room", (j.len() - used) as u64)
+    let first = put_store(out, at, b"journal", b"damaged at", b"too long\n", j, used);
+    put_named(out, first, b"room", room(j.len(), used) as u64)
 }
 
 fn put_settings(out: &mut [u8], at: usize, held: Record, worked: Worked) -> usize
@@ -345,7 +385,7 @@ fn put_rest(out: &mut [u8], at: usize, held: Record) -> usize
     put_areas(out, e, areas)
 }
 
-// All of a session, and the line that ends it; the journal's first `used` bytes are used.
+// All of a session, and the line that ends it; `used` bytes of the journal and `ahead` of the redo store are used.
 pub fn put_session(
     out: &mut [u8],
     held: Record,
@@ -353,13 +393,16 @@ pub fn put_session(
     next: u16,
     j: &[u8],
     used: usize,
+    redo: &[u8],
+    ahead: usize,
 ) -> usize
     ensures { λ r. ⌜ Counts r (now (out .exit)) ⌝ }
-    ensures { λ r. ⌜ sheet (now (out .exit)) r ≡ atFront (now (out .entry)) (sessionText held worked next (now (j .entry)) used) ⌝ }
+    ensures { λ r. ⌜ sheet (now (out .exit)) r ≡ atFront (now (out .entry)) (sessionText held worked next (now (j .entry)) used (now (redo .entry)) ahead) ⌝ }
 {
     let settings = put_settings(out, 0, held, worked);
     let rest = put_rest(out, settings, held);
-    let id = put_named(out, rest, b"next id", next as u64);
+    let stored = put_redo(out, rest, redo, ahead);
+    let id = put_named(out, stored, b"next id", next as u64);
     let end = put_journal(out, id, j, used);
     text::put(out, end, b".\n")
 }

@@ -1,4 +1,4 @@
-//! A master OCC brought up, capped, and one change taken back.
+//! A master OCC brought up and capped; changes taken back, one step too far, and one put in again.
 
 #[path = "../../../include/bjargolsk.rs"]
 mod ffi;
@@ -6,9 +6,12 @@ mod ffi;
 const HTMGT: u8 = 0x10;
 const BMC: u8 = 0x20;
 
+/// BJARGOLSK_SESSION of bjargolsk.h.
+const SESSION: usize = 4337;
+
 /// A session's image, and the buffer for replies.
 struct Bench {
-    session: [u8; 2287],
+    session: [u8; SESSION],
     reply: [u8; 4096],
     sequence: u8,
 }
@@ -17,7 +20,7 @@ struct Bench {
 impl Bench {
     fn fresh() -> Self {
         let mut bench = Bench {
-            session: [0; 2287],
+            session: [0; SESSION],
             reply: [0; 4096],
             sequence: 0,
         };
@@ -80,9 +83,24 @@ impl Bench {
     }
 
     fn undo(&mut self) {
-        let result = unsafe { ffi::bjargolsk_undo(self.session.as_mut_ptr(), self.session.len()) };
-        println!("undo: answer {} kind {:02X}", result & 0xFFFF, result >> 16);
+        show_kind("undo", unsafe {
+            ffi::bjargolsk_undo(self.session.as_mut_ptr(), self.session.len())
+        });
     }
+
+    fn redo(&mut self) {
+        show_kind("redo", unsafe {
+            ffi::bjargolsk_redo(self.session.as_mut_ptr(), self.session.len())
+        });
+    }
+}
+
+fn show_kind(name: &str, result: u32) {
+    println!(
+        "{name}: answer {} kind {:02X}",
+        result & 0xFFFF,
+        result >> 16
+    );
 }
 
 fn main() {
@@ -113,6 +131,10 @@ fn main() {
     bench.undo();
     bench.occ("poll", BMC, 0x00, &[0x10]);
     bench.sbe("deadman", &deadman);
+    // The deadman is to go. The state went too: that was one step too far.
     bench.undo();
+    bench.undo();
+    bench.redo();
+    bench.occ("poll", BMC, 0x00, &[0x10]);
     bench.occ("stranger", 0x30, 0x00, &[0x10]);
 }

@@ -1,9 +1,9 @@
-//! Damaged sessions: each rule of well-formedness broken by itself, bytes changed, undos that fail.
+//! Damaged sessions: each rule of well-formedness broken by itself, bytes changed, undos and redos that fail.
 
 use super::random::Random;
 use super::scene;
 use crate::image::{self, IMAGE_LENGTH};
-use crate::journal::{body_length, Change, Store, JOURNAL_LENGTH};
+use crate::journal::{body_length, Change, Holding, Store, STORE_LENGTH};
 use crate::record::*;
 use crate::session::Session;
 
@@ -73,14 +73,25 @@ const OTHER_DAMAGES: &[Damage] = &[
     |_, s| s.journal.used = 2049,
     |r, s| s.journal.used = r.pick(&[2050, 4096, 65535]),
     |_, s| s.journal.used = (s.journal.used + 1).min(2048),
-    |r, s| cut_newest(r, s),
-    |r, s| unknown_kind(r, s),
-    |_, s| first_unused(s, 1),
-    |_, s| first_unused(s, 0x02),
-    |_, s| s.journal.bytes[JOURNAL_LENGTH - 1] = 1,
+    |r, s| cut_newest(r, &mut s.journal),
+    |r, s| unknown_kind(r, s, Holding::Before),
+    |_, s| first_unused(&mut s.journal, 1),
+    |_, s| first_unused(&mut s.journal, 0x02),
+    |_, s| s.journal.bytes[STORE_LENGTH - 1] = 1,
+    |_, s| s.redo.used = 2049,
+    |r, s| s.redo.used = r.pick(&[2050, 4096, 65535]),
+    |r, s| shorter_redo(r, s, |redo| redo.used += 1),
+    |r, s| cut_newest(r, &mut s.redo),
+    |r, s| unknown_kind(r, s, Holding::After),
+    |r, s| shorter_redo(r, s, |redo| first_unused(redo, 1)),
+    |r, s| shorter_redo(r, s, |redo| first_unused(redo, 0x02)),
+    |r, s| shorter_redo(r, s, |redo| redo.bytes[STORE_LENGTH - 1] = 1),
+    |r, s| together(r, s, 2049),
+    |r, s| together(r, s, 2050),
+    |r, s| together(r, s, 4096),
 ];
 
-/// Journal entries whose values no well-formed record could hold.
+/// Entries whose values no well-formed record could hold, for the journal or the redo store.
 const WRONG_CHANGES: &[fn(&mut Random) -> Change] = &[
     |_| Change::Clear { place: 4, log: Log { id: 1, reason: 1 } },
     |r| Change::Clear { place: 0, log: Log { id: 0, reason: r.pick(&[1, 2]) } },
@@ -110,8 +121,16 @@ const WRONG_CHANGES: &[fn(&mut Random) -> Change] = &[
     |r| Change::Areas { ffdc: scene::area(r), pass: r.pick(&WRONG_AREAS) },
 ];
 
+/// The same where the redo store's bodies differ from the journal's.
+const WRONG_REDOS: &[fn(&mut Random) -> Change] = &[
+    |_| Change::ResetAgain(Log { id: 0, reason: 1 }),
+    |_| Change::ResetAgain(Log { id: 0, reason: 2 }),
+    |r| Change::ResetAgain(Log { id: 1 + r.below(255) as u8, reason: 0 }),
+    |r| Change::ResetAgain(Log { id: 1 + r.below(255) as u8, reason: r.pick(&[3, 255]) }),
+];
+
 pub fn count() -> usize {
-    RECORD_DAMAGES.len() + OTHER_DAMAGES.len() + WRONG_CHANGES.len()
+    RECORD_DAMAGES.len() + OTHER_DAMAGES.len() + 2 * WRONG_CHANGES.len() + WRONG_REDOS.len()
 }
 
 /// Breaks one rule of a well-formed session, the one of that number.
@@ -126,22 +145,57 @@ pub fn break_rule(random: &mut Random, session: &mut Session, number: usize) {
         return damage(random, session);
     }
     let number = number.saturating_sub(OTHER_DAMAGES.len());
-    if let Some(wrong) = WRONG_CHANGES.get(number) {
-        let wrong = wrong(random);
-        insert_entry(random, session, |journal| journal.push(&wrong));
+    let holding = if number < WRONG_CHANGES.len() { Holding::Before } else { Holding::After };
+    let wrong = [WRONG_CHANGES, WRONG_CHANGES, WRONG_REDOS].concat()[number](random);
+    if holding == Holding::After && matches!(wrong, Change::Reset { .. }) {
+        return insert_entry(random, session, holding, |redo| redo.push_bytes(&[0x08, 1, 0]));
+        // id 1, no reason
+    }
+    insert_entry(random, session, holding, |store| store.push(&wrong));
+}
+
+/// Puts an entry behind the others of a store, or in front of some more. The other store makes room.
+fn insert_entry(
+    random: &mut Random,
+    session: &mut Session,
+    holding: Holding,
+    push: impl Fn(&mut Store) -> bool,
+) {
+    let (store, other) = match holding {
+        Holding::Before => (&mut session.journal, &mut session.redo),
+        Holding::After => (&mut session.redo, &mut session.journal),
+    };
+    if store.room() < 170 {
+        *store = Store::empty();
+    }
+    push(store);
+    if random.one_in(2) {
+        let room = store.room().saturating_sub(random.between(2, 30));
+        scene::fill(random, store, room, holding);
+    }
+    if store.used + other.used > STORE_LENGTH as u16 {
+        *other = Store::empty();
     }
 }
 
-/// Puts an entry behind the others, or in front of some more.
-fn insert_entry(random: &mut Random, session: &mut Session, push: impl Fn(&mut Store) -> bool) {
-    if !push(&mut session.journal) {
-        session.journal = Store::empty();
-        push(&mut session.journal);
+/// Room in both stores, so that one byte more doesn't break the rule of their lengths.
+fn shorter_redo(random: &mut Random, session: &mut Session, damage: fn(&mut Store)) {
+    if session.redo.used + session.journal.used >= STORE_LENGTH as u16 {
+        (session.journal, session.redo) = (Store::empty(), Store::empty());
+        let length = random.between(2, 60);
+        scene::fill(random, &mut session.redo, STORE_LENGTH - length, Holding::After);
     }
-    if random.one_in(2) {
-        let room = session.journal.room().saturating_sub(random.between(2, 30));
-        scene::fill(random, session, room);
-    }
+    damage(&mut session.redo);
+}
+
+/// Both stores right, but for their length together.
+fn together(random: &mut Random, session: &mut Session, length: usize) {
+    let least = length - STORE_LENGTH;
+    let journal = random.between(least.max(2), STORE_LENGTH.min(length - 2));
+    (session.journal, session.redo) = (Store::empty(), Store::empty());
+    scene::fill(random, &mut session.journal, STORE_LENGTH - journal, Holding::Before);
+    let redo = length - usize::from(session.journal.used);
+    scene::fill(random, &mut session.redo, STORE_LENGTH - redo, Holding::After);
 }
 
 const ONLY_OVERSUBSCRIPTION: Caps = Caps { minimum: 0, maximum: 0, oversubscription: 1 };
@@ -234,30 +288,29 @@ fn last_id_at_next(session: &mut Session) {
     session.next_id = 2;
 }
 
-fn cut_newest(random: &mut Random, session: &mut Session) {
-    let journal = &mut session.journal;
-    if journal.used == 0 {
-        journal.push(&Change::Mask(0x01020304));
+fn cut_newest(random: &mut Random, store: &mut Store) {
+    if store.used == 0 {
+        store.push(&Change::Mask(0x01020304));
     }
-    let cut = random.between(1, 3).min(usize::from(journal.used));
-    journal.used -= cut as u16;
-    let used = usize::from(journal.used);
+    let cut = random.between(1, 3).min(usize::from(store.used));
+    store.used -= cut as u16;
+    let used = usize::from(store.used);
     if random.one_in(2) {
-        journal.bytes[used..].fill(0);
+        store.bytes[used..].fill(0);
     }
 }
 
-fn unknown_kind(random: &mut Random, session: &mut Session) {
+fn unknown_kind(random: &mut Random, session: &mut Session, holding: Holding) {
     let kind = random.pick(&[0x00, 0x0C, 0x0D, 0xFF]);
-    insert_entry(random, session, |journal| journal.push_bytes(&[kind]));
+    insert_entry(random, session, holding, |store| store.push_bytes(&[kind]));
 }
 
-fn first_unused(session: &mut Session, value: u8) {
-    if session.journal.room() == 0 {
-        session.journal = Store::empty();
+fn first_unused(store: &mut Store, value: u8) {
+    if store.room() == 0 {
+        *store = Store::empty();
     }
-    let used = usize::from(session.journal.used);
-    session.journal.bytes[used] = value;
+    let used = usize::from(store.used);
+    store.bytes[used] = value;
 }
 
 const fn back(place: u8, id: u8) -> Change {
@@ -306,10 +359,65 @@ pub fn hard_undo(random: &mut Random, session: &mut Session, number: usize) {
     session.journal.push(&newest);
 }
 
-/// Where a changed byte tells most: head, marks, logs, areas, worked-out values, ids, the journal's edge.
+const fn again(place: u8, id: u8) -> Change {
+    Change::ClearAgain { place, log: Log { id, reason: 1 } }
+}
+
+const fn made(id: u8, reason: u8) -> Change {
+    Change::ResetAgain(Log { id, reason })
+}
+
+/// Pending ids, all with reason 1, and the newest entry of the redo store; the next id is 46.
+const HARD_REDO_CASES: &[(&[u8], Change)] = &[
+    (&[10, 20, 30, 40], again(0, 10)),
+    (&[10, 20, 30, 40], again(3, 40)),
+    (&[10, 20, 30, 40], again(1, 10)),
+    (&[10, 20, 30, 40], again(1, 30)),
+    (&[10, 20], again(1, 20)),
+    (&[10, 20], again(2, 20)),
+    (&[10, 20], again(3, 30)),
+    (&[10, 20], Change::ClearAgain { place: 1, log: Log { id: 20, reason: 2 } }),
+    (&[], again(0, 10)),
+    (&[10, 20, 30, 40], made(45, 1)),
+    (&[10, 20, 30, 40], made(0, 0)),
+    (&[10, 20, 30], made(45, 2)),
+    (&[10, 20, 30], made(30, 1)),
+    (&[10, 20, 30], made(29, 1)),
+    (&[10, 20, 30], made(31, 1)),
+    (&[10, 20, 30], made(46, 1)),
+    (&[10, 20, 30], made(255, 2)),
+    (&[], made(1, 1)),
+    (&[], made(45, 2)),
+    (&[], made(46, 2)),
+];
+
+pub const HARD_REDOS: usize = HARD_REDO_CASES.len();
+
+/// Well formed, but the newest entry of the redo store can't be put back, or just can. Past the cases above, at random.
+pub fn hard_redo(random: &mut Random, session: &mut Session, number: usize) {
+    if session.journal.room() < 10 {
+        session.journal = Store::empty();
+    }
+    session.redo = Store::empty();
+    if random.one_in(2) {
+        let length = random.between(2, 40).min(session.journal.room() - 4);
+        scene::fill(random, &mut session.redo, STORE_LENGTH - length, Holding::After);
+    }
+    let pending: &[u8] = &[10, 20, 30, 40][..random.between(0, 4)];
+    let id = random.pick(&[9, 10, 11, 20, 30, 31, 40, 41, 45, 46]);
+    let place = random.below(LOG_PLACES) as u8;
+    let newest = random.pick(&[again(place, id), made(id, 2)]);
+    let (pending, newest) = HARD_REDO_CASES.get(number).copied().unwrap_or((pending, newest));
+    session.next_id = 46;
+    set_logs(session, pending);
+    session.redo.push(&newest);
+}
+
+/// Where a changed byte tells most: head, marks, logs, areas, worked-out values, ids, the stores' edges.
 fn telling_place(random: &mut Random, image: &[u8]) -> usize {
-    let used = usize::from(u16::from_be_bytes([image[237], image[238]])).min(JOURNAL_LENGTH);
-    match random.below(12) {
+    let used = usize::from(u16::from_be_bytes([image[237], image[238]])).min(STORE_LENGTH);
+    let redo = usize::from(u16::from_be_bytes([image[2287], image[2288]])).min(STORE_LENGTH);
+    match random.below(15) {
         0 | 1 => random.below(10),
         2 => 170 + random.below(15),
         3 | 4 => 185 + random.below(8),
@@ -318,7 +426,10 @@ fn telling_place(random: &mut Random, image: &[u8]) -> usize {
         7 => 235 + random.below(2),
         8 => 237 + random.below(2),
         9 => 239 + random.below(used.max(1)),
-        10 => (239 + used).min(IMAGE_LENGTH - 1),
+        10 => 239 + used.min(STORE_LENGTH - 1),
+        11 => 2287 + random.below(2),
+        12 => 2289 + random.below(redo.max(1)),
+        13 => 2289 + redo.min(STORE_LENGTH - 1),
         _ => random.below(IMAGE_LENGTH),
     }
 }
@@ -339,19 +450,22 @@ pub fn change_bytes(random: &mut Random, session: &Session) -> Vec<u8> {
 /// Random bytes all over, or only in one part of a fresh image.
 pub fn random_bytes(random: &mut Random) -> Vec<u8> {
     let mut image = image::write(&Session::fresh());
-    let (start, length) = random.pick(&[(0, IMAGE_LENGTH), (0, 239), (239, 2048), (185, 8), (206, 24)]);
+    let parts = [(0, IMAGE_LENGTH), (0, 239), (239, 2048), (185, 8), (206, 24), (2287, 2050), (2289, 2048)];
+    let (start, length) = random.pick(&parts);
     let bytes = random.bytes(length);
     image[start..start + length].copy_from_slice(&bytes);
     image
 }
 
-/// A journal of entries with random bodies: kinds and lengths right, values not judged.
-pub fn random_journal(random: &mut Random, session: &mut Session) {
-    session.journal = Store::empty();
-    for _ in 0..random.between(1, 4) {
-        let kind = random.between(1, 11) as u8;
-        let mut entry = vec![kind];
-        entry.extend(random.bytes(body_length(kind).unwrap_or(0)).iter().map(|byte| byte & 3));
-        session.journal.push_bytes(&entry);
+/// Stores of entries with random bodies: kinds and lengths right, values not judged.
+pub fn random_stores(random: &mut Random, session: &mut Session) {
+    (session.journal, session.redo) = (Store::empty(), Store::empty());
+    for store in [&mut session.journal, &mut session.redo] {
+        for _ in 0..random.below(4) {
+            let kind = random.between(1, 11) as u8;
+            let mut entry = vec![kind];
+            entry.extend(random.bytes(body_length(kind).unwrap_or(0)).iter().map(|byte| byte & 3));
+            store.push_bytes(&entry);
+        }
     }
 }

@@ -39,10 +39,15 @@ impl Generator {
             self.hard_undo(number);
             self.write_to(output)?;
         }
+        for number in 0..damage::HARD_REDOS {
+            self.hard_redo(number);
+            self.write_to(output)?;
+        }
         for number in 0..2 * CHANGES {
             self.loaded_brim(number / 2, number % 2);
             self.write_to(output)?;
         }
+        self.every_redo();
         self.every_fault();
         self.every_buffer();
         for length in [4090, 4091] {
@@ -106,33 +111,40 @@ impl Generator {
     }
 
     pub fn episode(&mut self) {
-        let loads = if self.small { 26 } else { 100 };
+        let loads = if self.small { 32 } else { 120 };
         match self.random.below(loads) {
             0..=9 => self.bring_up(),
             10..=13 => self.walk_from_fresh(),
             14..=17 => self.brim(),
             18..=21 => self.logs_from_fresh(),
-            22 => self.long_packets(3),
-            23 => (0..10).for_each(|_| self.odd_line()),
-            24 if self.small => self.ids_near_their_end(),
-            25 if self.small => self.scene(),
-            24..=33 => self.ids_near_their_end(),
-            34..=49 => self.scene(),
-            50..=55 => {
+            22..=25 => self.back_and_forth_from_fresh(),
+            26 => self.long_packets(3),
+            27 => (0..10).for_each(|_| self.odd_line()),
+            28 if self.small => self.ids_near_their_end(),
+            29 if self.small => self.scene(),
+            30 | 31 if self.small => self.every_redo(),
+            28..=37 => self.ids_near_their_end(),
+            38..=53 => self.scene(),
+            54..=59 => {
                 let (number, short) = (self.random.below(CHANGES), self.random.below(2));
                 self.loaded_brim(number, short);
             }
-            56..=65 => {
+            60..=69 => {
                 let number = self.random.below(damage::HARD_UNDOS + 6);
                 self.hard_undo(number);
             }
-            66..=80 => {
+            70..=79 => {
+                let number = self.random.below(damage::HARD_REDOS + 6);
+                self.hard_redo(number);
+            }
+            80..=97 => {
                 let number = self.random.below(damage::count());
                 self.broken_session(number);
             }
-            81..=94 => self.changed_bytes(),
-            95 | 96 => self.random_image(),
-            97 | 98 => self.random_journal(),
+            98..=112 => self.changed_bytes(),
+            113 | 114 => self.random_image(),
+            115 | 116 => self.random_stores(),
+            117 | 118 => self.every_redo(),
             _ => self.bounds(),
         }
         if !self.small || self.random.one_in(4) {
@@ -149,7 +161,8 @@ impl Generator {
             }
             34..=61 => self.nearly_right(),
             62..=82 => self.sbe(),
-            83..=96 => self.undo(),
+            83..=91 => self.undo(),
+            92..=96 => self.redo(),
             97 if self.random.one_in(4) => self.long_packet(),
             97 => self.right(About::Poll),
             _ => self.odd_line(),
@@ -174,10 +187,89 @@ impl Generator {
         }
     }
 
+    fn redos(&mut self, most: usize) {
+        for _ in 0..self.random.between(1, most) {
+            self.redo();
+        }
+    }
+
+    /// Many undos, then many redos, again and again, with a change in between now and then.
+    fn back_and_forth(&mut self, rounds: usize) {
+        for _ in 0..rounds {
+            let most = self.random.pick(&[1, 2, 5, 40]);
+            self.undos(most);
+            self.redos(most + 2);
+            if self.random.one_in(3) {
+                self.right(About::Poll);
+            }
+            match self.random.below(8) {
+                0 | 1 => self.step(),
+                2 => {
+                    let number = self.random.below(CHANGES);
+                    self.change(number);
+                    self.redo();
+                }
+                3 => self.look(),
+                _ => {}
+            }
+        }
+    }
+
+    fn back_and_forth_from_fresh(&mut self) {
+        self.line("fresh", &[]);
+        self.framed(0x10, 0x21, &[FORMAT_ROLE, 1]);
+        if self.random.one_in(6) {
+            // the longest chain there can be: entries of two bytes
+            let entries = if self.small { 60 } else { 1100 };
+            (0..entries).for_each(|_| self.framed(0x10, 0x20, &[0, 1, 0]));
+            self.undo_to_the_start();
+            self.redo_to_the_end();
+        } else {
+            self.every_change();
+            self.log_steps(5, 30);
+        }
+        let rounds = self.random.between(2, 8);
+        self.back_and_forth(rounds);
+        self.undo_to_the_start();
+        self.line("show", &[]);
+        self.redo_to_the_end();
+        self.line("show", &[]);
+    }
+
+    /// One change of each kind, each undone and redone, then all of them.
+    fn every_redo(&mut self) {
+        self.line("fresh", &[]);
+        self.framed(0x10, 0x21, &[FORMAT_ROLE, 1]);
+        for number in [5, 4, 8, 9, 10, 6, 0, 1, 2, 3, 7, 5] {
+            self.change(number);
+            self.undo();
+            self.redo();
+        }
+        self.undo_to_the_start();
+        self.redo_to_the_end();
+        self.undos(6);
+        let number = self.random.below(CHANGES);
+        self.change(number);
+        self.redo();
+        self.line("image", &[]);
+    }
+
+    fn redo_to_the_end(&mut self) {
+        while self.left > 0 && self.session().redo.used > 0 {
+            let before = self.session().redo.used;
+            self.redo();
+            if self.session().redo.used == before {
+                break; // refused
+            }
+        }
+        self.redos(2);
+    }
+
     fn walk_from_fresh(&mut self) {
         self.line("fresh", &[]);
         self.steps(20, 120);
         self.undos(12);
+        self.redos(12);
     }
 
     /// Role, thresholds, caps and throttles in any order, states in between, then commands near the bounds.
@@ -206,6 +298,7 @@ impl Generator {
         self.steps(5, 60);
         if self.random.one_in(3) {
             self.undo_to_the_start();
+            self.redo_to_the_end();
         }
     }
 
@@ -259,9 +352,11 @@ impl Generator {
         self.step();
         if self.random.one_in(2) {
             self.undo_to_the_start();
+            self.redo_to_the_end();
         } else {
             self.undos(8);
             self.steps(3, 10);
+            self.back_and_forth(2);
         }
     }
 
@@ -280,7 +375,9 @@ impl Generator {
             self.every_change();
         }
         self.undos(4);
+        self.redos(2);
         self.change(number);
+        self.redo();
         self.line("show", &[]);
     }
 
@@ -350,7 +447,8 @@ impl Generator {
                 5 => self.right(About::Reset),
                 6 | 7 => self.right(About::Clear),
                 8 => self.right(About::Poll),
-                9 | 10 => self.undo(),
+                9 => self.undo(),
+                10 => self.back_and_forth(1),
                 _ => self.step(),
             }
         }
@@ -369,14 +467,18 @@ impl Generator {
         self.load_session(&session);
         self.log_steps(6, 30);
         self.undos(6);
+        self.redos(6);
     }
 
-    /// A random well-formed session, then steps, and undos of entries that were never made.
+    /// A random well-formed session, then steps, undos and redos of entries that were never made.
     fn scene(&mut self) {
         let session = scene::session(&mut self.random);
         self.load_session(&session);
-        if self.random.one_in(4) {
-            self.every_change();
+        match self.random.below(4) {
+            0 => self.every_change(),
+            1 => self.redos(25),
+            2 => self.back_and_forth(3),
+            _ => {}
         }
         self.steps(3, 25);
         self.undos(25);
@@ -394,17 +496,29 @@ impl Generator {
         self.undos(4);
     }
 
+    fn hard_redo(&mut self, number: usize) {
+        let mut session = scene::session(&mut self.random);
+        damage::hard_redo(&mut self.random, &mut session, number);
+        self.load_session(&session);
+        self.redos(2);
+        self.right(About::Poll);
+        self.back_and_forth(2);
+        self.right(About::State);
+        self.redo();
+    }
+
     /// A call of each sort; enough where every answer is 1.
     fn calls_of_each_sort(&mut self) {
         self.right(About::Poll);
         self.undo();
+        self.redo();
         self.sbe();
         if self.random.one_in(12) {
             self.other_buffers();
         }
         if self.session().well_formed() {
             self.steps(3, 15);
-            self.undos(6);
+            self.back_and_forth(2);
         } else if self.random.one_in(2) {
             self.steps(1, 3);
         }
@@ -437,9 +551,9 @@ impl Generator {
         self.calls_of_each_sort();
     }
 
-    fn random_journal(&mut self) {
+    fn random_stores(&mut self) {
         let mut session = scene::session(&mut self.random);
-        damage::random_journal(&mut self.random, &mut session);
+        damage::random_stores(&mut self.random, &mut session);
         self.load_session(&session);
         self.calls_of_each_sort();
     }

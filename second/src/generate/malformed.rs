@@ -43,6 +43,11 @@ const SHORT: &[&str] = &[
     "send 10 21 03 01.",
     "undo 1",
     "undo undo",
+    "redo 1",
+    "redo\tredo",
+    "Redo",
+    "redo,",
+    "redone",
     "fresh\t.",
     "image  #",
     "show 00",
@@ -79,8 +84,19 @@ const SHORT: &[&str] = &[
 ];
 
 /// Comments, blank lines and words with blanks around: all fine.
-const FINE: &[&str] =
-    &["", " ", "\t", "# a comment", "  \t# occ 10", "#", " help ", "\tshow", "journal\t\t", "image   "];
+const FINE: &[&str] = &[
+    "",
+    " ",
+    "\t",
+    "# a comment",
+    "  \t# occ 10",
+    "#",
+    " help ",
+    "\tshow",
+    "journal\t\t",
+    "image   ",
+    "\tredo ",
+];
 
 pub fn short_count() -> usize {
     SHORT.len()
@@ -108,6 +124,8 @@ pub fn odd(random: &mut Random) -> Vec<u8> {
             b"sbe 0\0",
             b"\x0Bundo",
             b"undo\x0C",
+            b"redo\r",
+            b"redo \0",
         ])
         .to_vec();
     if random.one_in(3) {

@@ -45,7 +45,7 @@ pub fn generate(count: u64, seed: u64, small: bool, output: &mut impl Write) -> 
 }
 
 fn is_call(order: &Order) -> bool {
-    matches!(order, Order::Occ { .. } | Order::Sbe(_) | Order::Undo | Order::Send { .. })
+    matches!(order, Order::Occ { .. } | Order::Sbe(_) | Order::Undo | Order::Redo | Order::Send { .. })
 }
 
 impl Generator {
@@ -158,6 +158,10 @@ impl Generator {
 
     fn undo(&mut self) {
         self.line("undo", &[]);
+    }
+
+    fn redo(&mut self) {
+        self.line("redo", &[]);
     }
 
     fn long_packet(&mut self) {

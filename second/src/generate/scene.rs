@@ -1,7 +1,7 @@
 //! Random well-formed sessions, also ones no fresh session leads to.
 
 use super::random::Random;
-use crate::journal::Change;
+use crate::journal::{Change, Holding, Store, STORE_LENGTH};
 use crate::record::*;
 use crate::session::Session;
 
@@ -92,14 +92,18 @@ fn record(random: &mut Random) -> Record {
     record
 }
 
-/// A journal entry of the kind, with values that a well-formed record could hold.
-pub fn change(random: &mut Random, kind: u8) -> Change {
+/// An entry of the kind, with values that a well-formed record could hold.
+pub fn change(random: &mut Random, kind: u8, holding: Holding) -> Change {
     let received = u8::from(random.percent(60));
     let got = received == 1;
     match kind {
         0x01 => {
             let log = Log { id: 1 + random.below(255) as u8, reason: random.pick(&[1, 2]) };
-            Change::Clear { place: random.below(LOG_PLACES) as u8, log }
+            let place = random.below(LOG_PLACES) as u8;
+            match holding {
+                Holding::Before => Change::Clear { place, log },
+                Holding::After => Change::ClearAgain { place, log },
+            }
         }
         0x02 => Change::State(random.pick(&[1, 2, 3])),
         0x03 => Change::Role { received, role: if got { random.pick(&[0, 1]) } else { 0 } },
@@ -112,6 +116,10 @@ pub fn change(random: &mut Random, kind: u8) -> Change {
         0x07 => {
             let throttles = if got { throttles(random) } else { Throttles::default() };
             Change::Throttles { received, throttles }
+        }
+        0x08 if holding == Holding::After => {
+            let log = Log { id: 1 + random.below(255) as u8, reason: random.pick(&[1, 2]) };
+            Change::ResetAgain(random.pick(&[Log::default(), log]))
         }
         0x08 => Change::Reset { state: random.pick(&[1, 2, 3]), log_made: random.pick(&[0, 1]) },
         0x09 => Change::Mask(random.u64() as u32),
@@ -138,10 +146,10 @@ const LENGTHS: [(u8, usize); 11] = [
     (0x02, 2),
 ];
 
-/// Adds entries until exactly `room` bytes are left, if it can be done.
-pub fn fill(random: &mut Random, session: &mut Session, room: usize) {
+/// Adds entries until exactly `room` bytes of the store are left, if it can be done.
+pub fn fill(random: &mut Random, store: &mut Store, room: usize, holding: Holding) {
     loop {
-        let gap = session.journal.room().saturating_sub(room);
+        let gap = store.room().saturating_sub(room);
         // A gap of 1 can't be filled, so none is left.
         let fitting: Vec<u8> = LENGTHS
             .iter()
@@ -152,8 +160,8 @@ pub fn fill(random: &mut Random, session: &mut Session, room: usize) {
             return;
         };
         let kind = if random.percent(40) { longest } else { random.pick(&fitting) };
-        let entry = change(random, kind);
-        session.journal.push(&entry);
+        let entry = change(random, kind, holding);
+        store.push(&entry);
     }
 }
 
@@ -174,6 +182,39 @@ pub fn session_with_room(random: &mut Random, room: usize) -> Session {
     let (logs, next_id) = logs(random);
     session.set_record(Record { logs, ..record(random) });
     session.next_id = next_id;
-    fill(random, &mut session, room);
+    fill(random, &mut session.journal, room, Holding::Before);
+    if random.one_in(2) {
+        fill_redo(random, &mut session);
+    }
     session
+}
+
+/// As many bytes as the journal leaves free, a few less, or just an entry or two; the newest may fit the logs that pend.
+pub fn fill_redo(random: &mut Random, session: &mut Session) {
+    let most = session.journal.room();
+    let length = match random.below(4) {
+        0 => most,
+        1 => most.saturating_sub(random.between(1, 20)),
+        _ => random.between(2, 60).min(most),
+    };
+    let newest = fitting_redo(random, session).filter(|_| length > 6 && random.one_in(2));
+    let kept = if newest.is_some() { 4 } else { 0 };
+    fill(random, &mut session.redo, STORE_LENGTH - length + kept, Holding::After);
+    if let Some(newest) = newest {
+        session.redo.push(&newest);
+    }
+}
+
+/// A pending log's clear, or a log behind those that pend: either can be redone.
+fn fitting_redo(random: &mut Random, session: &Session) -> Option<Change> {
+    let (record, pending) = (&session.record, session.record.pending());
+    if random.one_in(2) {
+        let place = random.below(pending.max(1));
+        let log = record.logs[place];
+        return (pending > 0).then_some(Change::ClearAgain { place: place as u8, log });
+    }
+    let lowest = usize::from(record.newest_log().id) + 1;
+    let highest = usize::from(session.next_id) - 1;
+    let id = (lowest <= highest).then(|| random.between(lowest, highest) as u8)?;
+    Some(Change::ResetAgain(Log { id, reason: random.pick(&[1, 2]) }))
 }

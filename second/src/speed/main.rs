@@ -21,6 +21,7 @@ enum Call {
     Occ(Vec<u8>),
     Sbe(Vec<u8>),
     Undo,
+    Redo,
 }
 
 /// Calls that leave the session as they found it, so that they can be made again and again.
@@ -35,6 +36,10 @@ fn packed(answer: u8, high: u16) -> u32 {
     u32::from(high) << 16 | u32::from(answer)
 }
 
+fn with_kind((answer, kind): (u8, u8)) -> u32 {
+    packed(answer, u16::from(kind))
+}
+
 fn proved(session: &mut [u8], call: &Call, reply: &mut [u8]) -> u32 {
     let (s, n) = (session.as_mut_ptr(), session.len());
     // SAFETY: each pointer comes with the length of the slice that it was taken from, and no two slices overlap.
@@ -45,6 +50,7 @@ fn proved(session: &mut [u8], call: &Call, reply: &mut [u8]) -> u32 {
             }
             Call::Sbe(r) => ffi::bjargolsk_sbe(s, n, r.as_ptr(), r.len(), reply.as_mut_ptr(), 32),
             Call::Undo => ffi::bjargolsk_undo(s, n),
+            Call::Redo => ffi::bjargolsk_redo(s, n),
         }
     }
 }
@@ -56,10 +62,8 @@ fn on_value<B: Bytes>(session: &mut Session<B>, call: &Call, reply: &mut [u8]) -
             let (answer, bell) = session.sbe(r, &mut reply[..32]);
             packed(answer, bell)
         }
-        Call::Undo => {
-            let (answer, kind) = session.undo();
-            packed(answer, u16::from(kind))
-        }
+        Call::Undo => with_kind(session.undo()),
+        Call::Redo => with_kind(session.redo()),
     }
 }
 
@@ -106,6 +110,12 @@ fn with_entries(count: usize) -> Session {
     session
 }
 
+fn after(before: &Session, kind: u8, data: &[u8]) -> Session {
+    let mut session = before.clone();
+    session.occ(HTMGT, &command_packet(1, kind, data), &mut [0; 4096]);
+    session
+}
+
 fn occ(kind: u8, data: &[u8]) -> Call {
     Call::Occ(command_packet(1, kind, data))
 }
@@ -119,20 +129,32 @@ fn mask() -> Call {
 fn works() -> Vec<Work> {
     let poll = || vec![occ(0x00, &[0x10])];
     let state = || vec![occ(0x20, &[0, 1, 0]), Call::Undo];
+    let back = || vec![Call::Undo, Call::Redo];
     let up = brought_up();
+    let throttled = after(&up, 0x21, &throttle_sets());
     let (half, full) = (with_entries(500), with_entries(1000));
-    let work = |name, start: &Session, calls| Work { name, start: start.clone(), calls };
     vec![
         work("poll", &up, poll()),
         work("user cap and undo", &up, vec![occ(0x22, &[0x03, 0xE8]), Call::Undo]),
         work("16-pair throttle packet and undo", &up, vec![occ(0x21, &throttle_sets()), Call::Undo]),
+        work("undo and redo of the throttles", &throttled, back()),
         work("4,096-byte packet (0x11)", &up, vec![occ(0x30, &[0xFF; 4090])]),
         work("SBE mask and undo", &up, vec![mask(), Call::Undo]),
         work("poll, 500 entries", &half, poll()),
         work("set state and undo, 500 entries", &half, state()),
         work("poll, 1,000 entries", &full, poll()),
         work("set state and undo, 1,000 entries", &full, state()),
+        work("undo and redo, 1,000 entries", &full, back()),
     ]
+}
+
+/// The calls are made once before: a change that is undone stays in the redo store until the next one empties it.
+fn work(name: &'static str, before: &Session, calls: Vec<Call>) -> Work {
+    let mut start = before.clone();
+    for call in &calls {
+        on_value(&mut start, call, &mut [0; 4096]);
+    }
+    Work { name, start, calls }
 }
 
 /// Both give the same results, replies and images, and the calls lead back to the start.
@@ -214,9 +236,10 @@ fn times() {
 
 /// The stack of each sort of call, in bytes. A call is made once before, so that nothing is loaded while it is measured.
 fn stacks() {
-    let after_change = {
-        let mut session = brought_up();
-        session.occ(HTMGT, &command_packet(1, 0x22, &[0x03, 0xE8]), &mut [0; 4096]);
+    let capped = after(&brought_up(), 0x22, &[0x03, 0xE8]);
+    let undone = {
+        let mut session = capped.clone();
+        session.undo();
         session
     };
     println!("Bytes of stack that one call on an image uses.\n");
@@ -227,7 +250,8 @@ fn stacks() {
         ("occ: user cap", brought_up(), occ(0x22, &[0x03, 0xE8])),
         ("occ: throttle packet, 195 data bytes", brought_up(), occ(0x21, &throttle_sets())),
         ("sbe: mask", brought_up(), mask()),
-        ("undo", after_change, Call::Undo),
+        ("undo", capped, Call::Undo),
+        ("redo", undone, Call::Redo),
     ] {
         let used = |make: fn(&mut [u8], &Call, &mut [u8]) -> u32| {
             let (mut image, mut reply) = (image::write(&start), [0; 4096]);

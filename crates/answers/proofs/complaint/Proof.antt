@@ -53,11 +53,8 @@ at-column-requires-5 c κs = search needs
 enum-told-6 : tie.Need-enum-told-6
 enum-told-6 c = search needs
 
-slice-aggregate-line : tie.Need-slice-aggregate-line
-slice-aggregate-line c = search needs
-
-line-requires : tie.Need-line-requires
-line-requires c κs = search needs
+not-an-image-requires : tie.Need-not-an-image-requires
+not-an-image-requires c κs = search needs
 
 enum-told-7 : tie.Need-enum-told-7
 enum-told-7 c = search needs
@@ -153,8 +150,7 @@ complaint-spec =
     slice-aggregate-at-column-5
     at-column-requires-5
     enum-told-6
-    slice-aggregate-line
-    line-requires
+    not-an-image-requires
     enum-told-7
     slice-aggregate-at-column-6
     at-column-requires-6

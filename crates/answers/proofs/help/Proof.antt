@@ -8,6 +8,9 @@ use Rattle.answers.proofs.help.Tie as tie
 put-calls-requires : tie.Need-put-calls-requires
 put-calls-requires c κs = search needs
 
+put-sessions-requires : tie.Need-put-sessions-requires
+put-sessions-requires c κs = search needs
+
 put-sends-requires : tie.Need-put-sends-requires
 put-sends-requires c κs = search needs
 
@@ -47,6 +50,7 @@ help-spec =
     tie.close
     (tie.spec
     put-calls-requires
+    put-sessions-requires
     put-sends-requires
     slice-aggregate-put
     put-requires

@@ -29,18 +29,6 @@ slice-aggregate-put-4 c = search needs
 put-requires-4 : tie.Need-put-requires-4
 put-requires-4 c κs = search needs
 
-slice-aggregate-put-5 : tie.Need-slice-aggregate-put-5
-slice-aggregate-put-5 c = search needs
-
-put-requires-5 : tie.Need-put-requires-5
-put-requires-5 c κs = search needs
-
-slice-aggregate-put-6 : tie.Need-slice-aggregate-put-6
-slice-aggregate-put-6 c = search needs
-
-put-requires-6 : tie.Need-put-requires-6
-put-requires-6 c κs = search needs
-
 same-length : tie.Need-same-length
 same-length c = search needs
 
@@ -60,9 +48,5 @@ put-calls-spec =
     put-requires-3
     slice-aggregate-put-4
     put-requires-4
-    slice-aggregate-put-5
-    put-requires-5
-    slice-aggregate-put-6
-    put-requires-6
     same-length
     returns)

@@ -9,6 +9,8 @@ use lib.Dec.{lit<, eqb}
 use lib.ListN.{length}
 use Rattle.wire.specs.laws.Cases.{cond-cases}
 use Rattle.wire.specs.Wire.{Bytes}
+use Rattle.journal.specs.declared.Way.{Way}
+use Rattle.journal.specs.declared.Way.the-variants.{Before, After}
 use Rattle.session.specs.declared.Session.{Session}
 use Rattle.image.specs.Image.{imageLength, imageOf, sessionOf}
 use Rattle.image.specs.laws.Image.{image-session}
@@ -17,7 +19,7 @@ use Rattle.occ_call.specs.Occ.{occLeft, occOn}
 use Rattle.occ_call.specs.laws.Came as occ
 use Rattle.sbe_call.specs.Sbe.{sbeLeft, sbeOn}
 use Rattle.sbe_call.specs.laws.Came as sbe
-use Rattle.undo_call.specs.Undo.{undoLeft, undoOn}
+use Rattle.undo_call.specs.Undo.{movedLeft, moveOn, undoOn, redoOn}
 use Rattle.undo_call.specs.laws.Came as undo
 use Rattle.bjargolsk.specs.Calls.{packed, answerIn}
 
@@ -50,10 +52,16 @@ module _ (b : List ℕ) (bytes : Bytes b) where
       let k = sbe.refusal-keeps (sessionOf b) r d _ (sbe.came (sessionOf b) r d) (λ z. h (answered-zero _ _ z)) in
       (same-image _ (eqb-true (length b) imageLength (not-false _ e)) (k .0), k .1))
 
-  pub undo-refused : Kept (undoOn b) []
-  unfolding undoOn undoLeft
-  undo-refused =
+  move-refused : (w : Way) → Kept (moveOn w b) []
+  unfolding moveOn movedLeft
+  move-refused w =
       cond-cases (λ (q : Left). Kept q []) (not (eqb (length b) imageLength)) (λ e h. (refl, refl))
       (λ e h.
-      let k = undo.refusal-keeps (sessionOf b) _ (undo.came (sessionOf b)) (λ z. h (answered-zero _ _ z)) in
+      let k = undo.refusal-keeps w (sessionOf b) _ (undo.came w (sessionOf b)) (λ z. h (answered-zero _ _ z)) in
       (same-image _ (eqb-true (length b) imageLength (not-false _ e)) (k .0), refl))
+
+  pub undo-refused : Kept (undoOn b) []
+  undo-refused = move-refused Before
+
+  pub redo-refused : Kept (redoOn b) []
+  redo-refused = move-refused After

@@ -41,6 +41,12 @@ enum-told-6 c = search needs
 alone-requires-2 : tie.Need-alone-requires-2
 alone-requires-2 c κs = search needs
 
+enum-told-7 : tie.Need-enum-told-7
+enum-told-7 c = search needs
+
+alone-requires-3 : tie.Need-alone-requires-3
+alone-requires-3 c κs = search needs
+
 same-length : tie.Need-same-length
 same-length c = search needs
 
@@ -77,6 +83,10 @@ returns-6 : tie.Need-returns-6
 unfolding callOf
 returns-6 c = (call-as _ _ _ (c .before .enum-told6 .given .1) (kept _ (c .alone2 .ensures .0)), search needs)
 
+returns-7 : tie.Need-returns-7
+unfolding callOf
+returns-7 c = (call-as _ _ _ (c .before .enum-told7 .given .1) (kept _ (c .alone3 .ensures .0)), search needs)
+
 pub read-call-spec : {M : Type 1} → statement M
 read-call-spec =
     tie.close
@@ -93,6 +103,8 @@ read-call-spec =
     alone-requires
     enum-told-6
     alone-requires-2
+    enum-told-7
+    alone-requires-3
     same-length
     returns
     same-length-2
@@ -102,4 +114,5 @@ read-call-spec =
     same-length-4
     returns-4
     returns-5
-    returns-6)
+    returns-6
+    returns-7)

@@ -11,6 +11,9 @@ put-settings-requires c κs = search needs
 put-rest-requires : tie.Need-put-rest-requires
 put-rest-requires c κs = search needs
 
+put-redo-requires : tie.Need-put-redo-requires
+put-redo-requires c κs = search needs
+
 slice-aggregate-put-named : tie.Need-slice-aggregate-put-named
 slice-aggregate-put-named c = search needs
 
@@ -31,7 +34,7 @@ same-length c = search needs
 
 returns : tie.Need-returns
 unfolding sessionText
-returns c = (search needs, pieces _ _ _ (c .before .before .before .before .before .before .before .before .before .before .before .before .before .before .before .before .before .before .before .before .put-settings .ensures) (pieces _ _ _ (c .before .before .before .before .before .before .before .before .before .before .before .before .before .before .before .before .put-rest .ensures) (pieces _ _ _ (c .before .before .before .before .before .before .before .before .before .before .before .put-named .ensures) (pieces _ _ _ (c .before .before .before .before .before .before .before .put-journal .ensures) (last-piece _ _ (c .before .before .put .ensures .1))))))
+returns c = (search needs, pieces _ _ _ (c .before .before .before .before .before .before .before .before .before .before .before .before .before .before .before .before .before .before .before .before .before .before .before .before .put-settings .ensures) (pieces _ _ _ (c .before .before .before .before .before .before .before .before .before .before .before .before .before .before .before .before .before .before .before .before .put-rest .ensures) (pieces _ _ _ (c .before .before .before .before .before .before .before .before .before .before .before .before .before .before .before .before .put-redo .ensures) (pieces _ _ _ (c .before .before .before .before .before .before .before .before .before .before .before .put-named .ensures) (pieces _ _ _ (c .before .before .before .before .before .before .before .put-journal .ensures) (last-piece _ _ (c .before .before .put .ensures .1)))))))
 
 pub put-session-spec : {M : Type 1} → statement M
 put-session-spec =
@@ -39,6 +42,7 @@ put-session-spec =
     (tie.spec
     put-settings-requires
     put-rest-requires
+    put-redo-requires
     slice-aggregate-put-named
     put-named-requires
     put-journal-requires

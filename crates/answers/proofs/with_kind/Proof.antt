@@ -1,11 +1,11 @@
--- `answers::undone` meets its contract: the answer decides whether the kind follows. Assumes nothing.
+-- `answers::with_kind` meets its contract: the answer decides whether the kind follows. Assumes nothing.
 use Rattle.text.specs.Text.{putAll}
 use Rattle.text.specs.laws.Pieces.{same-pieces}
-use Rattle.answers.specs.Answers.{undoneText}
+use Rattle.answers.specs.Answers.{kindText}
 use Rattle.answers.proofs.Saying.{refused, accepted}
 use borrow.Author.Needs.{needs}
-use Rattle.answers.proofs.undone.Statement.{statement}
-use Rattle.answers.proofs.undone.Tie as tie
+use Rattle.answers.proofs.with_kind.Statement.{statement}
+use Rattle.answers.proofs.with_kind.Tie as tie
 
 put-decimal-requires : tie.Need-put-decimal-requires
 put-decimal-requires c κs = search needs
@@ -17,7 +17,7 @@ same-length : tie.Need-same-length
 same-length c = search needs
 
 returns : tie.Need-returns
-unfolding undoneText putAll
+unfolding kindText putAll
 returns c = (search needs, same-pieces _ (refused _ _ (search needs)) (cc))
 
 slice-aggregate-put : tie.Need-slice-aggregate-put
@@ -36,11 +36,11 @@ same-length-2 : tie.Need-same-length-2
 same-length-2 c = search needs
 
 returns-2 : tie.Need-returns-2
-unfolding undoneText putAll
+unfolding kindText putAll
 returns-2 c = (search needs, same-pieces _ (accepted _ _ (search needs)) (cc))
 
-pub undone-spec : {M : Type 1} → statement M
-undone-spec =
+pub with-kind-spec : {M : Type 1} → statement M
+with-kind-spec =
     tie.close
     (tie.spec
     put-decimal-requires

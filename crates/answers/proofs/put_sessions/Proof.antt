@@ -1,0 +1,56 @@
+-- `answers::put_sessions` meets its contract: its parts are put one after the other. Assumes nothing.
+use Rattle.text.specs.Text.{putAll}
+use Rattle.answers.specs.Answers.{helpText}
+use borrow.Author.Needs.{needs}
+use Rattle.answers.proofs.put_sessions.Statement.{statement}
+use Rattle.answers.proofs.put_sessions.Tie as tie
+
+slice-aggregate-put : tie.Need-slice-aggregate-put
+slice-aggregate-put c = search needs
+
+put-requires : tie.Need-put-requires
+put-requires c κs = search needs
+
+slice-aggregate-put-2 : tie.Need-slice-aggregate-put-2
+slice-aggregate-put-2 c = search needs
+
+put-requires-2 : tie.Need-put-requires-2
+put-requires-2 c κs = search needs
+
+put-decimal-requires : tie.Need-put-decimal-requires
+put-decimal-requires c κs = search needs
+
+slice-aggregate-put-3 : tie.Need-slice-aggregate-put-3
+slice-aggregate-put-3 c = search needs
+
+put-requires-3 : tie.Need-put-requires-3
+put-requires-3 c κs = search needs
+
+slice-aggregate-put-4 : tie.Need-slice-aggregate-put-4
+slice-aggregate-put-4 c = search needs
+
+put-requires-4 : tie.Need-put-requires-4
+put-requires-4 c κs = search needs
+
+same-length : tie.Need-same-length
+same-length c = search needs
+
+returns : tie.Need-returns
+unfolding helpText putAll
+returns c = cc
+
+pub put-sessions-spec : {M : Type 1} → statement M
+put-sessions-spec =
+    tie.close
+    (tie.spec
+    slice-aggregate-put
+    put-requires
+    slice-aggregate-put-2
+    put-requires-2
+    put-decimal-requires
+    slice-aggregate-put-3
+    put-requires-3
+    slice-aggregate-put-4
+    put-requires-4
+    same-length
+    returns)

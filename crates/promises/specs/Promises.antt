@@ -1,6 +1,6 @@
 -- What the stand-in promises, each in a few lines, each proved by pointing at the file that does the work.
 -- s, p: a session, a run of calls; c: a call with any bytes and any buffer. The calls are those of the public contracts (Calls.antt).
-use Prim.Native.Nat.{ℕ, _+_, _<_}
+use Prim.Native.Nat.{ℕ, _+_, _≤_, _<_}
 use mathlib.Core.Bool.{true}
 use mathlib.Core.Logic.{_↔_, _⊎_}
 use mathlib.Core.Path.{_≡_, ap, _∙_}
@@ -12,6 +12,10 @@ use Rattle.record.specs.Record.{freshRecord, workedOf}
 use Rattle.wire.specs.Conditions.{_and_}
 use Rattle.change.specs.Change.{putOf}
 use Rattle.change.specs.declared.Edit.{Edit}
+use Rattle.entries.specs.Entries.{bytesOf}
+use Rattle.journal.specs.Ways.{other}
+use Rattle.journal.specs.declared.Way.{Way}
+use Rattle.journal.specs.declared.Way.the-variants.{Before, After}
 use Rattle.packet.specs.Packet.{dataOf, replied}
 use Rattle.sbe.specs.Mailbox as mailbox
 use Rattle.sbe.specs.Statuses.{Status, RequestStatus}
@@ -22,15 +26,16 @@ use Rattle.occ_call.specs.Occ.{occCall, OccAllows}
 use Rattle.occ_call.specs.laws.Came as occ-came
 use Rattle.sbe_call.specs.Sbe.{sbeCall, SbeAllows}
 use Rattle.sbe_call.specs.laws.Came as sbe-came
-use Rattle.undo_call.specs.Undo.{undoCall, redoCall, UndoAllows}
+use Rattle.undo_call.specs.Undo.{usedOf, moveCall, undoCall, redoCall, UndoAllows, RedoAllows}
 use Rattle.undo_call.specs.laws.Came as undo-came
 use Rattle.promises.specs.Calls.{Call, occ, sbe, redo, said}
-use Rattle.promises.specs.Demand1.{OccAnswer, SbeAnswer, UndoAnswer, OccDue, SbeDue, OccStatus, occError, sbeError}
-use Rattle.promises.specs.Demand2.{atFront, NotPoll, successReply, OccSucceeds, OccAccepted, SbeSucceeds, SbeAccepted, UndoAccepted}
-use Rattle.promises.specs.Effects.{OccEffect, SbeEffect, UndoEffect}
+use Rattle.promises.specs.Demand1.{OccAnswer, SbeAnswer, UndoAnswer, RedoAnswer, OccDue, SbeDue, OccStatus, occError, sbeError}
+use Rattle.promises.specs.Demand2.{atFront, NotPoll, successReply, OccSucceeds, OccAccepted, SbeSucceeds, SbeAccepted, Newest, UndoAccepted, RedoAccepted}
+use Rattle.promises.specs.Effects.{OccEffect, SbeEffect, entryBack, UndoEffect, RedoEffect}
 use Rattle.promises.specs.laws.OccDemands.{occ-answers, occ-statuses, occ-reply, occ-accepted}
 use Rattle.promises.specs.laws.SbeDemands.{sbe-answers, sbe-statuses, sbe-reply, sbe-accepted}
-use Rattle.promises.specs.laws.UndoDemands.{undo-answers, undo-accepted, undo-effect}
+use Rattle.promises.specs.laws.UndoDemands.{undo-answers, redo-answers, undo-accepted, redo-accepted}
+use Rattle.promises.specs.laws.Moves.{move-effect, room-left}
 use Rattle.promises.specs.laws.Answers.{one-exactly}
 use Rattle.promises.specs.laws.Effects.{occ-effect, sbe-effect, occ-deed, sbe-deed, deed-shown}
 use Rattle.promises.specs.Marks.{logsMade}
@@ -41,12 +46,12 @@ use Rattle.promises.specs.laws.Outcomes.{one-value, one-pair, one-triple
 use Rattle.promises.specs.laws.Fresh.{fresh-start, fresh-still}
 use Rattle.promises.specs.laws.Demand3.{demand3, ids-in-order, invariant, next-is}
 use Rattle.links.specs.Typed.{TypedSession}
-use Rattle.promises.specs.laws.WellFormed.{occ-formed, sbe-formed, undo-formed}
+use Rattle.promises.specs.laws.WellFormed.{occ-formed, sbe-formed, undo-formed, redo-formed}
 use Rattle.promises.specs.Later.{Wish, AsIf}
 use Rattle.promises.specs.laws.NoTrace.{trace-free, later-as-before, later-alike, redo-brings-back, redo-undone}
 use Rattle.promises.specs.NoTrace.{leaves, after, tried, AllButRedo, AsBefore}
 use Rattle.image.specs.Image.{imageLength, imageOf}
-use Rattle.bjargolsk.specs.Calls.{freshOn, FreshReturns, OccReturns, SbeReturns, UndoReturns}
+use Rattle.bjargolsk.specs.Calls.{freshOn, FreshReturns, OccReturns, SbeReturns, UndoReturns, RedoReturns}
 use Rattle.promises.specs.laws.Lent.{fresh-image, lent-run, lent-next}
 use Rattle.promises.specs.Lent.{lent, carriedOver, lentRun}
 use Rattle.promises.specs.Examples.{All, holds, table}
@@ -63,6 +68,9 @@ answer-of-sbe = sbe-answers
 
 pub answer-of-undo : (s : Session) (n : ℕ) → (undoCall s .answer ≡ n) ↔ UndoAnswer s n
 answer-of-undo = undo-answers
+
+pub answer-of-redo : (s : Session) (n : ℕ) → (redoCall s .answer ≡ n) ↔ RedoAnswer s n
+answer-of-redo = redo-answers
 
 pub answer-1-exactly-when : (s : Session) → TypedSession s → (c : Call) → (said s c .answer ≡ 1) ↔ (wellFormed s ≡ true → ⊥)
 answer-1-exactly-when = one-exactly
@@ -96,7 +104,10 @@ pub refusal-of-sbe-keeps : (s : Session) (r d : List ℕ) → (sbeCall s r d .ou
 refusal-of-sbe-keeps s r d = sbe-came.refusal-keeps s r d (sbeCall s r d) (sbe-came.came s r d)
 
 pub refusal-of-undo-keeps : (s : Session) → (undoCall s .answer ≡ 0 → ⊥) → (undoCall s .session ≡ s) × (undoCall s .kind ≡ 0)
-refusal-of-undo-keeps s = undo-came.refusal-keeps s (undoCall s) (undo-came.came s)
+refusal-of-undo-keeps s = undo-came.refusal-keeps Before s (undoCall s) (undo-came.came Before s)
+
+pub refusal-of-redo-keeps : (s : Session) → (redoCall s .answer ≡ 0 → ⊥) → (redoCall s .session ≡ s) × (redoCall s .kind ≡ 0)
+refusal-of-redo-keeps s = undo-came.refusal-keeps After s (redoCall s) (undo-came.came After s)
 
 -- a session that isn't the one handed in comes with the reply of success, so every error reply returns it as it was
 pub error-of-occ-keeps : (s : Session) (sender : ℕ) (c d : List ℕ)
@@ -127,6 +138,9 @@ one-outcome-of-sbe b r d = one-triple _ _ _
 pub one-outcome-of-undo : (b : List ℕ) → OneOutcome (λ (o : Told × List ℕ). UndoAllows b (o .0) (o .1))
 one-outcome-of-undo b = one-pair _ _
 
+pub one-outcome-of-redo : (b : List ℕ) → OneOutcome (λ (o : Told × List ℕ). RedoAllows b (o .0) (o .1))
+one-outcome-of-redo b = one-pair _ _
+
 pub one-outcome-of-fresh-for-c : (b : List ℕ) → OneOutcome (λ (o : ℕ × List ℕ). FreshReturns b (o .0) (o .1))
 one-outcome-of-fresh-for-c b = one-pair _ _
 
@@ -139,6 +153,9 @@ one-outcome-of-sbe-for-c b r d = one-triple _ _ _
 pub one-outcome-of-undo-for-c : (b : List ℕ) → OneOutcome (λ (o : ℕ × List ℕ). UndoReturns b (o .0) (o .1))
 one-outcome-of-undo-for-c b = one-pair _ _
 
+pub one-outcome-of-redo-for-c : (b : List ℕ) → OneOutcome (λ (o : ℕ × List ℕ). RedoReturns b (o .0) (o .1))
+one-outcome-of-redo-for-c b = one-pair _ _
+
 -- ---- well-formed in, well-formed out, on every session of the type; and what is worked out is the record's
 
 pub occ-stays-well-formed : (s : Session) → TypedSession s → wellFormed s ≡ true → (sender : ℕ) (c d : List ℕ) → Bytes c → wellFormed (occCall s sender c d .outcome .session) ≡ true
@@ -150,6 +167,9 @@ sbe-stays-well-formed = sbe-formed
 pub undo-stays-well-formed : (s : Session) → TypedSession s → wellFormed s ≡ true → wellFormed (undoCall s .session) ≡ true
 undo-stays-well-formed = undo-formed
 
+pub redo-stays-well-formed : (s : Session) → TypedSession s → wellFormed s ≡ true → wellFormed (redoCall s .session) ≡ true
+redo-stays-well-formed = redo-formed
+
 pub worked-out-after-occ : (s : Session) (sender : ℕ) (c d : List ℕ) → wellFormed s ≡ true
     → occCall s sender c d .outcome .session .worked ≡ workedOf (occCall s sender c d .outcome .session .held)
 worked-out-after-occ s sender c d = occ-came.worked-after s sender c d (occCall s sender c d) (occ-came.came s sender c d)
@@ -158,7 +178,10 @@ pub worked-out-after-sbe : (s : Session) (r d : List ℕ) → wellFormed s ≡ t
 worked-out-after-sbe s r d = sbe-came.worked-after s r d (sbeCall s r d) (sbe-came.came s r d)
 
 pub worked-out-after-undo : (s : Session) → wellFormed s ≡ true → undoCall s .session .worked ≡ workedOf (undoCall s .session .held)
-worked-out-after-undo s = undo-came.worked-after s (undoCall s) (undo-came.came s)
+worked-out-after-undo s = undo-came.worked-after Before s (undoCall s) (undo-came.came Before s)
+
+pub worked-out-after-redo : (s : Session) → wellFormed s ≡ true → redoCall s .session .worked ≡ workedOf (redoCall s .session .held)
+worked-out-after-redo s = undo-came.worked-after After s (redoCall s) (undo-came.came After s)
 
 -- ---- demand 2: accepted exactly when (the conditions: Demand2.antt), and what is then done (Effects.antt)
 
@@ -172,6 +195,9 @@ sbe-accepted-exactly-when = sbe-accepted
 pub undo-accepted-exactly-when : (s : Session) → wellFormed s ≡ true → (undoCall s .answer ≡ 0) ↔ UndoAccepted s
 undo-accepted-exactly-when = undo-accepted
 
+pub redo-accepted-exactly-when : (s : Session) → wellFormed s ≡ true → (redoCall s .answer ≡ 0) ↔ RedoAccepted s
+redo-accepted-exactly-when = redo-accepted
+
 pub effect-of-occ : (s : Session) → TypedSession s → (sender : ℕ) (c d : List ℕ) → Bytes c → OccSucceeds s sender c d
     → OccEffect s (getD c 1 0) (dataOf c) (occCall s sender c d .outcome .session)
 effect-of-occ = occ-effect
@@ -179,8 +205,17 @@ effect-of-occ = occ-effect
 pub effect-of-sbe : (s : Session) → TypedSession s → (r d : List ℕ) → Bytes r → SbeSucceeds s r d → SbeEffect s r (sbeCall s r d .outcome .session)
 effect-of-sbe = sbe-effect
 
-pub effect-of-undo : (s : Session) → undoCall s .answer ≡ 0 → UndoEffect s (undoCall s)
-effect-of-undo = undo-effect
+pub effect-of-undo : (s : Session) → TypedSession s → undoCall s .answer ≡ 0 → UndoEffect s (undoCall s)
+effect-of-undo = move-effect Before
+
+pub effect-of-redo : (s : Session) → TypedSession s → redoCall s .answer ≡ 0 → RedoEffect s (redoCall s)
+effect-of-redo = move-effect After
+
+-- "redo never lacks journal room", nor undo room in the redo store: whatever the newest entry says, the entry that takes it back fits into the other store,
+-- and the two used lengths together stay what they were
+pub never-lacks-room : (w : Way) (s : Session) → TypedSession s → wellFormed s ≡ true → (e : Edit) → Newest w s e
+    → (usedOf (other w) s + length (bytesOf (entryBack s e)) ≤ 2048) and (moveCall w s .session .used + moveCall w s .session .ahead ≡ s .used + s .ahead)
+never-lacks-room = room-left
 
 -- the changes that demand 3 counts: those calls that succeed, but for polls; and what a call counts as is what its record shows
 pub counted-of-occ : (s : Session) → TypedSession s → (sender : ℕ) (c d : List ℕ)

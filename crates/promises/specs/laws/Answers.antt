@@ -2,18 +2,20 @@
 use Prim.Native.Nat.{ℕ}
 use mathlib.Core.Bool.{true}
 use mathlib.Core.Logic.{_↔_, Iff·trans}
-use mathlib.Core.Path.{_≡_, refl}
+use mathlib.Core.Path.{_≡_, refl, sym}
 use mathlib.Core.List.{List}
 use native.Mathlib.Omega.{arith}
 use Rattle.wire.specs.Conditions.{here, later}
+use Rattle.journal.specs.declared.Way.{Way}
+use Rattle.journal.specs.declared.Way.the-variants.{Before, After}
 use Rattle.session.specs.Session.{wellFormed}
 use Rattle.session.specs.declared.Session.{Session}
 use Rattle.links.specs.Typed.{TypedSession}
-use Rattle.promises.specs.Calls.{Call, occ, sbe, undo, said}
-use Rattle.promises.specs.Demand1.{OccAnswer, SbeAnswer, UndoAnswer}
+use Rattle.promises.specs.Calls.{Call, occ, sbe, undo, redo, said}
+use Rattle.promises.specs.Demand1.{OccAnswer, SbeAnswer, MoveAnswer}
 use Rattle.promises.specs.laws.OccDemands.{occ-answers}
 use Rattle.promises.specs.laws.SbeDemands.{sbe-answers}
-use Rattle.promises.specs.laws.UndoDemands.{undo-answers}
+use Rattle.promises.specs.laws.UndoDemands.{undo-answers, redo-answers}
 
 module _ (s : Session) (typed : TypedSession s) where
   abbrev IllFormed : Type 0
@@ -36,15 +38,17 @@ module _ (s : Session) (typed : TypedSession s) where
   sbe-one r d (later _ (later _ (later _ (here h e)))) = absurd (omega (arith, e))
   sbe-one r d (later _ (later _ (later _ (later _ e)))) = absurd (omega (arith, e))
 
-  undo-one : UndoAnswer s 1 → IllFormed
-  unfolding UndoAnswer
-  undo-one (here h e) = h
-  undo-one (later _ (here h e)) = absurd (omega (arith, e))
-  undo-one (later _ (later _ (here h e))) = absurd (omega (arith, e))
-  undo-one (later _ (later _ (later _ e))) = absurd (omega (arith, e))
+  -- 6 or 8 isn't 1
+  move-one : (w : Way) (empty : ℕ) → (empty ≡ 1 → ⊥) → MoveAnswer w empty s 1 → IllFormed
+  unfolding MoveAnswer
+  move-one w empty z (here h e) = h
+  move-one w empty z (later _ (here h e)) = absurd (z (sym e))
+  move-one w empty z (later _ (later _ (here h e))) = absurd (omega (arith, e))
+  move-one w empty z (later _ (later _ (later _ e))) = absurd (omega (arith, e))
 
   pub one-exactly : (c : Call) → (said s c .answer ≡ 1) ↔ IllFormed
-  unfolding said OccAnswer SbeAnswer UndoAnswer
+  unfolding said OccAnswer SbeAnswer MoveAnswer
   one-exactly (occ sender c d) = Iff·trans (occ-answers s typed sender c d 1) (occ-one sender c d, λ h. here h refl)
   one-exactly (sbe r d) = Iff·trans (sbe-answers s typed r d 1) (sbe-one r d, λ h. here h refl)
-  one-exactly undo = Iff·trans (undo-answers s 1) (undo-one, λ h. here h refl)
+  one-exactly undo = Iff·trans (undo-answers s 1) (move-one Before 6 (λ z. omega (arith, z)), λ h. here h refl)
+  one-exactly redo = Iff·trans (redo-answers s 1) (move-one After 8 (λ z. omega (arith, z)), λ h. here h refl)

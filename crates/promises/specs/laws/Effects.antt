@@ -7,7 +7,7 @@ use mathlib.Core.List.{List, [], _∷_}
 use native.Mathlib.Nat.{add-zero}
 use native.Mathlib.Omega.{arith}
 use lib.Dec.{eqb}
-use lib.ListN.{length, getD}
+use lib.ListN.{length, getD, replicate}
 use Rattle.wire.specs.Wire.{Bytes}
 use Rattle.wire.specs.Conditions.{_and_}
 use Rattle.wire.specs.laws.Cases.{else-b, else-eq, else-le}
@@ -26,6 +26,7 @@ use Rattle.journal.specs.Add.{endOf}
 use Rattle.journal.specs.laws.Ends.{length-entry, added}
 use Rattle.journal.specs.declared.End.{End}
 use Rattle.journal.specs.declared.End.the-variants.{At, Full}
+use Rattle.journal.specs.declared.Way.the-variants.{Before}
 use Rattle.packet.specs.Packet.{dataOf}
 use Rattle.occ.specs.declared.Verdict.the-variants.{Make}
 use Rattle.occ.specs.laws.Exactly.{found-there}
@@ -35,11 +36,11 @@ use Rattle.session.specs.laws.Session.{Formed, formed}
 use Rattle.session.specs.declared.Session.{Session}
 use Rattle.occ_call.specs.Occ as occs
 use Rattle.sbe_call.specs.Sbe as sbes
-use Rattle.undo_call.specs.Undo.{undoCall}
+use Rattle.undo_call.specs.Undo.{undoCall, redoCall}
 use Rattle.links.specs.Typed.{TypedSession}
 use Rattle.links.specs.laws.Made.{Made}
-use Rattle.promises.specs.Calls.{Call, occ, sbe, undo, said}
-use Rattle.promises.specs.History.{Deed, keeps, adds, strikes, deed}
+use Rattle.promises.specs.Calls.{Call, occ, sbe, undo, redo, said}
+use Rattle.promises.specs.History.{Deed, keeps, adds, strikes, unstrikes, deed}
 use Rattle.promises.specs.Demand1.{OccDue}
 use Rattle.promises.specs.Demand2.{atFront, NotPoll, successReply, OccSucceeds, SbeSucceeds}
 use Rattle.promises.specs.Effects.{becomes, OccEffect, poll, clear-log, set-state, set-role, set-caps, set-throttles, set-thermal, set-user, reset, reset-logged, SbeEffect, start-deadman, stop-deadman, set-mask, set-areas}
@@ -59,10 +60,10 @@ module _ (s : Session) (f : Formed s) (typed : TypedSession s) (e : Edit) (made 
 
   carried-becomes : carriedOf s e .session ≡ becomes s (putOf (s .held) e .after) (s .next + madeOf (e .change)) (entryBytes back)
   carried-becomes =
-      let w = l s f (typed .held) e made fits .back-writable in
-      let j = added back (s .used) (s .journal) w (room s f (typed .held) e made fits) in
-      session-is s f (typed .held) e made fits
-      ∙ (λ i. withHeld (putOf (s .held) e .after) (s .next + madeOf (e .change)) (j i) (s .used + sym (length-entry back w) i))
+      let w = l s f typed e made fits .back-writable in
+      let j = added Before back (s .used) (s .journal) w (room s f typed e made fits) in
+      session-is s f typed e made fits
+      ∙ (λ i. withHeld (putOf (s .held) e .after) (s .next + madeOf (e .change)) (j i) (s .used + sym (length-entry Before back w) i) (replicate 2048 0) 0)
 
   becomes-row : (held : Record) (next : ℕ) (entry : List ℕ) → putOf (s .held) e .after ≡ held → s .next + madeOf (e .change) ≡ next → entryBytes back ≡ entry
       → carriedOf s e .session ≡ becomes s held next entry
@@ -126,12 +127,16 @@ abbrev adding : Deed → Bool
 adding keeps = false
 adding (adds e) = true
 adding strikes = false
+adding unstrikes = false
 
 keeps-not : (e : Edit) → keeps ≡ adds e → ⊥
 keeps-not e p = false≢true (ap adding p)
 
 strikes-not : (e : Edit) → strikes ≡ adds e → ⊥
 strikes-not e p = false≢true (ap adding p)
+
+unstrikes-not : (e : Edit) → unstrikes ≡ adds e → ⊥
+unstrikes-not e p = false≢true (ap adding p)
 
 same-edit : (a b : Edit) → adds a ≡ adds b → a ≡ b
 same-edit a b p = cc
@@ -282,12 +287,14 @@ module _ (s : Session) (typed : TypedSession s) (x : Edit) where
   sbe-shown r d q e (sbe-demands.due y g k (sbe-demands.no-room ch v full)) p = absurd (keeps-not x p)
   sbe-shown r d q e (sbe-demands.due y g k (sbe-demands.carried ch v fits)) p = counted _ p fits
 
-  undo-never : (b : Bool) → cond b strikes keeps ≡ adds x → ⊥
-  undo-never true p = strikes-not x p
-  undo-never false p = keeps-not x p
+  -- undo and redo add none
+  never-adds : (d : Deed) → (d ≡ adds x → ⊥) → (b : Bool) → cond b d keeps ≡ adds x → ⊥
+  never-adds d h true p = h p
+  never-adds d h false p = keeps-not x p
 
   pub deed-shown : (c : Call) → deed s c ≡ adds x → said s c .session .held ≡ putOf (s .held) x .after
   unfolding said deed
   deed-shown (occ sender c d) p = occ-shown sender c d _ _ (occ-ways.called s sender c d) p
   deed-shown (sbe r d) p = sbe-shown r d _ _ (sbe-demands.called s typed r d) p
-  deed-shown undo p = absurd (undo-never (eqb (undoCall s .answer) 0) p)
+  deed-shown undo p = absurd (never-adds strikes (strikes-not x) (eqb (undoCall s .answer) 0) p)
+  deed-shown redo p = absurd (never-adds unstrikes (unstrikes-not x) (eqb (redoCall s .answer) 0) p)

@@ -1,17 +1,16 @@
--- The ways of the call `undo`, and demands 1 and 2 read off them. Assumes nothing.
+-- The ways of the calls `undo` and `redo`, and demands 1 and 2 read off them, for both at once. Assumes nothing.
 use Prim.Native.Nat.{ℕ, suc, _+_, _-_, _≤_}
-use mathlib.Core.Bool.{Bool, true, false, cond, not, false≢true, true≢false}
+use mathlib.Core.Bool.{Bool, true, not, false≢true, true≢false}
 use mathlib.Core.Logic.{_↔_}
 use mathlib.Core.Path.{_≡_, refl, sym, ap, subst, _∙_}
 use mathlib.Core.List.{List, [], _∷_}
 use native.Mathlib.Omega.{arith}
 use borrow.Author.Tests.{not-false, not-true, eqb-true, eqb-false}
 use lib.Dec.{eqb}
-use lib.ListN.{length, take, drop, replicate}
+use lib.ListN.{length, take, drop}
 use lib.Seq.{length-take-le}
 use Rattle.wire.specs.Conditions.{is}
-use Rattle.wire.specs.Wire.{pasted}
-use Rattle.wire.specs.laws.Cases.{else-eq, else-ne, else-lt, cond-cases}
+use Rattle.wire.specs.laws.Cases.{else-eq, else-ne, cond-cases}
 use Rattle.wire.specs.laws.Chains.{eq-holds, lt-passes, le-passes, zero-passes, not-passes, unless, unless-last, or-else}
 use Rattle.wire.specs.laws.Tables.{ByTable, by-is, hit, miss}
 use Rattle.wire.specs.laws.Wire.{tail-part, part-of-part}
@@ -26,17 +25,19 @@ use Rattle.formed.specs.Formed.{recordOk}
 use Rattle.entries.specs.Entries.{Entry, bodyLen, bytesOf, written, Scan, between, scan, newestAt, readingOf}
 use Rattle.entries.specs.laws.Entries.{scan-written, scan-proper, drop-newest, length-written, newest-written}
 use Rattle.journal.specs.Read.{foundFor, tablesIn, badGot, gotFor, gotOf, valuesOk, entryOk, allOk}
-use Rattle.journal.specs.Add.{cutFrom}
+use Rattle.journal.specs.Ways.{byWay}
 use Rattle.journal.specs.declared.Found.{Found}
 use Rattle.journal.specs.declared.Found.the-variants.{Good, Bad}
-use Rattle.session.specs.Session.{wellFormed, withHeld}
+use Rattle.journal.specs.declared.Way.{Way}
+use Rattle.journal.specs.declared.Way.the-variants.{Before, After}
+use Rattle.session.specs.Session.{wellFormed}
 use Rattle.session.specs.laws.Session.{formed}
 use Rattle.session.specs.declared.Session.{Session}
-use Rattle.undo_call.specs.Undo.{Undone, notUndone, undone, undonePut, undoneWith, undoneFound, undoneGot, undoneAt, undoneRead, undoneNewest, undoCall}
-use Rattle.promises.specs.Demand1.{UndoAnswer}
-use Rattle.promises.specs.Demand2.{Newest, TakesBack, Undoable, UndoAccepted}
-use Rattle.promises.specs.Effects.{UndoEffect}
-use Rattle.promises.specs.laws.WellFormed.{reads}
+use Rattle.undo_call.specs.Undo.{storeOf, usedOf, noneLeft, Moved, notMoved, moved, movedPut, movedWith, movedFound, movedGot, movedAt, movedRead, movedNewest, moveCall, undoCall, redoCall}
+use Rattle.undo_call.specs.laws.Came.{none-zero}
+use Rattle.promises.specs.Demand1.{MoveAnswer, UndoAnswer, RedoAnswer}
+use Rattle.promises.specs.Demand2.{Newest, GoesIn, Movable, MoveAccepted, UndoAccepted, RedoAccepted}
+use Rattle.promises.specs.laws.FormedStores.{reads, all-parts, store-of}
 
 -- ---- what can be put in
 
@@ -45,30 +46,30 @@ okOf x = x .ok
 
 module _ (r : Record) (t : Tables) where
   abbrev Exactly : Change → Type 0
-  Exactly ch = (putWith r t ch .ok ≡ true) ↔ TakesBack r ch
+  Exactly ch = (putWith r t ch .ok ≡ true) ↔ GoesIn r ch
 
-  takes-exactly : (ch : Change) → Exactly ch
+  goes-exactly : (ch : Change) → Exactly ch
   unfolding putWith clearOf unclearOf resetOf unresetOf accepted refused
-  takes-exactly (Unclear place log) = unless okOf refl (lt-passes _ _) (unless-last okOf refl (le-passes 4 _) refl)
-  takes-exactly (Unreset state made) = or-else okOf refl (eq-holds made 0) (unless-last okOf refl (zero-passes _) refl)
-  takes-exactly (Clear place log) = unless-last okOf refl (not-passes ((λ h. h), (λ h. h))) refl
-  takes-exactly (Reset log) = or-else okOf refl (eq-holds (log .id) 0) (unless-last okOf refl (le-passes 4 _) refl)
-  takes-exactly (SetState state) = ((λ h. tt), (λ h. refl))
-  takes-exactly (SetRole got role) = ((λ h. tt), (λ h. refl))
-  takes-exactly (SetCaps got caps) = ((λ h. tt), (λ h. refl))
-  takes-exactly (SetUser user) = ((λ h. tt), (λ h. refl))
-  takes-exactly (SetThermal got) = ((λ h. tt), (λ h. refl))
-  takes-exactly (SetThrottles got) = ((λ h. tt), (λ h. refl))
-  takes-exactly (SetMask mask) = ((λ h. tt), (λ h. refl))
-  takes-exactly (SetDeadman deadman) = ((λ h. tt), (λ h. refl))
-  takes-exactly (SetAreas areas) = ((λ h. tt), (λ h. refl))
+  goes-exactly (Unclear place log) = unless okOf refl (lt-passes _ _) (unless-last okOf refl (le-passes 4 _) refl)
+  goes-exactly (Unreset state made) = or-else okOf refl (eq-holds made 0) (unless-last okOf refl (zero-passes _) refl)
+  goes-exactly (Clear place log) = unless-last okOf refl (not-passes ((λ h. h), (λ h. h))) refl
+  goes-exactly (Reset log) = or-else okOf refl (eq-holds (log .id) 0) (unless-last okOf refl (le-passes 4 _) refl)
+  goes-exactly (SetState state) = ((λ h. tt), (λ h. refl))
+  goes-exactly (SetRole got role) = ((λ h. tt), (λ h. refl))
+  goes-exactly (SetCaps got caps) = ((λ h. tt), (λ h. refl))
+  goes-exactly (SetUser user) = ((λ h. tt), (λ h. refl))
+  goes-exactly (SetThermal got) = ((λ h. tt), (λ h. refl))
+  goes-exactly (SetThrottles got) = ((λ h. tt), (λ h. refl))
+  goes-exactly (SetMask mask) = ((λ h. tt), (λ h. refl))
+  goes-exactly (SetDeadman deadman) = ((λ h. tt), (λ h. refl))
+  goes-exactly (SetAreas areas) = ((λ h. tt), (λ h. refl))
 
 -- ---- the newest entry
 
 -- an entry's bytes are read as what its kind and body say
-entry-got : (e : Entry) → bodyLen (e .kind) ≡ length (e .body) → gotOf (bytesOf e) ≡ record { found = foundFor (e .kind) (e .body); tables = tablesIn (e .kind) (e .body) }
+entry-got : (w : Way) (e : Entry) → bodyLen (e .kind) ≡ length (e .body) → gotOf w (bytesOf e) ≡ record { found = foundFor w (e .kind) (e .body); tables = tablesIn (e .kind) (e .body) }
 unfolding gotOf gotFor bytesOf
-entry-got e sized =
+entry-got w e sized =
     let n : ℕ = length (e .body) in
     let some : suc n ≡ 0 → ⊥ = λ z. omega arith in
     let fits : suc n - 1 ≡ bodyLen (e .kind) = omega arith in
@@ -80,24 +81,16 @@ unfolding valuesOk
 good-found t (Good ch) h = (ch, refl)
 good-found t Bad h = absurd (false≢true h)
 
-first-ok : (e : Entry) (es : List Entry) → allOk (e ∷ es) ≡ true → entryOk e ≡ true
-unfolding allOk
-first-ok e es h = go (entryOk e) refl h
-  where
-    go : (b : Bool) → entryOk e ≡ b → cond b (allOk es) false ≡ true → entryOk e ≡ true
-    go true p h = p
-    go false p h = absurd (false≢true h)
-
-module _ (s : Session) where
+module _ (w : Way) (s : Session) where
   abbrev used-part : List ℕ
-  used-part = take (s .used) (s .journal)
+  used-part = take (usedOf w s) (storeOf w s)
 
-  -- where an entry is the newest, the used journal isn't empty
-  newest-used : (e : Edit) → Newest s e → s .used ≡ 0 → ⊥
+  -- where an entry is the newest, the store isn't empty
+  newest-used : (e : Edit) → Newest w s e → usedOf w s ≡ 0 → ⊥
   newest-used e n z =
-      let w = ap length (scan-written used-part (n .entry ∷ n .older) (n .read)) in
-      let k : length used-part ≡ 0 = ap (λ (m : ℕ). length (take m (s .journal))) z in
-      omega (arith, w, k, length-written (n .entry) (n .older))
+      let all = ap length (scan-written used-part (n .entry ∷ n .older) (n .read)) in
+      let k : length used-part ≡ 0 = ap (λ (m : ℕ). length (take m (storeOf w s))) z in
+      omega (arith, all, k, length-written (n .entry) (n .older))
 
   same-entry : (a b : Entry) (xs ys : List Entry) → between (a ∷ xs) ≡ between (b ∷ ys) → a ≡ b
   same-entry a b xs ys e = cc
@@ -106,138 +99,130 @@ module _ (s : Session) where
   same-change a b e = cc
 
   -- it says one thing only
-  newest-one : (a b : Edit) → Newest s a → Newest s b → a ≡ b
+  newest-one : (a b : Edit) → Newest w s a → Newest w s b → a ≡ b
   newest-one a b m n =
       let e = same-entry (m .entry) (n .entry) (m .older) (n .older) (sym (m .read) ∙ n .read) in
-      let p = same-change (a .change) (b .change) (sym (m .change) ∙ ap (λ (x : Entry). foundFor (x .kind) (x .body)) e ∙ n .change) in
+      let p = same-change (a .change) (b .change) (sym (m .change) ∙ ap (λ (x : Entry). foundFor w (x .kind) (x .body)) e ∙ n .change) in
       let q = sym (m .tables) ∙ ap (λ (x : Entry). tablesIn (x .kind) (x .body)) e ∙ n .tables in
       λ i. record { change = p i; tables = q i }
 
   -- ---- the ways
 
-  pub data Called : Undone → Type 0 where
-    ill-formed : (wellFormed s ≡ true → ⊥) → Called (notUndone 1 s)
-    empty : wellFormed s ≡ true → s .used ≡ 0 → Called (notUndone 6 s)
-    kept : wellFormed s ≡ true → (e : Edit) → Newest s e → (Undoable s e → ⊥) → Called (notUndone 7 s)
-    taken : wellFormed s ≡ true → (e : Edit) (n : Newest s e) → Undoable s e → Called (undone s (length (written (n .older))) (kindOf (e .change)) (putOf (s .held) e))
+  pub data Called : Moved → Type 0 where
+    ill-formed : (wellFormed s ≡ true → ⊥) → Called (notMoved 1 s)
+    empty : wellFormed s ≡ true → usedOf w s ≡ 0 → Called (notMoved (noneLeft w) s)
+    kept : wellFormed s ≡ true → (e : Edit) → Newest w s e → (Movable s e → ⊥) → Called (notMoved 7 s)
+    moves : wellFormed s ≡ true → (e : Edit) (n : Newest w s e) → Movable s e → Called (moved w s (length (written (n .older))) e (putOf (s .held) e))
 
-  module _ (w : wellFormed s ≡ true) where
-    called-with : (e : Edit) (n : Newest s e) → Called (undoneWith s (length (written (n .older))) e)
-    unfolding undoneWith undonePut putOf
+  module _ (x : wellFormed s ≡ true) where
+    called-with : (e : Edit) (n : Newest w s e) → Called (movedWith w s (length (written (n .older))) e)
+    unfolding movedWith movedPut putOf
     called-with e n =
-        let exactly = takes-exactly (s .held) (e .tables) (e .change) in
+        let exactly = goes-exactly (s .held) (e .tables) (e .change) in
         let fine = recordOk (putOf (s .held) e .after) (s .next) in
-        cond-cases Called (not (putOf (s .held) e .ok)) (λ h. kept w e n (λ u. true≢false (sym (exactly .1 (u .0)) ∙ not-true _ h)))
-        (λ h. cond-cases Called (not fine) (λ g. kept w e n (λ u. true≢false (sym (u .1) ∙ not-true _ g)))
-        (λ g. taken w e n (exactly .0 (not-false _ h), not-false _ g)))
+        cond-cases Called (not (putOf (s .held) e .ok)) (λ h. kept x e n (λ u. true≢false (sym (exactly .1 (u .0)) ∙ not-true _ h)))
+        (λ h. cond-cases Called (not fine) (λ g. kept x e n (λ u. true≢false (sym (u .1) ∙ not-true _ g)))
+        (λ g. moves x e n (exactly .0 (not-false _ h), not-false _ g)))
+
+    whole : length used-part ≡ usedOf w s
+    whole = length-take-le (usedOf w s) (storeOf w s) (store-of s (formed s x) w .fits)
 
     -- entries that were read, the newest first
-    module _ (x : Entry) (es : List Entry) (read : scan used-part ≡ between (x ∷ es)) (good : allOk (x ∷ es) ≡ true) where
+    module _ (y : Entry) (es : List Entry) (read : scan used-part ≡ between (y ∷ es)) (good : allOk w (y ∷ es) ≡ true) where
       abbrev at : ℕ
-      at = newestAt (x ∷ es)
+      at = newestAt (y ∷ es)
 
-      whole : length used-part ≡ s .used
-      whole = length-take-le (s .used) (s .journal) (formed s w .fits)
-
-      newest-part : take (s .used - at) (drop at (s .journal)) ≡ bytesOf x
+      newest-part : take (usedOf w s - at) (drop at (storeOf w s)) ≡ bytesOf y
       newest-part =
-          let low : at ≤ length (written (x ∷ es)) = newest-written (x ∷ es) in
-          let all : length used-part ≡ length (written (x ∷ es)) = ap length (scan-written used-part (x ∷ es) read) in
-          let fits : at + (s .used - at) ≤ s .used = omega (arith, low, all, whole) in
-          sym (part-of-part (s .used - at) at (s .used) (s .journal) fits)
+          let low : at ≤ length (written (y ∷ es)) = newest-written (y ∷ es) in
+          let all : length used-part ≡ length (written (y ∷ es)) = ap length (scan-written used-part (y ∷ es) read) in
+          let fits : at + (usedOf w s - at) ≤ usedOf w s = omega (arith, low, all, whole) in
+          sym (part-of-part (usedOf w s - at) at (usedOf w s) (storeOf w s) fits)
           ∙ ap (λ (n : ℕ). take (n - at) (drop at used-part)) (sym whole)
           ∙ tail-part used-part at
-          ∙ drop-newest used-part x es read
+          ∙ drop-newest used-part y es read
 
-      says : gotOf (take (s .used - at) (drop at (s .journal))) ≡ record { found = foundFor (x .kind) (x .body); tables = tablesIn (x .kind) (x .body) }
-      says = ap gotOf newest-part ∙ entry-got x (scan-proper used-part (x ∷ es) read .0 .0)
+      says : gotOf w (take (usedOf w s - at) (drop at (storeOf w s))) ≡ record { found = foundFor w (y .kind) (y .body); tables = tablesIn (y .kind) (y .body) }
+      says = ap (gotOf w) newest-part ∙ entry-got w y (scan-proper used-part (y ∷ es) read .0 .0)
 
-      change-there : (ch : Change) × (foundFor (x .kind) (x .body) ≡ Good ch)
+      change-there : (ch : Change) × (foundFor w (y .kind) (y .body) ≡ Good ch)
       unfolding entryOk
-      change-there = good-found (tablesIn (x .kind) (x .body)) (foundFor (x .kind) (x .body)) (first-ok x es good)
+      change-there = good-found (tablesIn (y .kind) (y .body)) (foundFor w (y .kind) (y .body)) (all-parts w y es good .0)
 
       abbrev newest : Edit
-      newest = record { change = change-there .0; tables = tablesIn (x .kind) (x .body) }
+      newest = record { change = change-there .0; tables = tablesIn (y .kind) (y .body) }
 
-      at-is : undoneAt s at ≡ undoneWith s at newest
-      unfolding undoneAt undoneGot undoneFound
-      at-is = ap (undoneGot s at) says ∙ ap (undoneFound s at (tablesIn (x .kind) (x .body))) (change-there .1)
+      at-is : movedAt w s at ≡ movedWith w s at newest
+      unfolding movedAt movedGot movedFound
+      at-is = ap (movedGot w s at) says ∙ ap (movedFound w s at (tablesIn (y .kind) (y .body))) (change-there .1)
 
-      called-newest : Called (undoneRead s (readingOf (scan used-part)))
-      unfolding undoneRead readingOf newestAt
+      called-newest : Called (movedRead w s (readingOf (scan used-part)))
+      unfolding movedRead readingOf newestAt
       called-newest =
-          subst Called (sym (ap (λ (v : Scan). undoneRead s (readingOf v)) read ∙ at-is))
-          (called-with newest (record { entry = x; older = es; read = read; change = change-there .1; tables = refl }))
+          subst Called (sym (ap (λ (v : Scan). movedRead w s (readingOf v)) read ∙ at-is))
+          (called-with newest (record { entry = y; older = es; read = read; change = change-there .1; tables = refl }))
 
-    called-read : (es : List Entry) → (s .used ≡ 0 → ⊥) → scan used-part ≡ between es → allOk es ≡ true → Called (undoneRead s (readingOf (scan used-part)))
+    called-read : (es : List Entry) → (usedOf w s ≡ 0 → ⊥) → scan used-part ≡ between es → allOk w es ≡ true → Called (movedRead w s (readingOf (scan used-part)))
     unfolding written
     called-read [] some read good =
         let n = ap length (scan-written used-part [] read) in
-        let z : s .used ≡ 0 = omega (arith, n, length-take-le (s .used) (s .journal) (formed s w .fits)) in
+        let z : usedOf w s ≡ 0 = omega (arith, n, whole) in
         absurd (some z)
-    called-read (x ∷ es) some read good = called-newest x es read good
+    called-read (y ∷ es) some read good = called-newest y es read good
 
-  pub called : Called (undoCall s)
-  unfolding undoCall undoneNewest
+  pub called : Called (moveCall w s)
+  unfolding moveCall movedNewest
   called =
-      cond-cases Called (not (wellFormed s)) (λ f. ill-formed (λ w. true≢false (sym w ∙ not-true _ f)))
-      (λ f. let w = not-false _ f in
-      let r = reads used-part (formed s w .reads) in
-      cond-cases Called (eqb (s .used) 0) (λ z. empty w (eqb-true (s .used) 0 z)) (λ z. called-read w (r .entries) (eqb-false (s .used) 0 z) (r .scanned) (r .good)))
+      cond-cases Called (not (wellFormed s)) (λ f. ill-formed (λ x. true≢false (sym x ∙ not-true _ f)))
+      (λ f. let x = not-false _ f in
+      let r = reads w used-part (store-of s (formed s x) w .reads) in
+      cond-cases Called (eqb (usedOf w s) 0) (λ z. empty x (eqb-true (usedOf w s) 0 z)) (λ z. called-read x (r .entries) (eqb-false (usedOf w s) 0 z) (r .scanned) (r .good)))
 
   -- ---- demand 2
 
-  success : wellFormed s ≡ true → (q : Undone) → Called q → (q .answer ≡ 0) ↔ UndoAccepted s
-  unfolding notUndone undone
+  success : wellFormed s ≡ true → (q : Moved) → Called q → (q .answer ≡ 0) ↔ MoveAccepted w s
+  unfolding notMoved moved
   success x q (ill-formed h) = absurd (h x)
-  success x q (empty w z) = (λ e. absurd (omega (arith, e)), λ a. absurd (newest-used (a .0) (a .1 .0) z))
-  success x q (kept w e n bar) = (λ e. absurd (omega (arith, e)), λ a. absurd (bar (subst (Undoable s) (newest-one (a .0) e (a .1 .0) n) (a .1 .1))))
-  success x q (taken w e n u) = (λ z. (e, (n, u)), λ a. refl)
+  success x q (empty y z) = (λ e. absurd (none-zero w e), λ a. absurd (newest-used (a .0) (a .1 .0) z))
+  success x q (kept y e n bar) = (λ e. absurd (omega (arith, e)), λ a. absurd (bar (subst (Movable s) (newest-one (a .0) e (a .1 .0) n) (a .1 .1))))
+  success x q (moves y e n u) = (λ z. (e, (n, u)), λ a. refl)
 
-  pub undo-accepted : wellFormed s ≡ true → (undoCall s .answer ≡ 0) ↔ UndoAccepted s
-  undo-accepted w = success w _ called
+  pub move-accepted : wellFormed s ≡ true → (moveCall w s .answer ≡ 0) ↔ MoveAccepted w s
+  move-accepted x = success x _ called
 
   -- ---- the answers
 
-  abbrev Answers : Undone → ℕ → Type 0
+  abbrev Answers : Moved → ℕ → Type 0
   Answers q n = q .answer ≡ n
 
-  refuses : (n : ℕ) → ByTable Answers (notUndone n s) (is n)
-  unfolding notUndone
+  refuses : (n : ℕ) → ByTable Answers (notMoved n s) (is n)
+  unfolding notMoved
   refuses n = by-is Answers refl (λ m e. sym e)
 
-  answer-table : (q : Undone) → Called q → ByTable Answers q (UndoAnswer s)
-  unfolding UndoAnswer undone
+  answer-table : (q : Moved) → Called q → ByTable Answers q (MoveAnswer w (noneLeft w) s)
+  unfolding MoveAnswer moved
   answer-table q (ill-formed h) = hit Answers h (refuses 1)
-  answer-table q (empty w z) = miss Answers (λ h. h w) (hit Answers z (refuses 6))
-  answer-table q (kept w e n bar) = miss Answers (λ h. h w) (miss Answers (newest-used e n) (hit Answers (e, (n, bar)) (refuses 7)))
-  answer-table q (taken w e n u) =
-      miss Answers (λ h. h w) (miss Answers (newest-used e n)
-      (miss Answers (λ a. a .1 .1 (subst (Undoable s) (newest-one e (a .0) n (a .1 .0)) u)) (by-is Answers refl (λ m e. sym e))))
+  answer-table q (empty x z) = miss Answers (λ h. h x) (hit Answers z (refuses (noneLeft w)))
+  answer-table q (kept x e n bar) = miss Answers (λ h. h x) (miss Answers (newest-used e n) (hit Answers (e, (n, bar)) (refuses 7)))
+  answer-table q (moves x e n u) =
+      miss Answers (λ h. h x) (miss Answers (newest-used e n)
+      (miss Answers (λ a. a .1 .1 (subst (Movable s) (newest-one e (a .0) n (a .1 .0)) u)) (by-is Answers refl (λ m e. sym e))))
 
-  pub undo-answers : (n : ℕ) → (undoCall s .answer ≡ n) ↔ UndoAnswer s n
-  undo-answers = answer-table _ called .exactly
+  pub move-answers : (n : ℕ) → (moveCall w s .answer ≡ n) ↔ MoveAnswer w (noneLeft w) s n
+  move-answers = answer-table _ called .exactly
 
-  -- ---- the effect
+-- ---- undo and redo
 
-  zeroed : (at : ℕ) → at ≤ s .used → s .used ≤ length (s .journal) → cutFrom at (s .used) (s .journal) ≡ pasted at (replicate (s .used - at) 0) (s .journal)
-  unfolding cutFrom
-  zeroed at low high = sym (else-lt _ _ high (else-lt _ _ low refl))
+pub undo-answers : (s : Session) (n : ℕ) → (undoCall s .answer ≡ n) ↔ UndoAnswer s n
+unfolding noneLeft byWay
+undo-answers = move-answers Before
 
-  newest-low : wellFormed s ≡ true → (e : Edit) (n : Newest s e) → length (written (n .older)) ≤ s .used
-  newest-low w e n =
-      let all = ap length (scan-written used-part (n .entry ∷ n .older) (n .read)) in
-      omega (arith, all, length-written (n .entry) (n .older), length-take-le (s .used) (s .journal) (formed s w .fits))
+pub redo-answers : (s : Session) (n : ℕ) → (redoCall s .answer ≡ n) ↔ RedoAnswer s n
+unfolding noneLeft byWay
+redo-answers = move-answers After
 
-  effect : (q : Undone) → Called q → q .answer ≡ 0 → UndoEffect s q
-  unfolding notUndone undone
-  effect q (ill-formed h) z = absurd (omega (arith, z))
-  effect q (empty w h) z = absurd (omega (arith, z))
-  effect q (kept w e n bar) z = absurd (omega (arith, z))
-  effect q (taken w e n u) z =
-      let at = length (written (n .older)) in
-      let cut = zeroed at (newest-low w e n) (formed s w .fits) in
-      record { before = e; newest = n; kind-is = refl; session-is = λ i. withHeld (putOf (s .held) e .after) (s .next) (cut i) at }
+pub undo-accepted : (s : Session) → wellFormed s ≡ true → (undoCall s .answer ≡ 0) ↔ UndoAccepted s
+undo-accepted = move-accepted Before
 
-  pub undo-effect : undoCall s .answer ≡ 0 → UndoEffect s (undoCall s)
-  undo-effect = effect _ called
+pub redo-accepted : (s : Session) → wellFormed s ≡ true → (redoCall s .answer ≡ 0) ↔ RedoAccepted s
+redo-accepted = move-accepted After

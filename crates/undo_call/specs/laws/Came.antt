@@ -27,7 +27,8 @@ use Rattle.session.specs.laws.Session.{formed}
 use Rattle.session.specs.declared.Session.{Session}
 use Rattle.undo_call.specs.Undo.{storeOf, usedOf, noneLeft, sessionMoved, Moved, notMoved, moved, movedPut, movedWith, movedFound, movedGot, movedAt, movedRead, movedNewest, moveCall}
 
-none-zero : (w : Way) → noneLeft w ≡ 0 → ⊥
+-- 6 and 8 are refusals
+pub none-zero : (w : Way) → noneLeft w ≡ 0 → ⊥
 unfolding noneLeft byWay
 none-zero Before z = omega (arith, z)
 none-zero After z = omega (arith, z)

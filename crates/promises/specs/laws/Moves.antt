@@ -1,0 +1,172 @@
+-- What an accepted undo or redo does: the newest entry leaves its store, and what takes it back has room in the other one. Assumes nothing.
+use Prim.Native.Nat.{ℕ, _+_, _≤_}
+use mathlib.Core.Bool.{true}
+use mathlib.Core.Path.{_≡_, refl, sym, ap, subst, _∙_}
+use mathlib.Core.List.{List, _∷_}
+use native.Mathlib.Omega.{arith}
+use lib.ListN.{length, take}
+use Rattle.wire.specs.Conditions.{_and_}
+use Rattle.wire.specs.Wire.{pasted}
+use Rattle.record.specs.declared.Record.{Record}
+use Rattle.change.specs.Change.{kindOf, putOf, inverseOf}
+use Rattle.change.specs.declared.Edit.{Edit}
+use Rattle.change.specs.declared.Tables.{Tables}
+use Rattle.formed.specs.Formed.{recordOk, editOk}
+use Rattle.formed.specs.laws.Formed.{sound, inverse-ok}
+use Rattle.entries.specs.Entries.{bodyLen, bytesOf, written}
+use Rattle.entries.specs.laws.Entries.{scan-proper}
+use Rattle.journal.specs.Bytes.{entryFor, entryBytes}
+use Rattle.journal.specs.Read.{valuesOk, entryOk}
+use Rattle.journal.specs.Add.{entryLen}
+use Rattle.journal.specs.Ways.{byWay, other}
+use Rattle.journal.specs.declared.Found.{Found}
+use Rattle.journal.specs.declared.Way.{Way}
+use Rattle.journal.specs.declared.Way.the-variants.{Before, After}
+use Rattle.journal.specs.laws.Bodies.{Writable, length-body}
+use Rattle.journal.specs.laws.Ends.{length-entry}
+use Rattle.journal.specs.laws.Says.{Holds, Says, found-says}
+use Rattle.session.specs.Session.{wellFormed, withHeld}
+use Rattle.session.specs.laws.Session.{Store, Formed, formed, formed-ok}
+use Rattle.session.specs.declared.Session.{Session}
+use Rattle.undo_call.specs.Undo.{storeOf, usedOf, lessened, grown, grownTo, sessionMoved, Moved, notMoved, moved, moveCall}
+use Rattle.undo_call.specs.laws.Came.{none-zero}
+use Rattle.links.specs.Typed.{TypedSession}
+use Rattle.links.specs.laws.Links.{kind-of-back, writable-back}
+use Rattle.links.specs.laws.Entry.{entry-ok}
+use Rattle.promises.specs.Demand2.{Newest}
+use Rattle.promises.specs.Effects.{zeroedFrom, movesTo, entryBack, MoveEffect}
+use Rattle.promises.specs.laws.FormedStores.{all-good, all-parts, more-pasted, cut-zeroed, used-is, one-less, store-of, both-used, long-store}
+use Rattle.promises.specs.laws.UndoDemands.{Called, ill-formed, empty, kept, moves, called}
+
+-- ---- the session after it, store by store
+
+module _ (s : Session) (at : ℕ) (e : Edit) (held : Record) where
+  stores-formed : (w : Way) → recordOk held (s .next) ≡ true → at + grownTo w s e ≤ 2048 → Store w (lessened w s at) at → Store (other w) (grown w s e) (grownTo w s e)
+      → wellFormed (sessionMoved w s at e held) ≡ true
+  unfolding sessionMoved withHeld byWay other
+  stores-formed Before ok fit less more =
+      formed-ok (sessionMoved Before s at e held) (record { record-ok = ok; worked-is = refl; both-fit = fit; journal = less; redo = more })
+  stores-formed After ok fit less more =
+      formed-ok (sessionMoved After s at e held) (record { record-ok = ok; worked-is = refl; both-fit = omega (arith, fit); journal = more; redo = less })
+
+  stores-moved : (w : Way) → lessened w s at ≡ zeroedFrom at (usedOf w s) (storeOf w s) → grownTo w s e ≡ usedOf (other w) s + length (bytesOf (entryBack s e))
+      → sessionMoved w s at e held ≡ movesTo w s held at (bytesOf (entryBack s e))
+  unfolding sessionMoved grown entryBytes storeOf usedOf byWay other
+  stores-moved Before cut end = λ i. withHeld held (s .next) (cut i) at (pasted (s .ahead) (bytesOf (entryBack s e)) (s .redo)) (end i)
+  stores-moved After cut end = λ i. withHeld held (s .next) (pasted (s .used) (bytesOf (entryBack s e)) (s .journal)) (end i) (cut i) at
+
+  stores-used : (w : Way) → at + grownTo w s e ≡ usedOf w s + usedOf (other w) s → sessionMoved w s at e held .used + sessionMoved w s at e held .ahead ≡ s .used + s .ahead
+  unfolding sessionMoved withHeld usedOf byWay other
+  stores-used Before sum = sum
+  stores-used After sum = omega (arith, sum)
+
+-- ---- the newest entry, and the one that takes it back
+
+module _ (w : Way) (s : Session) (f : Formed s) (e : Edit) (n : Newest w s e) where
+  abbrev at : ℕ
+  at = length (written (n .older))
+
+  abbrev back : Edit
+  back = inverseOf (s .held) e
+
+  store : Store w (storeOf w s) (usedOf w s)
+  store = store-of s f w
+
+  -- what the entry says is of its kind, and one of the changes that its store holds
+  says : (kindOf (e .change) ≡ n .entry .kind) × Holds w (e .change)
+  says = subst (λ (x : Found). Says w (n .entry .kind) x) (n .change) (found-says w (n .entry .kind) (n .entry .body))
+
+  same-kind : kindOf (back .change) ≡ n .entry .kind
+  unfolding inverseOf
+  same-kind = kind-of-back (s .held) (e .change) ∙ says .0
+
+  -- it and what takes it back are of one length
+  sized : bodyLen (n .entry .kind) ≡ length (n .entry .body)
+  sized = scan-proper (take (usedOf w s) (storeOf w s)) (n .entry ∷ n .older) (n .read) .0 .0
+
+  back-long : entryLen back ≡ 1 + length (n .entry .body)
+  back-long = omega (arith, ap bodyLen same-kind, sized)
+
+  all-used : at + entryLen back ≡ usedOf w s
+  all-used = omega (arith, back-long, used-is w (storeOf w s) (usedOf w s) store (n .entry) (n .older) (n .read))
+
+  -- so both stores' used bytes stay as many as they were, and what takes it back has room
+  sum-stays : at + grownTo w s e ≡ usedOf w s + usedOf (other w) s
+  unfolding grownTo
+  sum-stays = omega (arith, all-used)
+
+  room : usedOf (other w) s + entryLen back ≤ 2048
+  room = omega (arith, all-used, both-used s f w)
+
+  -- its values are ones that a well-formed record could hold
+  values-pass : editOk e ≡ true
+  unfolding editOk entryOk valuesOk
+  values-pass =
+      let good = all-parts w (n .entry) (n .older) (all-good w (take (usedOf w s) (storeOf w s)) (n .entry ∷ n .older) (store .reads) (n .read)) .0 in
+      sym (λ i. valuesOk (n .tables i) (n .change i)) ∙ good
+
+  back-passes : editOk back ≡ true
+  back-passes = inverse-ok (s .held) (s .next) e (sound (f .record-ok)) values-pass
+
+  module _ (typed : TypedSession s) where
+    writable : Writable (other w) (back .tables) (back .change)
+    unfolding inverseOf
+    writable = writable-back w (s .held) (e .change) (typed .held) (says .1)
+
+    back-bytes : length (bytesOf (entryBack s e)) ≡ entryLen back
+    unfolding entryBytes
+    back-bytes = length-entry (other w) back writable
+
+    less : Store w (lessened w s at) at
+    unfolding lessened
+    less = one-less w (storeOf w s) (usedOf w s) store (n .entry) (n .older) (n .read)
+
+    more : Store (other w) (grown w s e) (grownTo w s e)
+    unfolding grown grownTo
+    more =
+        more-pasted (other w) (storeOf (other w) s) (usedOf (other w) s) (store-of s f (other w)) back writable (entry-ok (other w) back writable back-passes)
+        (omega (arith, room, long-store s typed (other w)))
+
+    pub moved-formed : recordOk (putOf (s .held) e .after) (s .next) ≡ true → wellFormed (moved w s at e (putOf (s .held) e) .session) ≡ true
+    unfolding moved
+    moved-formed ok = stores-formed s at e (putOf (s .held) e .after) w ok (omega (arith, sum-stays, both-used s f w)) less more
+
+    moved-effect : MoveEffect w s (moved w s at e (putOf (s .held) e))
+    unfolding moved lessened grownTo entryFor
+    moved-effect =
+        let low : at ≤ usedOf w s = omega (arith, all-used) in
+        record {
+          edit = e;
+          newest = n;
+          kind-is = says .0;
+          same-kind = same-kind;
+          same-length = length-body (other w) (back .tables) (back .change) writable ∙ ap bodyLen same-kind ∙ sized;
+          session-is = stores-moved s at e (putOf (s .held) e .after) w (cut-zeroed (storeOf w s) at (usedOf w s) low (store .fits)) (ap (λ (m : ℕ). usedOf (other w) s + m) (sym back-bytes));
+        }
+
+    bytes-fit : usedOf (other w) s + length (bytesOf (entryBack s e)) ≤ 2048
+    bytes-fit = omega (arith, back-bytes, room)
+
+-- ---- the calls
+
+module _ (w : Way) (s : Session) (typed : TypedSession s) where
+  effect : (q : Moved) → Called w s q → q .answer ≡ 0 → MoveEffect w s q
+  unfolding notMoved
+  effect q (ill-formed h) z = absurd (omega (arith, z))
+  effect q (empty x h) z = absurd (none-zero w z)
+  effect q (kept x e n bar) z = absurd (omega (arith, z))
+  effect q (moves x e n u) z = moved-effect w s (formed s x) e n typed
+
+  pub move-effect : moveCall w s .answer ≡ 0 → MoveEffect w s (moveCall w s)
+  move-effect = effect _ (called w s)
+
+  used-stay : (q : Moved) → Called w s q → q .session .used + q .session .ahead ≡ s .used + s .ahead
+  unfolding notMoved moved
+  used-stay q (ill-formed h) = refl
+  used-stay q (empty x h) = refl
+  used-stay q (kept x e n bar) = refl
+  used-stay q (moves x e n u) = stores-used s (length (written (n .older))) e (putOf (s .held) e .after) w (sum-stays w s (formed s x) e n)
+
+  pub room-left : wellFormed s ≡ true → (e : Edit) → Newest w s e
+      → (usedOf (other w) s + length (bytesOf (entryBack s e)) ≤ 2048) and (moveCall w s .session .used + moveCall w s .session .ahead ≡ s .used + s .ahead)
+  room-left x e n = (bytes-fit w s (formed s x) e n typed, used-stay _ (called w s))

@@ -5,7 +5,7 @@ use mathlib.Core.List.{List, [], _∷_}
 use lib.Dec.{eqb}
 use Rattle.change.specs.declared.Change.{Change}
 use Rattle.change.specs.declared.Change.the-variants.{Clear, Unclear, SetState, SetRole, SetCaps, SetUser, SetThermal, SetThrottles, Reset, Unreset, SetMask, SetDeadman, SetAreas}
-use Rattle.promises.specs.History.{Mark}
+use Rattle.promises.specs.Marks.{Mark}
 
 -- the id that a change's log drew, 0 where it makes none
 unfoldable pub idOf : Change → ℕ

@@ -17,7 +17,7 @@ use Rattle.promises.specs.Calls.{Call, occ, sbe, undo, Said, said}
 use Rattle.promises.specs.History.{OfBytes}
 use Rattle.promises.specs.Shifted.{shifted, shiftedRecord}
 
--- ---- what is asked in both: the same bytes; but who clears a log names the id that it has there
+-- ---- what is asked in both: the same bytes, but who clears a log names the id that it has there; nobody redoes
 
 -- the id that a good clear-log packet names; 0, which is no log's, for every other command
 unfoldable pub named : List ℕ → ℕ

@@ -4,9 +4,9 @@ use mathlib.Core.List.{List, [], _∷_}
 use Rattle.image.specs.Image.{imageOf}
 use Rattle.occ_call.specs.Occ.{occOn}
 use Rattle.sbe_call.specs.Sbe.{sbeOn}
-use Rattle.undo_call.specs.Undo.{undoOn}
+use Rattle.undo_call.specs.Undo.{undoOn, redoOn}
 use Rattle.bjargolsk.specs.Calls.{packed}
-use Rattle.promises.specs.Calls.{Call, occ, sbe, undo, Said}
+use Rattle.promises.specs.Calls.{Call, occ, sbe, undo, redo, Said}
 
 pub record Lent : Type 0 where
   pub result : ℕ
@@ -18,12 +18,14 @@ unfoldable pub lent : List ℕ → Call → Lent
 lent b (occ sender c d) = record { result = packed (occOn b sender c d .told); image = occOn b sender c d .image; reply = occOn b sender c d .reply }
 lent b (sbe r d) = record { result = packed (sbeOn b r d .told); image = sbeOn b r d .image; reply = sbeOn b r d .reply }
 lent b undo = record { result = packed (undoOn b .told); image = undoOn b .image; reply = undoOn b .reply }
+lent b redo = record { result = packed (redoOn b .told); image = redoOn b .image; reply = redoOn b .reply }
 
 -- the same of a call on a session: the answer below, doorbell or kind above, the session as its image
 unfoldable pub beside : Call → Said → ℕ
 beside (occ sender c d) x = 0
 beside (sbe r d) x = x .bell
 beside undo x = x .kind
+beside redo x = x .kind
 
 unfoldable pub carriedOver : Call → Said → Lent
 carriedOver c x = record { result = packed (record { answer = x .answer; beside = beside c x }); image = imageOf (x .session); reply = x .reply }

@@ -5,7 +5,6 @@ use mathlib.Core.List.{List, [], _∷_}
 use lib.Dec.{eqb, ltb}
 use Rattle.change.specs.declared.Edit.{Edit}
 use Rattle.session.specs.Session.{madeOf}
-use Rattle.promises.specs.Ids.{idOf}
 
 -- a change, and by which accepted undo it is struck out, counted from 1; 0: it is not
 pub record Mark : Type 0 where
@@ -38,11 +37,6 @@ left (m ∷ ms) = cond (eqb (m .stroke) 0) (m .edit ∷ left ms) (left ms)
 unfoldable pub logsMade : List Mark → ℕ
 logsMade [] = 0
 logsMade (m ∷ ms) = logsMade ms + madeOf (m .edit .change)
-
--- the ids of all logs ever made, newest first
-unfoldable pub idsMade : List Mark → List ℕ
-idsMade [] = []
-idsMade (m ∷ ms) = cond (eqb (idOf (m .edit .change)) 0) (idsMade ms) (idOf (m .edit .change) ∷ idsMade ms)
 
 -- ---- the answers
 

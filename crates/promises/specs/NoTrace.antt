@@ -1,14 +1,30 @@
--- "Undo takes back the record and all that is worked out from it": a change tried and taken back.
-use Prim.Native.Nat.{ℕ}
+-- "Undo takes back the record and all that is worked out from it": a change tried and taken back; and a redo after it.
+use Prim.Native.Nat.{ℕ, _+_}
+use mathlib.Core.Path.{_≡_}
+use mathlib.Core.List.{List, [], _∷_}
+use lib.ListN.{replicate}
+use Rattle.wire.specs.Wire.{pasted}
+use Rattle.wire.specs.Conditions.{_and_}
+use Rattle.change.specs.declared.Edit.{Edit}
+use Rattle.journal.specs.Add.{entryLen}
+use Rattle.journal.specs.Bytes.{entryBytes}
+use Rattle.session.specs.Session.{freshSession, madeOf}
 use Rattle.session.specs.declared.Session.{Session}
-use mathlib.Core.List.{List}
-use Rattle.session.specs.Session.{freshSession}
-use Rattle.promises.specs.Calls.{Call, undo, said}
-use Rattle.promises.specs.History.{Run, run, next-run, start}
+use Rattle.promises.specs.Calls.{Call, occ, sbe, undo, redo, Said, said}
+use Rattle.promises.specs.History.{Run, run, next-run, start, OfBytes}
 
--- the session with another next id, all else as it was
-unfoldable pub withNext : Session → ℕ → Session
-withNext s n = record { held = s .held; worked = s .worked; next = n; journal = s .journal; used = s .used }
+-- the session as it was, but for the next id, where a log was made, and for the redo store: it holds the one change that was taken back
+unfoldable pub leaves : Session → Edit → Session
+leaves s e =
+    record {
+      held = s .held;
+      worked = s .worked;
+      next = s .next + madeOf (e .change);
+      journal = s .journal;
+      used = s .used;
+      redo = pasted 0 (entryBytes e) (replicate 2048 0);
+      ahead = entryLen e;
+    }
 
 -- calls made one after the other, from a fresh session
 abbrev pub after : List Call → Run
@@ -17,3 +33,27 @@ after cs = run (start freshSession) cs
 -- the session after those calls, one more, and an undo
 abbrev pub tried : List Call → Call → Session
 tried cs c = said (next-run (after cs) c .session) undo .session
+
+-- ---- "Every later reply is as if nobody had tried as long as nobody redoes": any calls but redo
+
+abbrev pub ButRedo : Call → Type 0
+ButRedo (occ sender c d) = Unit {0}
+ButRedo (sbe r d) = Unit {0}
+ButRedo undo = Unit {0}
+ButRedo redo = ⊥
+
+-- what a call tells and writes
+pub record SameSaid (a b : Said) : Type 0 where
+  pub answer : b .answer ≡ a .answer
+  pub bell : b .bell ≡ a .bell
+  pub kind : b .kind ≡ a .kind
+  pub reply : b .reply ≡ a .reply
+
+-- calls one after the other on s, where nobody tried, and on t
+abbrev pub AsBefore : Session → Session → List Call → Type 0
+AsBefore s t [] = Unit {0}
+AsBefore s t (c ∷ cs) = SameSaid (said s c) (said t c) and AsBefore (said s c .session) (said t c .session) cs
+
+abbrev pub AllButRedo : List Call → Type 0
+AllButRedo [] = Unit {0}
+AllButRedo (c ∷ cs) = ButRedo c and OfBytes c and AllButRedo cs

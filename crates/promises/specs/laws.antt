@@ -1,3 +1,4 @@
+pub mod Stores
 pub mod ByHistory
 pub mod Steps
 pub mod Asked
@@ -5,6 +6,7 @@ pub mod Ids
 pub mod Struck
 pub mod Marks
 pub mod Demand3
+pub mod Aside
 pub mod NoTrace
 pub mod Lent
 pub mod Shifted

@@ -16,16 +16,23 @@ use Rattle.journal.specs.Bytes.{entryBytes}
 use Rattle.journal.specs.laws.Ends.{length-entry}
 use Rattle.session.specs.Session.{withHeld, madeOf, carriedOf}
 use Rattle.session.specs.declared.Session.{Session}
-use Rattle.undo_call.specs.Undo.{Undone, notUndone, undoCall}
+use Rattle.journal.specs.declared.Way.the-variants.{Before}
+use Rattle.journal.specs.Ways.{byWay}
+use Rattle.undo_call.specs.Undo.{Moved, notMoved, undoCall}
 use Rattle.promises.specs.Calls.{Call, said}
-use Rattle.promises.specs.History.{Deed, keeps, adds, strikes, deed, Mark, marked, left, logsMade, replay, Run, next-run, OfBytes}
-use Rattle.promises.specs.laws.ByHistory.{length-padded, journalOf, byHistory, Kept, Sane}
+use Rattle.promises.specs.Marks.{left, logsMade}
+use Rattle.promises.specs.History.{Deed, keeps, adds, strikes, unstrikes, deed, replay, Run, did, next-run, OfBytes}
+use Rattle.promises.specs.NoTrace.{ButRedo}
+use Rattle.promises.specs.laws.Stores.{length-padded, flat}
+use Rattle.promises.specs.laws.ByHistory.{standing, backs, journalOf, byHistory, Kept, Sane}
 use Rattle.promises.specs.laws.Steps.{undo-history, undo-nothing}
-use Rattle.promises.specs.laws.Demand3.{Inv, tail, next-inv, formed, held-is, next-is, worked-is, left-strike, logs-strike}
+use Rattle.promises.specs.laws.Marks.{tail}
+use Rattle.promises.specs.laws.Demand3.{ahead, Inv, next-inv, formed, held-is, next-is, worked-is}
+use Rattle.promises.specs.laws.Aside.{NotRedo, not-redo, leftAfter, madeAfter, left-after, made-after}
 use Rattle.promises.specs.laws.Shifted.{shiftedEdit, kind-shifted, replay-shifted, logs-shifted}
 use Rattle.promises.specs.Shifted.{shiftedRecord}
 use Rattle.promises.specs.laws.Heard.{shiftedDeed, noRoom, full-by-kind, heard}
-use Rattle.promises.specs.Later.{SameWish, Wish, Twins, Alike, IdsEnd, AsIf}
+use Rattle.promises.specs.Later.{SameWish, occ-same, occ-clears, sbe-same, undo-same, Wish, Twins, Alike, IdsEnd, AsIf}
 
 module _ (base : Record) (k : ℕ) (low : 1 ≤ k) (still : shiftedRecord k base ≡ base) where
   abbrev there-edits : List Edit → List Edit
@@ -40,28 +47,30 @@ module _ (base : Record) (k : ℕ) (low : 1 ≤ k) (still : shiftedRecord k base
     pub from-k : k ≤ suc (logsMade (p .marks))
 
   used-shifted : (hi hi′ : ℕ) (es : List Edit) → Kept base hi es → Kept base hi′ (there-edits es) → length (journalOf base (there-edits es)) ≡ length (journalOf base es)
-  unfolding journalOf shiftedEdit inverseOf
+  unfolding backs flat shiftedEdit inverseOf
   used-shifted hi hi′ [] w w′ = refl
   used-shifted hi hi′ (e ∷ es) w w′ =
       let b = inverseOf (replay base es) e in
       let b′ = inverseOf (replay base (there-edits es)) (shiftedEdit k e) in
       let kinds : kindOf (b′ .change) ≡ kindOf (b .change) = w′ .0 .links .kind-back ∙ kind-shifted k (e .change) ∙ sym (w .0 .links .kind-back) in
       length-append (journalOf base (there-edits es)) (entryBytes b′)
-      ∙ ap₂ _+_ (used-shifted hi hi′ es (w .1) (w′ .1)) (length-entry b′ (w′ .0 .links .back-writable) ∙ ap (λ (i : ℕ). bodyLen i + 1) kinds ∙ sym (length-entry b (w .0 .links .back-writable)))
+      ∙ ap₂ _+_ (used-shifted hi hi′ es (w .1) (w′ .1)) (length-entry Before b′ (w′ .0 .links .back-writable) ∙ ap (λ (i : ℕ). bodyLen i + 1) kinds ∙ sym (length-entry Before b (w .0 .links .back-writable)))
       ∙ sym (length-append (journalOf base es) (entryBytes b))
 
-  undo-shifted : (es : List Edit) (n : ℕ) → Sane base es n → Sane base (there-edits es) (suc n)
-      → (undoCall (byHistory base (there-edits es) (suc n)) .answer ≡ undoCall (byHistory base es n) .answer) × (undoCall (byHistory base (there-edits es) (suc n)) .kind ≡ undoCall (byHistory base es n) .kind)
-  unfolding notUndone shiftedEdit inverseOf
-  undo-shifted [] n g g′ =
-      let here = undo-nothing base n g in
-      let there = undo-nothing base (suc n) g′ in
-      (ap (λ (u : Undone). u .answer) there ∙ sym (ap (λ (u : Undone). u .answer) here), ap (λ (u : Undone). u .kind) there ∙ sym (ap (λ (u : Undone). u .kind) here))
-  undo-shifted (e ∷ es) n g g′ =
-      let here = undo-history base e es n g in
-      let there = undo-history base (shiftedEdit k e) (there-edits es) (suc n) g′ in
+  -- rs, rs′: what can be redone, which doesn't matter here
+  undo-shifted : (es : List Edit) (n : ℕ) (rs rs′ : List Edit) → Sane base es n rs → Sane base (there-edits es) (suc n) rs′
+      → (undoCall (byHistory base (there-edits es) (suc n) rs′) .answer ≡ undoCall (byHistory base es n rs) .answer)
+      × (undoCall (byHistory base (there-edits es) (suc n) rs′) .kind ≡ undoCall (byHistory base es n rs) .kind)
+  unfolding notMoved shiftedEdit inverseOf
+  undo-shifted [] n rs rs′ g g′ =
+      let here = undo-nothing base n rs g in
+      let there = undo-nothing base (suc n) rs′ g′ in
+      (ap (λ (u : Moved). u .answer) there ∙ sym (ap (λ (u : Moved). u .answer) here), ap (λ (u : Moved). u .kind) there ∙ sym (ap (λ (u : Moved). u .kind) here))
+  undo-shifted (e ∷ es) n rs rs′ g g′ =
+      let here = undo-history base e es n rs g in
+      let there = undo-history base (shiftedEdit k e) (there-edits es) (suc n) rs′ g′ in
       let kinds = g′ .kept .0 .links .kind-back ∙ kind-shifted k (e .change) ∙ sym (g .kept .0 .links .kind-back) in
-      (ap (λ (u : Undone). u .answer) there ∙ sym (ap (λ (u : Undone). u .answer) here), ap (λ (u : Undone). u .kind) there ∙ kinds ∙ sym (ap (λ (u : Undone). u .kind) here))
+      (ap (λ (u : Moved). u .answer) there ∙ sym (ap (λ (u : Moved). u .answer) here), ap (λ (u : Moved). u .kind) there ∙ kinds ∙ sym (ap (λ (u : Moved). u .kind) here))
 
   worked-shifted : (r : Record) → workedOf (shiftedRecord k r) ≡ workedOf r
   unfolding workedOf shiftedRecord withLogs
@@ -74,17 +83,23 @@ module _ (base : Record) (k : ℕ) (low : 1 ≤ k) (still : shiftedRecord k base
     abbrev n : ℕ
     n = logsMade (p .marks)
 
-    here : p .session ≡ byHistory base es n
+    abbrev rs : List Edit
+    rs = ahead base p
+
+    abbrev rs′ : List Edit
+    rs′ = ahead base q
+
+    here : p .session ≡ byHistory base es n rs
     here = b .inv .is
 
-    there-is : q .session ≡ byHistory base (there-edits es) (suc n)
-    there-is = b .inv′ .is ∙ ap₂ (byHistory base) (b .left-is) (b .made-is)
+    there-is : q .session ≡ byHistory base (there-edits es) (suc n) rs′
+    there-is = b .inv′ .is ∙ (λ i. byHistory base (b .left-is i) (b .made-is i) rs′)
 
-    sane′ : Sane base (there-edits es) (suc n)
-    sane′ = subst (λ (x : List Edit). Sane base x (suc n)) (b .left-is) (subst (Sane base (left (q .marks))) (b .made-is) (b .inv′ .sane))
+    sane′ : Sane base (there-edits es) (suc n) rs′
+    sane′ = subst (λ (x : List Edit). Sane base x (suc n) rs′) (b .left-is) (subst (λ (m : ℕ). Sane base (left (q .marks)) m rs′) (b .made-is) (b .inv′ .sane))
 
-    both-sides : Twins k (byHistory base es n) (byHistory base (there-edits es) (suc n))
-    unfolding byHistory withHeld
+    both-sides : Twins k (byHistory base es n rs) (byHistory base (there-edits es) (suc n) rs′)
+    unfolding byHistory standing byWay withHeld
     both-sides =
         let held = replay-shifted k low base still es in
         record {
@@ -95,31 +110,31 @@ module _ (base : Record) (k : ℕ) (low : 1 ≤ k) (still : shiftedRecord k base
         }
 
     pub twins : Twins k (p .session) (q .session)
-    twins = subst (λ (s : Session). Twins k s (q .session)) (sym here) (subst (Twins k (byHistory base es n)) (sym there-is) both-sides)
+    twins = subst (λ (s : Session). Twins k s (q .session)) (sym here) (subst (Twins k (byHistory base es n rs)) (sym there-is) both-sides)
 
-    rooms : (e : Edit) → noRoom (length (byHistory base (there-edits es) (suc n) .journal)) (byHistory base (there-edits es) (suc n) .used) (kindOf (shiftedEdit k e .change))
-        ≡ noRoom (length (byHistory base es n .journal)) (byHistory base es n .used) (kindOf (e .change))
-    unfolding byHistory withHeld shiftedEdit
+    rooms : (e : Edit) → noRoom (length (byHistory base (there-edits es) (suc n) rs′ .journal)) (byHistory base (there-edits es) (suc n) rs′ .used) (kindOf (shiftedEdit k e .change))
+        ≡ noRoom (length (byHistory base es n rs .journal)) (byHistory base es n rs .used) (kindOf (e .change))
+    unfolding byHistory standing byWay withHeld shiftedEdit
     rooms e =
-        let long = length-padded (journalOf base (there-edits es)) (sane′ .fits) ∙ sym (length-padded (journalOf base es) (b .inv .sane .fits)) in
+        let long = length-padded (journalOf base (there-edits es)) (omega (arith, sane′ .fits)) ∙ sym (length-padded (journalOf base es) (omega (arith, b .inv .sane .fits))) in
         λ i. noRoom (long i) (both-sides .used-is i) (kind-shifted k (e .change) i)
 
     full-is : (e : Edit) → carriedOf (q .session) (shiftedEdit k e) .full ≡ carriedOf (p .session) e .full
     full-is e =
         ap (λ (s : Session). carriedOf s (shiftedEdit k e) .full) there-is
-        ∙ full-by-kind (byHistory base (there-edits es) (suc n)) (shiftedEdit k e)
+        ∙ full-by-kind (byHistory base (there-edits es) (suc n) rs′) (shiftedEdit k e)
         ∙ rooms e
-        ∙ sym (full-by-kind (byHistory base es n) e)
+        ∙ sym (full-by-kind (byHistory base es n rs) e)
         ∙ ap (λ (s : Session). carriedOf s e .full) (sym here)
 
     from-next : k ≤ p .session .next
     from-next = omega (arith, b .from-k, next-is base p (b .inv))
 
     answers : undoCall (q .session) .answer ≡ undoCall (p .session) .answer
-    answers = ap (λ (s : Session). undoCall s .answer) there-is ∙ undo-shifted es n (b .inv .sane) sane′ .0 ∙ ap (λ (s : Session). undoCall s .answer) (sym here)
+    answers = ap (λ (s : Session). undoCall s .answer) there-is ∙ undo-shifted es n rs rs′ (b .inv .sane) sane′ .0 ∙ ap (λ (s : Session). undoCall s .answer) (sym here)
 
     kinds : undoCall (q .session) .kind ≡ undoCall (p .session) .kind
-    kinds = ap (λ (s : Session). undoCall s .kind) there-is ∙ undo-shifted es n (b .inv .sane) sane′ .1 ∙ ap (λ (s : Session). undoCall s .kind) (sym here)
+    kinds = ap (λ (s : Session). undoCall s .kind) there-is ∙ undo-shifted es n rs rs′ (b .inv .sane) sane′ .1 ∙ ap (λ (s : Session). undoCall s .kind) (sym here)
 
     -- one call
     both-hear : (c c′ : Call) → SameWish k c c′ → OfBytes c
@@ -132,43 +147,64 @@ module _ (base : Record) (k : ℕ) (low : 1 ≤ k) (still : shiftedRecord k base
   tail-shifted [] = refl
   tail-shifted (e ∷ es) = refl
 
-  left-marked : (ms ms′ : List Mark) → left ms′ ≡ there-edits (left ms) → (d : Deed) → left (marked ms′ (shiftedDeed k d)) ≡ there-edits (left (marked ms d))
-  unfolding marked left shiftedDeed
-  left-marked ms ms′ h keeps = h
-  left-marked ms ms′ h (adds e) = ap (λ (l : List Edit). shiftedEdit k e ∷ l) h
-  left-marked ms ms′ h strikes = left-strike ms′ ∙ ap tail h ∙ tail-shifted (left ms) ∙ ap there-edits (sym (left-strike ms))
+  left-shifted : (es : List Edit) (d : Deed) → leftAfter (there-edits es) (shiftedDeed k d) ≡ there-edits (leftAfter es d)
+  unfolding leftAfter shiftedDeed
+  left-shifted es keeps = refl
+  left-shifted es (adds e) = refl
+  left-shifted es strikes = tail-shifted es
+  left-shifted es unstrikes = refl
 
-  logs-marked : (ms ms′ : List Mark) → logsMade ms′ ≡ suc (logsMade ms) → (d : Deed) → logsMade (marked ms′ (shiftedDeed k d)) ≡ suc (logsMade (marked ms d))
-  unfolding marked logsMade shiftedDeed shiftedEdit
-  logs-marked ms ms′ h keeps = h
-  logs-marked ms ms′ h (adds e) = ap₂ _+_ h (logs-shifted k low (e .change)) ∙ suc-add (logsMade ms) (madeOf (e .change))
-  logs-marked ms ms′ h strikes = logs-strike ms′ ∙ h ∙ ap suc (sym (logs-strike ms))
+  made-shifted : (n : ℕ) (d : Deed) → madeAfter (suc n) (shiftedDeed k d) ≡ suc (madeAfter n d)
+  unfolding madeAfter shiftedDeed shiftedEdit
+  made-shifted n keeps = refl
+  made-shifted n (adds e) = ap (λ (m : ℕ). suc n + m) (logs-shifted k low (e .change)) ∙ suc-add n (madeOf (e .change))
+  made-shifted n strikes = refl
+  made-shifted n unstrikes = refl
 
-  logs-grow : (ms : List Mark) (d : Deed) → logsMade ms ≤ logsMade (marked ms d)
-  unfolding marked logsMade
-  logs-grow ms keeps = omega arith
-  logs-grow ms (adds e) = omega arith
-  logs-grow ms strikes = omega (arith, logs-strike ms)
+  made-grows : (n : ℕ) (d : Deed) → n ≤ madeAfter n d
+  unfolding madeAfter
+  made-grows n keeps = omega arith
+  made-grows n (adds e) = omega arith
+  made-grows n strikes = omega arith
+  made-grows n unstrikes = omega arith
+
+  -- nobody redoes
+  wish-not : (c c′ : Call) → SameWish k c c′ → ButRedo c × ButRedo c′
+  wish-not c c′ (occ-same sender x d h) = (tt, tt)
+  wish-not c c′ (occ-clears sender x x′ d h) = (tt, tt)
+  wish-not c c′ (sbe-same r d) = (tt, tt)
+  wish-not c c′ undo-same = (tt, tt)
 
   -- ---- any calls
 
-  next-beside : (p q : Run) → Beside p q → (c c′ : Call) → OfBytes c → OfBytes c′ → deed (q .session) c′ ≡ shiftedDeed k (deed (p .session) c) → Beside (next-run p c) (next-run q c′)
-  unfolding next-run
-  next-beside p q b c c′ bytes bytes′ d =
+  next-beside : (p q : Run) → Beside p q → (c c′ : Call) → SameWish k c c′ → OfBytes c → OfBytes c′ → deed (q .session) c′ ≡ shiftedDeed k (deed (p .session) c) → Beside (next-run p c) (next-run q c′)
+  unfolding next-run did
+  next-beside p q b c c′ same bytes bytes′ d =
+      let here = not-redo (p .session) c (wish-not c c′ same .0) in
+      let there = not-redo (q .session) c′ (wish-not c c′ same .1) in
+      let made = made-after (p .undos) (p .marks) (deed (p .session) c) here in
       record {
         inv = next-inv base p (b .inv) c bytes;
         inv′ = next-inv base q (b .inv′) c′ bytes′;
-        left-is = ap (λ (x : Deed). left (marked (q .marks) x)) d ∙ left-marked (p .marks) (q .marks) (b .left-is) (deed (p .session) c);
-        made-is = ap (λ (x : Deed). logsMade (marked (q .marks) x)) d ∙ logs-marked (p .marks) (q .marks) (b .made-is) (deed (p .session) c);
-        from-k = omega (arith, b .from-k, logs-grow (p .marks) (deed (p .session) c));
+        left-is =
+            left-after (q .undos) (q .marks) (deed (q .session) c′) there
+            ∙ ap₂ leftAfter (b .left-is) d
+            ∙ left-shifted (left (p .marks)) (deed (p .session) c)
+            ∙ ap there-edits (sym (left-after (p .undos) (p .marks) (deed (p .session) c) here));
+        made-is =
+            made-after (q .undos) (q .marks) (deed (q .session) c′) there
+            ∙ ap₂ madeAfter (b .made-is) d
+            ∙ made-shifted (logsMade (p .marks)) (deed (p .session) c)
+            ∙ ap suc (sym made);
+        from-k = omega (arith, b .from-k, made-grows (logsMade (p .marks)) (deed (p .session) c), made);
       }
 
   pub as-if : (ws : List (Wish k)) (p q : Run) → Beside p q → AsIf k (p .session) (q .session) ws
-  unfolding next-run
+  unfolding next-run did
   as-if [] p q b = tt
   as-if (w ∷ ws) p q b =
       ⊎-elim inl
       (λ h.
-      let after = next-beside p q b (w .here) (w .there) (w .bytes) (w .bytes′) (h .1) in
+      let after = next-beside p q b (w .here) (w .there) (w .same) (w .bytes) (w .bytes′) (h .1) in
       inr (h .0, twins (next-run p (w .here)) (next-run q (w .there)) after, as-if ws (next-run p (w .here)) (next-run q (w .there)) after))
       (both-hear p q b (w .here) (w .there) (w .same) (w .bytes))

@@ -26,6 +26,7 @@ use Rattle.formed.specs.Formed.{recordOk, nextOk, reasonOk}
 use Rattle.formed.specs.laws.Formed.{sound}
 use Rattle.record.specs.Widths.{CapsFit}
 use Rattle.journal.specs.laws.Bodies.{Writable}
+use Rattle.journal.specs.declared.Way.the-variants.{After}
 use Rattle.sets.specs.Sets.{emptySets, setsOf, emptyFrus, frusOf}
 use Rattle.sets.specs.laws.Sets.{sets-formed, frus-formed}
 use Rattle.occ.specs.Commands.{pollVerdict, clearAt, clearVerdict, stateFits, notReady, stateVerdict, roleVerdict, capsFor, sentCaps, capsVerdict, userAllowed, userFor, userVerdict, logDue, resetFor, resetVerdict}
@@ -50,12 +51,12 @@ data-bytes c h = cond-elim Bytes (ltb (length c) (dataLength c + 6)) tt (bytes-t
 abbrev Shape : Tables → Change → Type 0
 Shape t (Clear place log) = t ≡ noTables
 Shape t (Unclear place log) = ⊥
-Shape t (SetState state) = Writable t (SetState state)
-Shape t (SetRole got role) = Writable t (SetRole got role)
-Shape t (SetCaps got caps) = Writable t (SetCaps got caps)
-Shape t (SetUser user) = Writable t (SetUser user)
-Shape t (SetThermal got) = Writable t (SetThermal got)
-Shape t (SetThrottles got) = Writable t (SetThrottles got)
+Shape t (SetState state) = Writable After t (SetState state)
+Shape t (SetRole got role) = Writable After t (SetRole got role)
+Shape t (SetCaps got caps) = Writable After t (SetCaps got caps)
+Shape t (SetUser user) = Writable After t (SetUser user)
+Shape t (SetThermal got) = Writable After t (SetThermal got)
+Shape t (SetThrottles got) = Writable After t (SetThrottles got)
 Shape t (Reset log) = ((log ≡ noLog) ⊎ (log .id ≡ 0 → ⊥)) × (t ≡ noTables)
 Shape t (Unreset state made) = ⊥
 Shape t (SetMask mask) = ⊥
@@ -215,7 +216,7 @@ module _ (r : Record) (w : Worked) (next sender kind : ℕ) (d : List ℕ) (byte
       let dr = reset-drawn r w next sender kind d ok (typed .logs) log e some in
       record { id = dr .0; low = next-some r next ok; high = dr .1 .0; room = dr .1 .1 .0; reason = reason-ok (log .reason) (dr .1 .1 .1) }
 
-  values : (ch : Change) → j .verdict ≡ Make ch → Writable (j .tables) ch → Values (j .tables) ch
+  values : (ch : Change) → j .verdict ≡ Make ch → Writable After (j .tables) ch → Values (j .tables) ch
   values ch e f = record { ok = made-ok r w next sender kind d ok (typed .logs) ch e; fits = f }
 
   pub occ-made : (ch : Change) → j .verdict ≡ Make ch → Made r next (j .tables) ch
@@ -236,7 +237,7 @@ module _ (r : Record) (w : Worked) (next sender kind : ℕ) (d : List ℕ) (byte
 -- ---- SBE
 
 module _ (r : Record) (next : ℕ) (q : List ℕ) (bytes : Bytes q) where
-  granted : (ch : Change) → mailbox.requestVerdict q ≡ Granted ch → Writable noTables ch → Values noTables ch
+  granted : (ch : Change) → mailbox.requestVerdict q ≡ Granted ch → Writable After noTables ch → Values noTables ch
   granted ch e f = record { ok = change-ok q ch e; fits = f }
 
   pub sbe-made : (ch : Change) → mailbox.requestVerdict q ≡ Granted ch → Made r next noTables ch

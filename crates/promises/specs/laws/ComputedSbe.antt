@@ -1,9 +1,10 @@
--- What the examples compute with, of the calls `sbe` and `undo`.
+-- What the examples compute with, of the calls `sbe`, `undo` and `redo`.
 use Prim.Native.Nat.{ℕ}
 use Rattle.sbe.specs.Mailbox.{flagsOf, wordAt, registerAt, plainFlags, deadmanAt, deadmanOf, coresOf, areaStatus, areaOf, areasAt, areasOf, coreState, general, requestFor, requestVerdict, bellOf, responseBytes}
 use Rattle.sbe_call.specs.Sbe.{rung, kept, responds, refusalOf, sbeRefusal, carriedSays, sbeMade, toldOf, verdictSays, sbeRead, sbeFrom, sbeCall}
-use Rattle.undo_call.specs.Undo.{notUndone, undone, undonePut, undoneWith, undoneFound, undoneGot, undoneAt, undoneRead, undoneNewest, undoCall}
+use Rattle.journal.specs.Ways.{byWay, other}
+use Rattle.undo_call.specs.Undo.{storeOf, usedOf, notMoved, lessened, grown, grownTo, sessionMoved, moved, movedPut, movedWith, movedFound, movedGot, movedAt, movedRead, noneLeft, movedNewest, moveCall}
 
 unfoldable pub computedSbe : ℕ
-unfolding flagsOf wordAt registerAt plainFlags deadmanAt deadmanOf coresOf areaStatus areaOf areasAt areasOf coreState general requestFor requestVerdict bellOf responseBytes rung kept responds refusalOf sbeRefusal carriedSays sbeMade toldOf verdictSays sbeRead sbeFrom sbeCall notUndone undone undonePut undoneWith undoneFound undoneGot undoneAt undoneRead undoneNewest undoCall
+unfolding flagsOf wordAt registerAt plainFlags deadmanAt deadmanOf coresOf areaStatus areaOf areasAt areasOf coreState general requestFor requestVerdict bellOf responseBytes rung kept responds refusalOf sbeRefusal carriedSays sbeMade toldOf verdictSays sbeRead sbeFrom sbeCall byWay other storeOf usedOf notMoved lessened grown grownTo sessionMoved moved movedPut movedWith movedFound movedGot movedAt movedRead noneLeft movedNewest moveCall
 computedSbe = 0

@@ -26,15 +26,18 @@ use Rattle.session.specs.Session.{wellFormed, withHeld, madeOf, carriedOf}
 use Rattle.session.specs.declared.Session.{Session}
 use Rattle.occ_call.specs.Occ as occs
 use Rattle.sbe_call.specs.Sbe as sbes
-use Rattle.undo_call.specs.Undo.{Undone, notUndone, undoCall}
+use Rattle.undo_call.specs.Undo.{Moved, notMoved, undoCall, redoCall}
 use Rattle.links.specs.Typed.{TypedRecord}
 use Rattle.links.specs.laws.Made.{Made}
-use Rattle.promises.specs.Calls.{Call, occ, sbe, undo, said}
-use Rattle.promises.specs.History.{Deed, keeps, adds, strikes, adding, occVerdict, occJudgement, sbeVerdict, deed, Mark, strike, marked, left, logsMade, replay, Run, next-run, run, OfBytes, AllOfBytes, undoAnswer, Demand3}
-use Rattle.promises.specs.laws.Ids.{drew, ids-add, ids-strike}
+use Rattle.promises.specs.Calls.{Call, occ, sbe, undo, redo, said}
+use Rattle.promises.specs.Marks.{Mark, strike, latest, unstrike, left, logsMade, undoAnswer, redoAnswer}
+use Rattle.promises.specs.History.{Deed, keeps, adds, strikes, unstrikes, adding, occVerdict, occJudgement, sbeVerdict, deed, marked, undosAfter, sinceAfter, replay, Run, did, next-run, run, OfBytes, AllOfBytes, Demand3}
+use Rattle.promises.specs.laws.Ids.{drew, ids-add}
+use Rattle.promises.specs.laws.Struck.{off}
+use Rattle.promises.specs.laws.Marks.{answerOf, tail, Strokes, strokes-change, off-change, left-change, strokes-undo, left-undo, off-undo, redo-answer, strokes-redo, left-redo, off-redo, logs-strike, logs-unstrike, ids-strike, ids-unstrike}
 use Rattle.promises.specs.Ids.{idsMade, countdown}
-use Rattle.promises.specs.laws.ByHistory.{byHistory, Sane, history-formed}
-use Rattle.promises.specs.laws.Steps.{carried-history, carried-sane, undo-history, undone-sane, undo-nothing}
+use Rattle.promises.specs.laws.ByHistory.{standing, byHistory, Sane, history-formed}
+use Rattle.promises.specs.laws.Steps.{carried-history, carried-sane, undo-history, undone-sane, redo-history, redone-sane, undo-nothing, redo-nothing}
 use Rattle.promises.specs.laws.Asked.{data-bytes, occ-made, sbe-made}
 
 -- two choices by the same test
@@ -136,62 +139,38 @@ module _ (s : Session) (formed : wellFormed s ≡ true) (ok : recordOk (s .held)
   follows-fair d a t (stays b f) = f
   follows-fair d a t (carries e m f) = ((λ z. omega (arith, z)), (λ z. omega (arith, z)))
 
--- ---- marks
+-- ---- one call, from the session of a history
 
-abbrev pub tail : List Edit → List Edit
-tail [] = []
-tail (e ∷ es) = es
-
-pub left-strike : (ms : List Mark) → left (strike ms) ≡ tail (left ms)
-unfolding left strike
-left-strike [] = refl
-left-strike (m ∷ ms) = go (m .struck) (left-strike ms)
-  where
-    go : (b : Bool) → left (strike ms) ≡ tail (left ms)
-        → left (cond b (record { edit = m .edit; struck = b } ∷ strike ms) (record { edit = m .edit; struck = true } ∷ ms)) ≡ tail (cond b (left ms) (m .edit ∷ left ms))
-    go true e = e
-    go false e = refl
-
-pub logs-strike : (ms : List Mark) → logsMade (strike ms) ≡ logsMade ms
-unfolding logsMade strike
-logs-strike [] = refl
-logs-strike (m ∷ ms) =
-    cond-elim (λ (l : List Mark). logsMade l ≡ logsMade (m ∷ ms)) (m .struck) (ap (λ (n : ℕ). n + madeOf (m .edit .change)) (logs-strike ms)) refl
-
--- an undo strikes one out exactly while one is left
-pub undo-left : (ms : List Mark) (l : List Edit) → left ms ≡ l → left (marked ms (cond (eqb (undoAnswer l) 0) strikes keeps)) ≡ tail l
-unfolding undoAnswer marked
-undo-left ms [] e = e
-undo-left ms (x ∷ l) e = left-strike ms ∙ ap tail e
-
-pub undo-logs : (ms : List Mark) (l : List Edit) → logsMade (marked ms (cond (eqb (undoAnswer l) 0) strikes keeps)) ≡ logsMade ms
-unfolding undoAnswer marked
-undo-logs ms [] = refl
-undo-logs ms (x ∷ l) = logs-strike ms
-
-undo-ids : (ms : List Mark) (a : ℕ) → idsMade (marked ms (cond (eqb a 0) strikes keeps)) ≡ idsMade ms
-unfolding marked
-undo-ids ms a = cond-elim (λ (d : Deed). idsMade (marked ms d) ≡ idsMade ms) (eqb a 0) (ids-strike ms) refl
-
+-- the answers to undo and redo are fair
 undo-fair : (l : List Edit) → Fair (undoAnswer l)
 unfolding undoAnswer
 undo-fair [] = ((λ z. omega (arith, z)), (λ z. omega (arith, z)))
 undo-fair (e ∷ l) = ((λ z. omega (arith, z)), (λ z. omega (arith, z)))
 
--- ---- one call, from the session of a history
+redo-fair : (l : List Edit) → Fair (answerOf l)
+redo-fair [] = ((λ z. omega (arith, z)), (λ z. omega (arith, z)))
+redo-fair (e ∷ l) = ((λ z. omega (arith, z)), (λ z. omega (arith, z)))
 
 module _ (base : Record) where
-  pub record Inv (p : Run) : Type 0 where
-    pub is : p .session ≡ byHistory base (left (p .marks)) (logsMade (p .marks))
-    pub sane : Sane base (left (p .marks)) (logsMade (p .marks))
-    pub ids : idsMade (p .marks) ≡ countdown (logsMade (p .marks))
+  -- es are left, n logs were made, rs can be redone
+  abbrev pub ahead : Run → List Edit
+  ahead p = off (p .since) (p .marks) []
 
-  pub undone-one : (es : List Edit) (n : ℕ) → Sane base es n
-      → (undoCall (byHistory base es n) .answer ≡ undoAnswer es) × (undoCall (byHistory base es n) .session ≡ byHistory base (tail es) n) × Sane base (tail es) n
-  unfolding undoAnswer notUndone
-  undone-one [] n g = (ap (λ (u : Undone). u .answer) (undo-nothing base n g), ap (λ (u : Undone). u .session) (undo-nothing base n g), g)
-  undone-one (e ∷ es) n g =
-      (ap (λ (u : Undone). u .answer) (undo-history base e es n g), ap (λ (u : Undone). u .session) (undo-history base e es n g), undone-sane base e es n g)
+  pub record Inv (p : Run) : Type 0 where
+    pub is : p .session ≡ byHistory base (left (p .marks)) (logsMade (p .marks)) (ahead p)
+    pub sane : Sane base (left (p .marks)) (logsMade (p .marks)) (ahead p)
+    pub ids : idsMade (p .marks) ≡ countdown (logsMade (p .marks))
+    pub strokes : Strokes (p .undos) (p .since) (p .marks)
+
+  -- a run whose marks say this, by what they say
+  inv-by : (p : Run) (es : List Edit) (n : ℕ) (rs : List Edit) → left (p .marks) ≡ es → logsMade (p .marks) ≡ n → ahead p ≡ rs → p .session ≡ byHistory base es n rs → Sane base es n rs
+      → idsMade (p .marks) ≡ countdown n → Strokes (p .undos) (p .since) (p .marks) → Inv p
+  inv-by p es n rs l k a is sane ids strokes = record {
+    is = is ∙ sym (λ i. byHistory base (l i) (k i) (a i));
+    sane = subst (λ (x : List Edit). Sane base x (logsMade (p .marks)) (ahead p)) (sym l) (subst (λ (x : ℕ). Sane base es x (ahead p)) (sym k) (subst (Sane base es n) (sym a) sane));
+    ids = ids ∙ ap countdown (sym k);
+    strokes = strokes;
+  }
 
   module _ (p : Run) (v : Inv p) where
     abbrev es : List Edit
@@ -200,64 +179,118 @@ module _ (base : Record) where
     abbrev n : ℕ
     n = logsMade (p .marks)
 
+    abbrev rs : List Edit
+    rs = ahead p
+
     pub formed : wellFormed (p .session) ≡ true
-    formed = ap wellFormed (v .is) ∙ history-formed base es n (v .sane)
+    formed = ap wellFormed (v .is) ∙ history-formed base es n rs (v .sane)
 
     pub held-is : p .session .held ≡ replay base es
-    unfolding byHistory withHeld
+    unfolding byHistory standing withHeld
     held-is = ap (λ (s : Session). s .held) (v .is)
 
     pub next-is : p .session .next ≡ suc n
-    unfolding byHistory withHeld
+    unfolding byHistory standing withHeld
     next-is = ap (λ (s : Session). s .next) (v .is)
 
     pub worked-is : p .session .worked ≡ workedOf (replay base es)
-    unfolding byHistory withHeld
+    unfolding byHistory standing withHeld
     worked-is = ap (λ (s : Session). s .worked) (v .is)
 
     ok : recordOk (p .session .held) (p .session .next) ≡ true
-    ok = ap₂ recordOk held-is next-is ∙ v .sane .ok
+    ok = subst (λ (r : Record). recordOk r (p .session .next) ≡ true) (sym held-is) (subst (λ (k : ℕ). recordOk (replay base es) k ≡ true) (sym next-is) (v .sane .ok))
 
     typed : TypedRecord (p .session .held)
     typed = subst TypedRecord (sym held-is) (v .sane .typed)
 
-    pub undo-answer : undoCall (p .session) .answer ≡ undoAnswer es
-    undo-answer = ap (λ (s : Session). undoCall s .answer) (v .is) ∙ undone-one es n (v .sane) .0
-
     -- a command
-    follow : (d : Deed) (a : ℕ) (t : Session) → Follows (p .session) formed ok typed d a t → Inv (record { session = t; marks = marked (p .marks) d })
-    unfolding marked left logsMade
+    follow : (d : Deed) (a : ℕ) (t : Session) → Follows (p .session) formed ok typed d a t → Inv (did p t d)
+    unfolding did marked undosAfter sinceAfter logsMade
     follow d a t (stays b f) = v
     follow d a t (carries e m f) =
         let made : Made (replay base es) (suc n) (e .tables) (e .change) =
         subst (λ (k : ℕ). Made (replay base es) k (e .tables) (e .change)) next-is (subst (λ (r : Record). Made r (p .session .next) (e .tables) (e .change)) held-is m) in
-        let fits : carriedOf (byHistory base es n) e .full ≡ false = ap (λ (s : Session). carriedOf s e .full) (sym (v .is)) ∙ f in
-        record {
-          is = ap (λ (s : Session). carriedOf s e .session) (v .is) ∙ carried-history base e es n (v .sane) made fits;
-          sane = carried-sane base e es n (v .sane) made fits;
-          ids = ids-add (record { edit = e; struck = false }) (p .marks) (drew (replay base es) (suc n) (e .tables) (e .change) made) (v .ids);
-        }
+        let fits : carriedOf (byHistory base es n rs) e .full ≡ false = ap (λ (s : Session). carriedOf s e .full) (sym (v .is)) ∙ f in
+        inv-by (did p t (adds e)) (e ∷ es) (n + madeOf (e .change)) [] (left-change e (p .marks)) refl (off-change (v .strokes) e)
+        (ap (λ (s : Session). carriedOf s e .session) (v .is) ∙ carried-history base e es n rs (v .sane) made fits)
+        (carried-sane base e es n rs (v .sane) made fits)
+        (ids-add (record { edit = e; stroke = 0 }) (p .marks) (drew (replay base es) (suc n) (e .tables) (e .change) made) (v .ids))
+        (strokes-change (v .strokes) e)
 
-    -- undo
-    take-back : Inv (record { session = undoCall (p .session) .session; marks = marked (p .marks) (cond (eqb (undoCall (p .session) .answer) 0) strikes keeps) })
-    take-back =
-        let u = undone-one es n (v .sane) in
-        let s : undoCall (p .session) .session ≡ byHistory base (tail es) n = ap (λ (s : Session). undoCall s .session) (v .is) ∙ u .1 in
-        let marks : ℕ → List Mark = λ (a : ℕ). marked (p .marks) (cond (eqb a 0) strikes keeps) in
-        let l : left (marks (undoCall (p .session) .answer)) ≡ tail es = ap (λ (a : ℕ). left (marks a)) undo-answer ∙ undo-left (p .marks) es refl in
-        let k : logsMade (marks (undoCall (p .session) .answer)) ≡ n = ap (λ (a : ℕ). logsMade (marks a)) undo-answer ∙ undo-logs (p .marks) es in
-        let there = marks (undoCall (p .session) .answer) in
-        record {
-          is = s ∙ sym (ap₂ (byHistory base) l k);
-          sane = subst (λ (x : List Edit). Sane base x (logsMade there)) (sym l) (subst (Sane base (tail es)) (sym k) (u .2));
-          ids = undo-ids (p .marks) (undoCall (p .session) .answer) ∙ v .ids ∙ ap countdown (sym k);
-        }
+    -- ---- undo: the newest that is left
+
+    abbrev undid : ℕ → Session → Run
+    undid a t = did p t (cond (eqb a 0) strikes keeps)
+
+    pub record UndoGives (x : List Edit) : Type 0 where
+      pub answer : undoCall (p .session) .answer ≡ undoAnswer x
+      pub after : Inv (undid (undoCall (p .session) .answer) (undoCall (p .session) .session))
+
+    undo-by : (x : List Edit) (t : Session) → undoCall (p .session) .answer ≡ undoAnswer x → undoCall (p .session) .session ≡ t → Inv (undid (undoAnswer x) t) → UndoGives x
+    undo-by x t q r after = record {
+      answer = q;
+      after = subst (λ (a : ℕ). Inv (undid a (undoCall (p .session) .session))) (sym q) (subst (λ (s : Session). Inv (undid (undoAnswer x) s)) (sym r) after);
+    }
+
+    undo-gives : (x : List Edit) → es ≡ x → UndoGives x
+    unfolding undoAnswer notMoved did marked undosAfter sinceAfter
+    undo-gives [] q =
+        let sane = subst (λ (l : List Edit). Sane base l n rs) q (v .sane) in
+        let u = ap undoCall (v .is ∙ ap (λ (l : List Edit). byHistory base l n rs) q) ∙ undo-nothing base n rs sane in
+        undo-by [] (byHistory base [] n rs) (ap (λ (m : Moved). m .answer) u) (ap (λ (m : Moved). m .session) u)
+        (inv-by (undid 6 (byHistory base [] n rs)) [] n rs q refl refl refl sane (v .ids) (v .strokes))
+    undo-gives (e ∷ x) q =
+        let sane = subst (λ (l : List Edit). Sane base l n rs) q (v .sane) in
+        let u = ap undoCall (v .is ∙ ap (λ (l : List Edit). byHistory base l n rs) q) ∙ undo-history base e x n rs sane in
+        let t = byHistory base x n (e ∷ rs) in
+        undo-by (e ∷ x) t (ap (λ (m : Moved). m .answer) u) (ap (λ (m : Moved). m .session) u)
+        (inv-by (undid 0 t) x n (e ∷ rs) (left-undo (v .strokes) q) (logs-strike (suc (p .undos)) (p .marks)) (off-undo (v .strokes) q) refl (undone-sane base e x n rs sane)
+        (ids-strike (suc (p .undos)) (p .marks) ∙ v .ids) (strokes-undo (v .strokes) q))
+
+    pub undo-answer : undoCall (p .session) .answer ≡ undoAnswer es
+    undo-answer = undo-gives es refl .answer
+
+    -- ---- redo: the one last struck
+
+    abbrev redid : ℕ → Session → Run
+    redid a t = did p t (cond (eqb a 0) unstrikes keeps)
+
+    pub record RedoGives (x : List Edit) : Type 0 where
+      pub answer : redoCall (p .session) .answer ≡ answerOf x
+      pub after : Inv (redid (redoCall (p .session) .answer) (redoCall (p .session) .session))
+
+    redo-by : (x : List Edit) (t : Session) → redoCall (p .session) .answer ≡ answerOf x → redoCall (p .session) .session ≡ t → Inv (redid (answerOf x) t) → RedoGives x
+    redo-by x t q r after = record {
+      answer = q;
+      after = subst (λ (a : ℕ). Inv (redid a (redoCall (p .session) .session))) (sym q) (subst (λ (s : Session). Inv (redid (answerOf x) s)) (sym r) after);
+    }
+
+    redo-gives : (x : List Edit) → rs ≡ x → RedoGives x
+    unfolding notMoved did marked undosAfter sinceAfter
+    redo-gives [] q =
+        let sane = subst (Sane base es n) q (v .sane) in
+        let u = ap redoCall (v .is ∙ ap (byHistory base es n) q) ∙ redo-nothing base es n sane in
+        redo-by [] (byHistory base es n []) (ap (λ (m : Moved). m .answer) u) (ap (λ (m : Moved). m .session) u)
+        (inv-by (redid 8 (byHistory base es n [])) es n [] refl refl q refl sane (v .ids) (v .strokes))
+    redo-gives (e ∷ x) q =
+        let sane = subst (Sane base es n) q (v .sane) in
+        let u = ap redoCall (v .is ∙ ap (byHistory base es n) q) ∙ redo-history base e es n x sane in
+        let t = byHistory base (e ∷ es) n x in
+        redo-by (e ∷ x) t (ap (λ (m : Moved). m .answer) u) (ap (λ (m : Moved). m .session) u)
+        (inv-by (redid 0 t) (e ∷ es) n x (left-redo (v .strokes) q) (logs-unstrike (latest (p .marks)) (p .marks)) (off-redo (v .strokes) q) refl (redone-sane base e es n x sane)
+        (ids-unstrike (latest (p .marks)) (p .marks) ∙ v .ids) (strokes-redo (v .strokes) q))
+
+    pub redo-answer-is : redoCall (p .session) .answer ≡ answerOf rs
+    redo-answer-is = redo-gives rs refl .answer
+
+    -- ---- any call
 
     pub next-inv : (c : Call) → OfBytes c → Inv (next-run p c)
     unfolding next-run said deed
     next-inv (occ sender c d) b = follow _ _ _ (occ-follows (p .session) formed ok typed sender c d b)
     next-inv (sbe r d) b = follow _ _ _ (sbe-follows (p .session) formed ok typed r d b)
-    next-inv undo b = take-back
+    next-inv undo b = undo-gives es refl .after
+    next-inv redo b = redo-gives rs refl .after
 
     -- answers 1 and 7 never come
     never : (c : Call) → OfBytes c → (said (p .session) c .answer ≡ 1 → ⊥) × (said (p .session) c .answer ≡ 7 → ⊥)
@@ -265,9 +298,10 @@ module _ (base : Record) where
     never (occ sender c d) b = follows-fair (p .session) formed ok typed _ _ _ (occ-follows (p .session) formed ok typed sender c d b)
     never (sbe r d) b = follows-fair (p .session) formed ok typed _ _ _ (sbe-follows (p .session) formed ok typed r d b)
     never undo b = subst Fair (sym undo-answer) (undo-fair es)
+    never redo b = subst Fair (sym redo-answer-is) (redo-fair rs)
 
     demand : Demand3 base p
-    demand = record { record-is = held-is; worked-is = worked-is; next-is = next-is; undo-is = undo-answer; never = never }
+    demand = record { record-is = held-is; worked-is = worked-is; next-is = next-is; undo-is = undo-answer; redo-is = redo-answer-is ∙ sym (redo-answer (v .strokes)); never = never }
 
   -- ---- any calls
 

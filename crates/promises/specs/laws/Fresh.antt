@@ -11,9 +11,14 @@ use Rattle.formed.specs.Formed.{recordOk}
 use Rattle.session.specs.Session.{freshSession}
 use Rattle.links.specs.laws.Typed.{typed-fresh}
 use Rattle.promises.specs.laws.ComputedSession.{computedSession}
-use Rattle.promises.specs.History.{left, logsMade, replay, start}
+use Rattle.promises.specs.Marks.{left, logsMade}
+use Rattle.promises.specs.History.{replay, start}
 use Rattle.promises.specs.Ids.{idsMade, countdown}
-use Rattle.promises.specs.laws.ByHistory.{padded, journalOf, byHistory, Sane}
+use Rattle.promises.specs.laws.Stores.{padded, flat}
+use Rattle.promises.specs.laws.ByHistory.{standing, backs, byHistory, Sane}
+use Rattle.promises.specs.laws.Struck.{off}
+use Rattle.promises.specs.laws.Marks.{strokes-start}
+use Rattle.journal.specs.Ways.{byWay}
 use Rattle.promises.specs.laws.Demand3.{Inv}
 use Rattle.promises.specs.laws.Shifted.{no-log}
 use Rattle.promises.specs.Shifted.{shiftedRecord}
@@ -22,13 +27,13 @@ fresh-ok : recordOk freshRecord 1 ≡ true
 unfolding computedSession
 fresh-ok = refl
 
-fresh-sane : Sane freshRecord [] 0
-unfolding journalOf replay
-fresh-sane = record { small = omega arith; fits = omega arith; ok = fresh-ok; typed = typed-fresh; kept = tt }
+fresh-sane : Sane freshRecord [] 0 []
+unfolding backs flat replay
+fresh-sane = record { small = omega arith; fits = omega arith; ok = fresh-ok; typed = typed-fresh; kept = tt; ahead = tt }
 
 pub fresh-start : Inv freshRecord (start freshSession)
-unfolding computedSession start left logsMade idsMade countdown byHistory padded journalOf replay
-fresh-start = record { is = refl; sane = fresh-sane; ids = refl }
+unfolding computedSession start left logsMade off idsMade countdown byHistory standing byWay padded backs flat replay
+fresh-start = record { is = refl; sane = fresh-sane; ids = refl; strokes = strokes-start }
 
 -- a fresh record has no log, so no id in it differs
 pub fresh-still : (k : ℕ) → 1 ≤ k → shiftedRecord k freshRecord ≡ freshRecord

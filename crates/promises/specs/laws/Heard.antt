@@ -32,7 +32,7 @@ use Rattle.sbe_call.specs.Sbe as sbes
 use Rattle.undo_call.specs.Undo.{undoCall}
 use Rattle.links.specs.laws.Links.{kind-of-back}
 use Rattle.promises.specs.Calls.{Call, occ, sbe, undo, said}
-use Rattle.promises.specs.History.{Deed, keeps, adds, strikes, adding, occVerdict, occJudgement, sbeVerdict, deed, OfBytes}
+use Rattle.promises.specs.History.{Deed, keeps, adds, strikes, unstrikes, adding, occVerdict, occJudgement, sbeVerdict, deed, OfBytes}
 use Rattle.promises.specs.laws.Demand3.{by-both, held-is, next-is, worked-is}
 use Rattle.promises.specs.laws.Shifted.{shiftedChange, shiftedEdit, choose}
 use Rattle.promises.specs.Shifted.{shiftedRecord}
@@ -44,6 +44,7 @@ unfoldable pub shiftedDeed : ℕ → Deed → Deed
 shiftedDeed k keeps = keeps
 shiftedDeed k (adds e) = adds (shiftedEdit k e)
 shiftedDeed k strikes = strikes
+shiftedDeed k unstrikes = unstrikes
 
 -- ---- answer 5 looks at the journal's room and at the change's kind
 

@@ -8,7 +8,7 @@ use native.Mathlib.Nat.{add-zero}
 use native.Mathlib.Numerals.{add-one}
 use native.Mathlib.Omega.{arith}
 use lib.Dec.{eqb}
-use Rattle.wire.specs.laws.Cases.{if-eq, else-eq, cond-elim}
+use Rattle.wire.specs.laws.Cases.{if-eq, else-eq}
 use Rattle.record.specs.Record.{noLog}
 use Rattle.record.specs.declared.Log.{Log}
 use Rattle.record.specs.declared.Record.{Record}
@@ -18,7 +18,7 @@ use Rattle.change.specs.declared.Change.the-variants.{Clear, Unclear, SetState,
 use Rattle.change.specs.declared.Tables.{Tables}
 use Rattle.session.specs.Session.{madeOf}
 use Rattle.links.specs.laws.Made.{NewLog, Made}
-use Rattle.promises.specs.History.{Mark, strike, logsMade}
+use Rattle.promises.specs.Marks.{Mark, logsMade}
 use Rattle.promises.specs.Ids.{idOf, idsMade, countdown}
 
 -- a change that is made makes no log, or one with the next id
@@ -58,11 +58,3 @@ ids-add m ms w e =
     (λ h. sym (else-eq (idsMade ms) _ {m = idOf (m .edit .change)} {n = 0} (λ z. omega (arith, h .0, z)) refl) ∙ ap₂ (λ (x : ℕ) (l : List ℕ). x ∷ l) (h .0) e
     ∙ ap countdown (sym (ap (λ (k : ℕ). logsMade ms + k) (h .1) ∙ add-one (logsMade ms))))
     w
-
--- striking out changes no id
-pub ids-strike : (ms : List Mark) → idsMade (strike ms) ≡ idsMade ms
-unfolding idsMade strike
-ids-strike [] = refl
-ids-strike (m ∷ ms) =
-    cond-elim (λ (l : List Mark). idsMade l ≡ idsMade (m ∷ ms)) (m .struck)
-    (ap (λ (l : List ℕ). cond (eqb (idOf (m .edit .change)) 0) l (idOf (m .edit .change) ∷ l)) (ids-strike ms)) refl

@@ -15,15 +15,20 @@ use Rattle.session.specs.Session.{freshSession, withHeld}
 use Rattle.session.specs.declared.Session.{Session}
 use Rattle.occ_call.specs.Occ as occs
 use Rattle.sbe_call.specs.Sbe as sbes
-use Rattle.undo_call.specs.Undo.{undoCall, undoLeft, undoOn}
+use Rattle.journal.specs.declared.Way.{Way}
+use Rattle.journal.specs.declared.Way.the-variants.{Before, After}
+use Rattle.journal.specs.Ways.{byWay}
+use Rattle.undo_call.specs.Undo.{moveCall, movedLeft, moveOn}
 use Rattle.image.specs.Image.{imageLength, imageOf, sessionOf}
 use Rattle.image.specs.laws.Image.{Typed, session-image, length-image}
 use Rattle.inplace.specs.InPlace.{Left}
 use Rattle.bjargolsk.specs.Calls.{packed, freshOn}
-use Rattle.promises.specs.Calls.{Call, occ, sbe, undo, Said, said}
-use Rattle.promises.specs.History.{left, logsMade, replay, Run, next-run, run, AllOfBytes}
-use Rattle.promises.specs.laws.ByHistory.{length-padded, journalOf, byHistory, Sane}
-use Rattle.promises.specs.laws.Demand3.{Inv, next-inv}
+use Rattle.promises.specs.Calls.{Call, occ, sbe, undo, redo, Said, said}
+use Rattle.promises.specs.Marks.{left, logsMade}
+use Rattle.promises.specs.History.{replay, Run, did, next-run, run, AllOfBytes}
+use Rattle.promises.specs.laws.Stores.{length-padded, flat}
+use Rattle.promises.specs.laws.ByHistory.{standing, backs, journalOf, byHistory, Sane}
+use Rattle.promises.specs.laws.Demand3.{ahead, Inv, next-inv}
 use Rattle.promises.specs.Lent.{Lent, lent, beside, carriedOver, lentRun}
 
 -- ---- a call on an image
@@ -53,18 +58,19 @@ module _ (s : Session) (t : Typed s) where
   unfolding sbes.sbeOn
   sbe-on r d = sym (else-ne _ _ long refl) ∙ ap (λ (x : Session). sbes.sbeLeft (sbes.sbeCall x r d)) back
 
-  undo-on : undoOn b ≡ undoLeft (undoCall s)
-  unfolding undoOn
-  undo-on = sym (else-ne _ _ long refl) ∙ ap (λ (x : Session). undoLeft (undoCall x)) back
+  move-on : (w : Way) → moveOn w b ≡ movedLeft (moveCall w s)
+  unfolding moveOn
+  move-on w = sym (else-ne _ _ long refl) ∙ ap (λ (x : Session). movedLeft (moveCall w x)) back
 
   abbrev as-lent : Left → Lent
   as-lent q = record { result = packed (q .told); image = q .image; reply = q .reply }
 
   pub lent-said : (c : Call) → lent b c ≡ carriedOver c (said s c)
-  unfolding lent carriedOver beside said occs.occLeft sbes.sbeLeft undoLeft
+  unfolding lent carriedOver beside said occs.occLeft sbes.sbeLeft movedLeft
   lent-said (occ sender c d) = ap as-lent (occ-on sender c d)
   lent-said (sbe r d) = ap as-lent (sbe-on r d)
-  lent-said undo = ap as-lent undo-on
+  lent-said undo = ap as-lent (move-on Before)
+  lent-said redo = ap as-lent (move-on After)
 
 -- ---- every session of a history has what the types say
 
@@ -77,24 +83,31 @@ limit-fits role got user caps f u =
     (cond-elim Small (eqb user 0) (f .max) (cond-elim Small (ltb user (caps .min)) (f .min) (cond-elim Small (ltb (caps .max) user) (f .max) u))))
 
 module _ (base : Record) where
-  history-typed : (es : List Edit) (n : ℕ) → Sane base es n → Typed (byHistory base es n)
-  unfolding byHistory withHeld workedOf
-  history-typed es n g =
+  history-typed : (es : List Edit) (n : ℕ) (rs : List Edit) → Sane base es n rs → Typed (byHistory base es n rs)
+  unfolding byHistory standing byWay withHeld workedOf
+  history-typed es n rs g =
       let r = replay base es in
       record {
-        session = record { held = g .typed; journal = length-padded (journalOf base es) (g .fits); next = omega (arith, g .small); used = omega (arith, g .fits) };
+        session = record {
+          held = g .typed;
+          journal = length-padded (journalOf base es) (omega (arith, g .fits));
+          next = omega (arith, g .small);
+          used = omega (arith, g .fits);
+          redo = length-padded (flat rs) (omega (arith, g .fits));
+          ahead = omega (arith, g .fits);
+        };
         limit = limit-fits (r .role) (r .received .caps) (r .user) (r .caps) (g .typed .caps) (g .typed .user);
       }
 
   run-typed : (p : Run) → Inv base p → Typed (p .session)
-  run-typed p v = subst Typed (sym (v .is)) (history-typed (left (p .marks)) (logsMade (p .marks)) (v .sane))
+  run-typed p v = subst Typed (sym (v .is)) (history-typed (left (p .marks)) (logsMade (p .marks)) (ahead base p) (v .sane))
 
   image-after : (c : Call) (x : Said) → carriedOver c x .image ≡ imageOf (x .session)
   unfolding carriedOver
   image-after c x = refl
 
   pub lent-run : (cs : List Call) (p : Run) → AllOfBytes cs → Inv base p → lentRun (imageOf (p .session)) cs ≡ imageOf (run p cs .session)
-  unfolding lentRun run next-run
+  unfolding lentRun run next-run did
   lent-run [] p b v = refl
   lent-run (c ∷ cs) p b v =
       let step = ap (λ (x : Lent). x .image) (lent-said (p .session) (run-typed p v) c) ∙ image-after c (said (p .session) c) in

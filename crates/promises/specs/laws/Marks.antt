@@ -9,8 +9,8 @@ use lib.Dec.{eqb, ltb}
 use Rattle.wire.specs.laws.Cases.{cond-elim, cond-cases}
 use Rattle.change.specs.declared.Edit.{Edit}
 use Rattle.session.specs.Session.{madeOf}
-use Rattle.promises.specs.Ids.{idOf}
-use Rattle.promises.specs.Marks.{Mark, strike, latest, unstrike, left, logsMade, idsMade, redoAnswer}
+use Rattle.promises.specs.Ids.{idOf, idsMade}
+use Rattle.promises.specs.Marks.{Mark, strike, latest, unstrike, left, logsMade, redoAnswer}
 use Rattle.promises.specs.laws.Struck.{off, off-old, Every, every-map, every-strike, every-unstrike, below-latest, left-live, left-struck, Lined, lined-front, Struck, undone, redone}
 
 -- the answer to a redo, by what can be redone

@@ -5,8 +5,8 @@ use mathlib.Core.Logic.{⊎-elim}
 use mathlib.Core.Path.{_≡_, refl, sym, ap, ap₂, subst, _∙_}
 use mathlib.Core.List.{List, [], _∷_, map}
 use lib.Dec.{ltb, eqb}
-use lib.ListN.{length, getD}
-use native.Mathlib.Nat.{suc-add, add-zero}
+use lib.ListN.{length, getD, replicate}
+use native.Mathlib.Nat.{suc-add, zero-add, add-zero}
 use native.Mathlib.Numerals.{add-one}
 use native.Mathlib.Omega.{arith}
 use borrow.Author.Tests.{eqb-true}
@@ -23,19 +23,30 @@ use Rattle.formed.specs.Formed.{unused, logsOk, recordOk}
 use Rattle.formed.specs.laws.Formed.{both-hold, sound, Above, rest, more, above}
 use Rattle.session.specs.Session.{withHeld, madeOf}
 use Rattle.session.specs.declared.Session.{Session}
-use Rattle.undo_call.specs.Undo.{undoCall}
+use Rattle.journal.specs.Add.{entryLen}
+use Rattle.journal.specs.Bytes.{entryBytes}
+use Rattle.journal.specs.Ways.{byWay}
+use Rattle.wire.specs.Wire.{pasted}
+use Rattle.undo_call.specs.Undo.{Moved, undoCall, redoCall}
 use Rattle.links.specs.laws.Logs.{unused-parts, passed}
 use Rattle.links.specs.laws.Made.{Made}
-use Rattle.promises.specs.Calls.{Call, undo, said}
-use Rattle.promises.specs.History.{keeps, adds, strikes, deed, Mark, marked, left, logsMade, replay, Run, next-run, OfBytes}
+use Rattle.promises.specs.Calls.{Call, undo, redo, said}
+use Rattle.promises.specs.Marks.{Mark, left, logsMade, undoAnswer}
+use Rattle.promises.specs.History.{keeps, adds, strikes, deed, marked, undosAfter, sinceAfter, replay, Run, did, next-run, OfBytes}
 use Rattle.promises.specs.laws.Ids.{one-made}
-use Rattle.promises.specs.laws.ByHistory.{padded, journalOf, byHistory, Kept}
-use Rattle.promises.specs.laws.Demand3.{Inv, tail, undone-one, next-inv, undo-answer, undo-left, undo-logs}
+use Rattle.promises.specs.laws.Stores.{padded, paste-padded, flat, AllStored, flat-length}
+use Rattle.promises.specs.laws.ByHistory.{standing, backs, byHistory, Kept, Sane, ahead-stored}
+use Rattle.promises.specs.laws.Marks.{off-change, left-change, strokes-change}
+use Rattle.promises.specs.laws.Steps.{undo-history, redo-history, undone-sane}
+use Rattle.promises.specs.laws.Demand3.{ahead, Inv, next-inv, undo-answer}
+use Rattle.promises.specs.laws.Aside.{Aside, as-before, leftAfter, madeAfter, left-after, made-after, not-redo}
+use Rattle.promises.specs.laws.Struck.{off}
+use Rattle.journal.specs.declared.Way.the-variants.{After}
 use Rattle.promises.specs.laws.Shifted.{shiftedChange, shiftedEdit, shifted-low}
 use Rattle.promises.specs.Shifted.{shiftedLog, shiftedRecord}
 use Rattle.promises.specs.Later.{Wish, AsIf}
 use Rattle.promises.specs.laws.AsIf.{Beside, as-if}
-use Rattle.promises.specs.NoTrace.{withNext}
+use Rattle.promises.specs.NoTrace.{leaves, AllButRedo, AsBefore}
 
 -- ---- the ids of the changes that are left are below the next id
 
@@ -91,45 +102,98 @@ module _ (base : Record) (p : Run) (v : Inv base p) (c : Call) (b : OfBytes c) (
   abbrev q : Run
   q = next-run p c
 
-  marks-are : q .marks ≡ record { edit = e; struck = false } ∷ p .marks
-  unfolding next-run marked
-  marks-are = ap (marked (p .marks)) made
+  abbrev es : List Edit
+  es = left (p .marks)
 
-  left-is : tail (left (q .marks)) ≡ left (p .marks)
-  unfolding left
-  left-is = ap (λ (ms : List Mark). tail (left ms)) marks-are
+  abbrev m : ℕ
+  m = logsMade (p .marks) + madeOf (e .change)
 
-  logs-are : logsMade (q .marks) ≡ logsMade (p .marks) + madeOf (e .change)
+  w : Inv base q
+  w = next-inv base p v c b
+
+  marks-are : q .marks ≡ record { edit = e; stroke = 0 } ∷ p .marks
+  unfolding next-run did marked
+  marks-are = ap (marked (p .undos) (p .marks)) made
+
+  left-are : left (q .marks) ≡ e ∷ es
+  left-are = ap left marks-are ∙ left-change e (p .marks)
+
+  logs-are : logsMade (q .marks) ≡ m
   unfolding logsMade
   logs-are = ap logsMade marks-are
 
-  back-is : undoCall (q .session) .session ≡ byHistory base (left (p .marks)) (logsMade (p .marks) + madeOf (e .change))
-  back-is =
-      let w = next-inv base p v c b in
-      ap (λ (s : Session). undoCall s .session) (w .is)
-      ∙ undone-one base (left (q .marks)) (logsMade (q .marks)) (w .sane) .1
-      ∙ ap₂ (byHistory base) left-is logs-are
+  -- nothing can be redone after a change
+  none-ahead : ahead base q ≡ []
+  unfolding next-run did sinceAfter
+  none-ahead = ap₂ (λ (n : ℕ) (ms : List Mark). off n ms []) (ap (sinceAfter (p .undos) (p .since)) made) marks-are ∙ off-change (v .strokes) e
 
-  moved : withNext (byHistory base (left (p .marks)) (logsMade (p .marks))) (suc (logsMade (p .marks)) + madeOf (e .change))
-      ≡ byHistory base (left (p .marks)) (logsMade (p .marks) + madeOf (e .change))
-  unfolding withNext byHistory withHeld
-  moved = λ i. withHeld (replay base (left (p .marks))) (suc-add (logsMade (p .marks)) (madeOf (e .change)) i) (padded (journalOf base (left (p .marks)))) (length (journalOf base (left (p .marks))))
+  q-is : q .session ≡ byHistory base (e ∷ es) m []
+  q-is = w .is ∙ (λ i. byHistory base (left-are i) (logs-are i) (none-ahead i))
+
+  q-sane : Sane base (e ∷ es) m []
+  q-sane = subst (Sane base (e ∷ es) m) none-ahead (subst (λ (n : ℕ). Sane base (e ∷ es) n (ahead base q)) logs-are (subst (λ (l : List Edit). Sane base l (logsMade (q .marks)) (ahead base q)) left-are (w .sane)))
+
+  back-is : undoCall (q .session) .session ≡ byHistory base es m (e ∷ [])
+  back-is = ap (λ (s : Session). undoCall s .session) q-is ∙ ap (λ (u : Moved). u .session) (undo-history base e es m [] q-sane)
+
+  -- the redo store holds that change alone
+  one-ahead : padded (flat (e ∷ [])) ≡ pasted 0 (entryBytes e) (replicate 2048 0)
+  unfolding flat padded
+  one-ahead = sym (paste-padded [] (entryBytes e) (omega (arith, undone-sane base e es m [] q-sane .fits)))
+
+  one-long : length (flat (e ∷ [])) ≡ entryLen e
+  unfolding flat
+  one-long = flat-length After e [] (ahead-stored base (suc m) es (e ∷ []) (undone-sane base e es m [] q-sane .ahead)) ∙ zero-add (entryLen e)
+
+  moved : leaves (byHistory base es (logsMade (p .marks)) (ahead base p)) e ≡ byHistory base es m (e ∷ [])
+  unfolding leaves byHistory standing byWay withHeld
+  moved = λ i.
+      withHeld (replay base es) (suc-add (logsMade (p .marks)) (madeOf (e .change)) i) (padded (flat (backs base es))) (length (flat (backs base es)))
+      (sym one-ahead i) (sym one-long i)
 
   next-was : p .session .next ≡ suc (logsMade (p .marks))
-  unfolding byHistory withHeld
+  unfolding byHistory standing withHeld
   next-was = ap (λ (s : Session). s .next) (v .is)
 
-  pub trace-free : said (q .session) undo .session ≡ withNext (p .session) (p .session .next + madeOf (e .change))
+  pub trace-free : said (q .session) undo .session ≡ leaves (p .session) e
   unfolding said
-  trace-free =
-      back-is
-      ∙ sym moved
-      ∙ ap₂ (λ (s : Session) (k : ℕ). withNext s (k + madeOf (e .change))) (sym (v .is)) (sym next-was)
+  trace-free = back-is ∙ sym moved ∙ ap (λ (s : Session). leaves s e) (sym (v .is))
 
-  -- a change that made no log leaves no trace at all: every later call comes to the same
-  pub no-log-no-trace : madeOf (e .change) ≡ 0 → said (q .session) undo .session ≡ p .session
-  unfolding withNext
-  no-log-no-trace z = trace-free ∙ ap (withNext (p .session)) (ap (λ (k : ℕ). p .session .next + k) z ∙ add-zero (p .session .next))
+  -- a redo then brings the change back: the session is the one after it, all of it
+  pub redo-brings-back : said (said (q .session) undo .session) redo .session ≡ q .session
+  unfolding said
+  redo-brings-back =
+      ap (λ (s : Session). redoCall s .session) back-is
+      ∙ ap (λ (u : Moved). u .session) (redo-history base e es m [] (undone-sane base e es m [] q-sane))
+      ∙ sym q-is
+
+  -- ---- later
+
+  abbrev after : Run
+  after = next-run q undo
+
+  undo-done : deed (q .session) undo ≡ strikes
+  unfolding deed undoAnswer
+  undo-done = ap (λ (a : ℕ). cond (eqb a 0) strikes keeps) (undo-answer base q w ∙ ap undoAnswer left-are)
+
+  left-after-is : left (after .marks) ≡ es
+  unfolding next-run did leftAfter
+  left-after-is = left-after (q .undos) (q .marks) (deed (q .session) undo) (not-redo (q .session) undo tt) ∙ ap₂ leftAfter left-are undo-done
+
+  logs-after : logsMade (after .marks) ≡ m
+  unfolding next-run did madeAfter
+  logs-after = made-after (q .undos) (q .marks) (deed (q .session) undo) (not-redo (q .session) undo tt) ∙ ap₂ madeAfter logs-are undo-done
+
+  -- a change that made no log: every later reply is as if nobody had tried, as long as nobody redoes
+  pub later-as-before : madeOf (e .change) ≡ 0 → (cs : List Call) → AllButRedo cs → AsBefore (p .session) (said (q .session) undo .session) cs
+  unfolding next-run did
+  later-as-before z cs h =
+      as-before base cs h p after (record {
+        inv = v;
+        inv′ = next-inv base q w undo tt;
+        left-is = left-after-is;
+        made-is = logs-after ∙ ap (λ (k : ℕ). logsMade (p .marks) + k) z ∙ add-zero (logsMade (p .marks));
+      })
 
   -- a change that made a log: from then on both worlds, the one where nobody tried and this one, are alike but for ids
 
@@ -139,36 +203,41 @@ module _ (base : Record) (p : Run) (v : Inv base p) (c : Call) (b : OfBytes c) (
   k-low : 1 ≤ k
   k-low = omega arith
 
-  abbrev after : Run
-  after = next-run q undo
-
-  left-after : left (after .marks) ≡ map (shiftedEdit k) (left (p .marks))
-  unfolding next-run deed
-  left-after =
-      let w = next-inv base p v c b in
-      ap (λ (a : ℕ). left (marked (q .marks) (cond (eqb a 0) strikes keeps))) (undo-answer base q w)
-      ∙ undo-left (q .marks) (left (q .marks)) refl
-      ∙ left-is
-      ∙ sym (edits-stay base k (left (p .marks)) (omega arith) (v .sane .kept))
-
-  logs-after : madeOf (e .change) ≡ 1 → logsMade (after .marks) ≡ suc (logsMade (p .marks))
-  unfolding next-run deed
-  logs-after one =
-      let w = next-inv base p v c b in
-      ap (λ (a : ℕ). logsMade (marked (q .marks) (cond (eqb a 0) strikes keeps))) (undo-answer base q w)
-      ∙ undo-logs (q .marks) (left (q .marks))
-      ∙ logs-are
-      ∙ ap (λ (m : ℕ). logsMade (p .marks) + m) one
-      ∙ add-one (logsMade (p .marks))
-
   beside : (still : shiftedRecord k base ≡ base) → madeOf (e .change) ≡ 1 → Beside base k k-low still p after
   beside still one =
-      let w = next-inv base p v c b in
-      record { inv = v; inv′ = next-inv base q w undo tt; left-is = left-after; made-is = logs-after one; from-k = omega arith }
+      record {
+        inv = v;
+        inv′ = next-inv base q w undo tt;
+        left-is = left-after-is ∙ sym (edits-stay base k es (omega arith) (v .sane .kept));
+        made-is = logs-after ∙ ap (λ (n : ℕ). logsMade (p .marks) + n) one ∙ add-one (logsMade (p .marks));
+        from-k = omega arith;
+      }
 
   pub later-alike : (still : shiftedRecord (p .session .next) base ≡ base) → madeOf (e .change) ≡ 1 → (ws : List (Wish (p .session .next)))
       → AsIf (p .session .next) (p .session) (said (q .session) undo .session) ws
-  unfolding next-run
+  unfolding next-run did
   later-alike =
       subst (λ (i : ℕ). shiftedRecord i base ≡ base → madeOf (e .change) ≡ 1 → (ws : List (Wish i)) → AsIf i (p .session) (after .session) ws) (sym next-was)
       (λ still one ws. as-if base k k-low still ws p after (beside still one))
+
+-- ---- redo after undo gives back the session from before the undo
+
+module _ (base : Record) (p : Run) (v : Inv base p) (accepted : undoCall (p .session) .answer ≡ 0) where
+  some-left : left (p .marks) ≡ [] → ⊥
+  unfolding undoAnswer
+  some-left e = omega (arith, accepted, undo-answer base p v ∙ ap undoAnswer e)
+
+  pub redo-undone : redoCall (undoCall (p .session) .session) .session ≡ p .session
+  redo-undone = go (left (p .marks)) refl
+    where
+      go : (x : List Edit) → left (p .marks) ≡ x → redoCall (undoCall (p .session) .session) .session ≡ p .session
+      go [] e = absurd (some-left e)
+      go (x ∷ xs) e =
+          let n = logsMade (p .marks) in
+          let rs = ahead base p in
+          let is : p .session ≡ byHistory base (x ∷ xs) n rs = v .is ∙ ap (λ (l : List Edit). byHistory base l n rs) e in
+          let sane = subst (λ (l : List Edit). Sane base l n rs) e (v .sane) in
+          ap (λ (s : Session). redoCall (undoCall s .session) .session) is
+          ∙ ap (λ (u : Moved). redoCall (u .session) .session) (undo-history base x xs n rs sane)
+          ∙ ap (λ (u : Moved). u .session) (redo-history base x xs n rs (undone-sane base x xs n rs sane))
+          ∙ sym is

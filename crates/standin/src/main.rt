@@ -4,6 +4,7 @@ ghost use lib.ListN.{length};
 ghost use mathlib.Core.Path.{_≡_};
 ghost use Rattle.io.specs.Counts.{Counts};
 ghost use Rattle.image.specs.Image.{imageLength};
+use inplace::Told;
 use libc::STDIN_FILENO;
 use libc::STDOUT_FILENO;
 use orders::Buffer;
@@ -70,10 +71,17 @@ fn kind_of(beside: u16) -> u8 {
     (beside % 256) as u8
 }
 
-fn undo(lent: &mut [u8], out: &mut [u8]) {
-    let told = undo_call::undo(lent);
-    let n = answers::undone(out, told.answer, kind_of(told.beside));
+fn tell_kind(told: Told, out: &mut [u8]) {
+    let n = answers::with_kind(out, told.answer, kind_of(told.beside));
     tell(out, n);
+}
+
+fn undo(lent: &mut [u8], out: &mut [u8]) {
+    tell_kind(undo_call::undo(lent), out);
+}
+
+fn redo(lent: &mut [u8], out: &mut [u8]) {
+    tell_kind(undo_call::redo(lent), out);
 }
 
 fn tell_ok(out: &mut [u8]) {
@@ -111,6 +119,7 @@ fn carry_out(
         Call::Send => send(lent, &mut sent[..count + 6], sequence, reply, out),
         Call::Load => load(lent, sent, out),
         Call::Undo => undo(lent, out),
+        Call::Redo => redo(lent, out),
         Call::Fresh => fresh(lent, out),
     }
 }
@@ -168,7 +177,16 @@ fn put_show(lent: &[u8], out: &mut [u8]) -> usize
     let h = image::read_head(lent);
     let held = h.held;
     let worked = h.worked;
-    show::put_session(out, held, worked, h.next, &lent[239..2287], h.used as usize)
+    show::put_session(
+        out,
+        held,
+        worked,
+        h.next,
+        &lent[239..2287],
+        h.used as usize,
+        &lent[2289..4337],
+        h.ahead as usize,
+    )
 }
 
 fn put_journal(lent: &[u8], out: &mut [u8]) -> usize

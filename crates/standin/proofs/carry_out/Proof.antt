@@ -69,6 +69,12 @@ undo-requires c κs = search needs
 enum-told-6 : tie.Need-enum-told-6
 enum-told-6 c = search needs
 
+redo-requires : tie.Need-redo-requires
+redo-requires c κs = search needs
+
+enum-told-7 : tie.Need-enum-told-7
+enum-told-7 c = search needs
+
 fresh-requires : tie.Need-fresh-requires
 fresh-requires c κs = search needs
 
@@ -147,6 +153,15 @@ same-length-19 c = search needs
 returns-6 : tie.Need-returns-6
 returns-6 c = search needs
 
+same-length-20 : tie.Need-same-length-20
+same-length-20 c = search needs
+
+same-length-21 : tie.Need-same-length-21
+same-length-21 c = search needs
+
+returns-7 : tie.Need-returns-7
+returns-7 c = search needs
+
 pub carry-out-spec : {M : Type 1} → statement M
 carry-out-spec =
     tie.close
@@ -172,6 +187,8 @@ carry-out-spec =
     enum-told-5
     undo-requires
     enum-told-6
+    redo-requires
+    enum-told-7
     fresh-requires
     same-length
     same-length-2
@@ -197,4 +214,7 @@ carry-out-spec =
     returns-5
     same-length-18
     same-length-19
-    returns-6)
+    returns-6
+    same-length-20
+    same-length-21
+    returns-7)

@@ -1,15 +1,16 @@
 use mathlib.Core.Path.{sym}
 use native.Mathlib.Omega.{arith}
 use lib.Seq.{length-take-le}
+use Rattle.image.specs.Image.{imageLength}
 use borrow.Author.Needs.{needs}
 use Rattle.standin.proofs.load.Statement.{statement}
 use Rattle.standin.proofs.load.Tie as tie
 
 slice-aggregate-copy : tie.Need-slice-aggregate-copy
-slice-aggregate-copy c = sym (length-take-le 2287 (c .before .before .before .before .before .args .sent .now) (omega (arith, c .before .before .before .before .before .pre .1)))
+slice-aggregate-copy c = sym (length-take-le imageLength (c .before .before .before .before .before .args .sent .now) (omega (arith, c .before .before .before .before .before .pre .1)))
 
 copy-requires : tie.Need-copy-requires
-copy-requires c κs = omega (arith, c .before .before .before .before .before .pre .0, length-take-le 2287 (c .before .before .before .before .before .args .sent .now) (omega (arith, c .before .before .before .before .before .pre .1)))
+copy-requires c κs = omega (arith, c .before .before .before .before .before .pre .0, length-take-le imageLength (c .before .before .before .before .before .args .sent .now) (omega (arith, c .before .before .before .before .before .pre .1)))
 
 tell-ok-requires : tie.Need-tell-ok-requires
 tell-ok-requires c κs = search needs

@@ -74,7 +74,6 @@ module _ (top : ℕ) (d : List ℕ) (long : top ≤ length d) where
   row-on at m rs r x y h e p q = rows-on at m rs (r ∷ []) x y h e p (q ∙ ap (λ (l : List ℕ). pasted m l x) (sym (append-nil r)))
 
 module _ (d : List ℕ) (long : 239 ≤ length d) where
-
   pub head-put : (state role : ℕ) (caps : Caps) (w x y z : List ℕ) → w ≡ pasted 0 (state ∷ role ∷ []) d → x ≡ pasted 2 (toBE 2 (caps .min)) w
       → y ≡ pasted 4 (toBE 2 (caps .max)) x → z ≡ pasted 6 (toBE 2 (caps .over)) y → z ≡ pasted 0 (joined (headRows state role caps)) d
   unfolding joined headRows toBE

@@ -23,8 +23,7 @@ pub both-put : (d j r x y : List ℕ) → x ≡ pasted 239 j d → y ≡ pasted 
 both-put d j r x y p q long wj wr =
     let one : x ≡ withStore 239 j d = p ∙ store-pasted d j long wj 239 (omega arith) in
     let same : length x ≡ imageLength = ap length one ∙ store-long d j long wj 239 (omega arith) in
-    let two : y ≡ withStore 2289 r x = q ∙ store-pasted x r same wr 2289 (omega arith) in
-    (
+    let two : y ≡ withStore 2289 r x = q ∙ store-pasted x r same wr 2289 (omega arith) in (
       ap journalIn two ∙ store-below x r same wr 2289 (omega arith) 239 (omega arith) ∙ ap journalIn one ∙ store-back d j long wj 239 (omega arith),
       ap redoIn two ∙ store-back x r same wr 2289 (omega arith),
     )

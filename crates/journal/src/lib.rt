@@ -234,10 +234,7 @@ fn reset_as(way: Way, a: u8, b: u8) -> Change
 {
     match way {
         Way::Before => Change::Unreset(a, b),
-        Way::After => Change::Reset(Log {
-            id: a,
-            reason: b,
-        }),
+        Way::After => Change::Reset(Log { id: a, reason: b }),
     }
 }
 
@@ -337,10 +334,7 @@ fn reset_ok(way: Way, a: u8, b: u8) -> bool
 {
     match way {
         Way::Before => formed::unreset_ok(a, b),
-        Way::After => formed::made_ok(Log {
-            id: a,
-            reason: b,
-        }),
+        Way::After => formed::made_ok(Log { id: a, reason: b }),
     }
 }
 

@@ -142,12 +142,11 @@ entry-moved w b c d at from to back v long is p q n =
     let wide = length-cut at from (storeIn w b) ∙ length-store b long (storeAt w) (store-low w) in
     let grown = pasted to (entryBytes back) (storeIn (other w) c) in
     let wide′ = ap (λ (u : Way). length (pasted to (entryBytes back) (storeIn u c))) (sym is) ∙ n in
-    let q′ = q ∙ ap (λ (u : Way). withStore (storeAt u) (pasted to (entryBytes back) (storeIn u c)) c) is in
-    (
+    let q′ = q ∙ ap (λ (u : Way). withStore (storeAt u) (pasted to (entryBytes back) (storeIn u c)) c) is in (
       first-left w b (cutFrom at from (storeIn w b)) grown c d long wide wide′ p q′,
       (
         second-left w b (cutFrom at from (storeIn w b)) grown c d long wide wide′ p q′
-        ∙ ap (pasted to (entryBytes back)) (other-stays w b (cutFrom at from (storeIn w b)) grown c d long wide wide′ p q′),
+            ∙ ap (pasted to (entryBytes back)) (other-stays w b (cutFrom at from (storeIn w b)) grown c d long wide wide′ p q′),
         long-d w b (cutFrom at from (storeIn w b)) grown c d long wide wide′ p q′,
       ),
     )

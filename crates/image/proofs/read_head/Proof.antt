@@ -23,9 +23,9 @@ be16-requires-3 c κs = search needs
 returns : tie.Need-returns
 unfolding headIn
 returns c = (
-    λ i. record { held = (c .before .before .before .before .record-in .ensures) i; worked = (c .before .before .before .worked-in .ensures) i; next = (c .before .before .be16 .ensures) i; used = (c .before .be162 .ensures) i; ahead = (c .be163 .ensures) i },
-    bytes-of (c .before .before .before .before .before .before .args .b .now) (λ i. omega (arith, c .before .before .before .before .before .shared-slice-known .given i)),
-    )
+  λ i. record { held = (c .before .before .before .before .record-in .ensures) i; worked = (c .before .before .before .worked-in .ensures) i; next = (c .before .before .be16 .ensures) i; used = (c .before .be162 .ensures) i; ahead = (c .be163 .ensures) i },
+  bytes-of (c .before .before .before .before .before .before .args .b .now) (λ i. omega (arith, c .before .before .before .before .before .shared-slice-known .given i)),
+)
 
 pub read-head-spec : {M : Type 1} → statement M
 read-head-spec =

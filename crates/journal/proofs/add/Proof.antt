@@ -37,8 +37,8 @@ unfolding endOf addedTo
 returns-3 c = let n = c .before .before .before .before .before .before .entry-len .ensures in
     let fits = c .before .before .before .before .before .if1 .left in
     let room = at-most _ _ _ n (c .before .before .before .before .if2 .left) in (
-    else-lt _ _ fits (else-lt _ _ room (ap (λ (k : ℕ). At (c .before .before .before .before .before .before .before .before .args .used + k)) n)),
-    else-lt _ _ fits (else-lt _ _ room (c .before .before .append .ensures)),
+      else-lt _ _ fits (else-lt _ _ room (ap (λ (k : ℕ). At (c .before .before .before .before .before .before .before .before .args .used + k)) n)),
+      else-lt _ _ fits (else-lt _ _ room (c .before .before .append .ensures)),
     )
 
 pub add-spec : {M : Type 1} → statement M

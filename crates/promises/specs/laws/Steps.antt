@@ -240,8 +240,12 @@ module _ (base : Record) (e : Edit) (es : List Edit) (n : ℕ) (rs : List Edit) 
   unfolding backs
   both-long step olds news =
       let l = step .links in
-      omega (arith, flat-length Before (inverseOf (replay base es) e) (backs base es) (record { writable = l .back-writable; good = l .entry-good; reads = l .entry-reads }, olds),
-      flat-length After e rs (record { writable = l .here-writable; good = l .redo-good; reads = l .redo-reads }, news), same-length step)
+      omega (
+        arith,
+        flat-length Before (inverseOf (replay base es) e) (backs base es) (record { writable = l .back-writable; good = l .entry-good; reads = l .entry-reads }, olds),
+        flat-length After e rs (record { writable = l .here-writable; good = l .redo-good; reads = l .redo-reads }, news),
+        same-length step,
+      )
 
   -- the newest one taken back
   module _ (g : Sane base (e ∷ es) n rs) where

@@ -28,7 +28,7 @@ use Rattle.sbe_call.specs.Sbe.{sbeCall, SbeAllows}
 use Rattle.sbe_call.specs.laws.Came as sbe-came
 use Rattle.undo_call.specs.Undo.{usedOf, moveCall, undoCall, redoCall, UndoAllows, RedoAllows}
 use Rattle.undo_call.specs.laws.Came as undo-came
-use Rattle.promises.specs.Calls.{Call, occ, sbe, said}
+use Rattle.promises.specs.Calls.{Call, occ, sbe, redo, said}
 use Rattle.promises.specs.Demand1.{OccAnswer, SbeAnswer, UndoAnswer, RedoAnswer, OccDue, SbeDue, OccStatus, occError, sbeError}
 use Rattle.promises.specs.Demand2.{atFront, NotPoll, successReply, OccSucceeds, OccAccepted, SbeSucceeds, SbeAccepted, Newest, UndoAccepted, RedoAccepted}
 use Rattle.promises.specs.Effects.{OccEffect, SbeEffect, entryBack, UndoEffect, RedoEffect}
@@ -38,7 +38,8 @@ use Rattle.promises.specs.laws.UndoDemands.{undo-answers, redo-answers, 
 use Rattle.promises.specs.laws.Moves.{move-effect, room-left}
 use Rattle.promises.specs.laws.Answers.{one-exactly}
 use Rattle.promises.specs.laws.Effects.{occ-effect, sbe-effect, occ-deed, sbe-deed, deed-shown}
-use Rattle.promises.specs.History.{adds, deed, logsMade, run, start, OfBytes, AllOfBytes, Demand3}
+use Rattle.promises.specs.Marks.{logsMade}
+use Rattle.promises.specs.History.{adds, deed, did, next-run, run, start, OfBytes, AllOfBytes, Demand3}
 use Rattle.promises.specs.Ids.{idsMade, countdown}
 use Rattle.promises.specs.Outcomes.{OneOutcome}
 use Rattle.promises.specs.laws.Outcomes.{one-value, one-pair, one-triple}
@@ -47,8 +48,8 @@ use Rattle.promises.specs.laws.Demand3.{demand3, ids-in-order, invariant
 use Rattle.links.specs.Typed.{TypedSession}
 use Rattle.promises.specs.laws.WellFormed.{occ-formed, sbe-formed, undo-formed, redo-formed}
 use Rattle.promises.specs.Later.{Wish, AsIf}
-use Rattle.promises.specs.laws.NoTrace.{trace-free, no-log-no-trace, later-alike}
-use Rattle.promises.specs.NoTrace.{withNext, after, tried}
+use Rattle.promises.specs.laws.NoTrace.{trace-free, later-as-before, later-alike, redo-brings-back, redo-undone}
+use Rattle.promises.specs.NoTrace.{leaves, after, tried, AllButRedo, AsBefore}
 use Rattle.image.specs.Image.{imageLength, imageOf}
 use Rattle.bjargolsk.specs.Calls.{freshOn, FreshReturns, OccReturns, SbeReturns, UndoReturns, RedoReturns}
 use Rattle.promises.specs.laws.Lent.{fresh-image, lent-run, lent-next}
@@ -232,23 +233,33 @@ counted-is-shown = deed-shown
 pub undo-over-any-calls : (cs : List Call) → AllOfBytes cs → Demand3 freshRecord (run (start freshSession) cs)
 undo-over-any-calls cs b = demand3 freshRecord cs (start freshSession) b fresh-start
 
--- ---- no trace: a change followed by its undo leaves all but the next id as it was, and that only where a log was made
+-- ---- no trace: a change followed by its undo leaves all as it was, but for the redo store, which holds that change, and the next id, where a log was made
 
-pub no-trace : (cs : List Call) → AllOfBytes cs → (c : Call) → OfBytes c → (e : Edit) → deed (after cs .session) c ≡ adds e
-    → tried cs c ≡ withNext (after cs .session) (after cs .session .next + madeOf (e .change))
+pub no-trace : (cs : List Call) → AllOfBytes cs → (c : Call) → OfBytes c → (e : Edit) → deed (after cs .session) c ≡ adds e → tried cs c ≡ leaves (after cs .session) e
 no-trace cs b c bc e = trace-free freshRecord (after cs) (invariant freshRecord cs (start freshSession) b fresh-start) c bc e
 
--- without a log nothing is left behind: every later call comes to the same
+-- without a log, every later reply is as if nobody had tried, as long as nobody redoes: any calls but redo (NoTrace.antt)
 pub no-trace-without-log : (cs : List Call) → AllOfBytes cs → (c : Call) → OfBytes c → (e : Edit) → deed (after cs .session) c ≡ adds e → madeOf (e .change) ≡ 0
-    → tried cs c ≡ after cs .session
-no-trace-without-log cs b c bc e = no-log-no-trace freshRecord (after cs) (invariant freshRecord cs (start freshSession) b fresh-start) c bc e
+    → (later : List Call) → AllButRedo later → AsBefore (after cs .session) (tried cs c) later
+no-trace-without-log cs b c bc e = later-as-before freshRecord (after cs) (invariant freshRecord cs (start freshSession) b fresh-start) c bc e
 
--- after a log that was taken back, every later reply is as if nobody had tried, but for log ids, as long as ids last (Later.antt)
+-- after a log that was taken back, every later reply is as if nobody had tried, but for log ids, as long as ids last and nobody redoes (Later.antt)
 pub no-trace-later : (cs : List Call) → AllOfBytes cs → (c : Call) → OfBytes c → (e : Edit) → deed (after cs .session) c ≡ adds e → madeOf (e .change) ≡ 1
     → (ws : List (Wish (after cs .session .next))) → AsIf (after cs .session .next) (after cs .session) (tried cs c) ws
 no-trace-later cs b c bc e d =
     let v = invariant freshRecord cs (start freshSession) b fresh-start in
     later-alike freshRecord (after cs) v c bc e d (fresh-still (after cs .session .next) (omega (arith, next-is freshRecord (after cs) v)))
+
+-- what a redo then gives: the change again, and the session that it had made, all of it
+pub redo-brings-the-try-back : (cs : List Call) → AllOfBytes cs → (c : Call) → OfBytes c → (e : Edit) → deed (after cs .session) c ≡ adds e
+    → said (tried cs c) redo .session ≡ said (after cs .session) c .session
+unfolding next-run did
+redo-brings-the-try-back cs b c bc e = redo-brings-back freshRecord (after cs) (invariant freshRecord cs (start freshSession) b fresh-start) c bc e
+
+-- ---- redo after undo gives back the session from before the undo, all of it
+
+pub redo-after-undo : (cs : List Call) → AllOfBytes cs → undoCall (after cs .session) .answer ≡ 0 → redoCall (undoCall (after cs .session) .session) .session ≡ after cs .session
+redo-after-undo cs b = redo-undone freshRecord (after cs) (invariant freshRecord cs (start freshSession) b fresh-start)
 
 -- ---- no id twice: the logs ever made, struck out or not, have the ids 1, 2, 3, .. in the order they were made
 

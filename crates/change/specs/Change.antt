@@ -68,13 +68,14 @@ putOf r e = putWith r (e .tables) (e .change)
 
 -- ---- what was before: the change that takes a change back
 
--- there for redo, with `madeAgain` and the line of `backOf` that cites it: no command takes back what was taken back
+-- the log that pends last
 unfoldable pub lastOf : List Log → Log
 lastOf l = cond (eqb (pendingOf l) 0) noLog (getD l (pendingOf l - 1) noLog)
 
 unfoldable pub madeBy : Log → ℕ
 madeBy log = cond (eqb (log .id) 0) 0 1
 
+-- document 02, d: "what was after; for kind 08 that is the log's id and reason, 0 and 0 without one"
 unfoldable pub madeAgain : List Log → ℕ → Log
 madeAgain l made = cond (eqb made 0) noLog (lastOf l)
 

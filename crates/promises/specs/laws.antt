@@ -1,4 +1,4 @@
-pub mod Entered
+pub mod Stores
 pub mod ByHistory
 pub mod Steps
 pub mod Asked
@@ -22,7 +22,7 @@ pub mod ComputedSbe
 pub mod Outcomes
 pub mod OccWays
 pub mod OccAsks
-pub mod Stores
+pub mod FormedStores
 pub mod Room
 pub mod Replies
 pub mod OccDemands

@@ -23,7 +23,7 @@ use Rattle.promises.specs.Calls.{Call, said}
 use Rattle.promises.specs.Marks.{left, logsMade}
 use Rattle.promises.specs.History.{Deed, keeps, adds, strikes, unstrikes, deed, replay, Run, did, next-run, OfBytes}
 use Rattle.promises.specs.NoTrace.{ButRedo}
-use Rattle.promises.specs.laws.Entered.{length-padded, flat}
+use Rattle.promises.specs.laws.Stores.{length-padded, flat}
 use Rattle.promises.specs.laws.ByHistory.{standing, backs, journalOf, byHistory, Kept, Sane}
 use Rattle.promises.specs.laws.Steps.{undo-history, undo-nothing}
 use Rattle.promises.specs.laws.Marks.{tail}

@@ -20,7 +20,7 @@ use Rattle.links.specs.Typed.{TypedRecord}
 use Rattle.links.specs.laws.Made.{Made}
 use Rattle.links.specs.laws.Links.{Link, next-up}
 use Rattle.promises.specs.History.{replay}
-use Rattle.promises.specs.laws.Entered.{padded, flat, AllStored, flat-formed}
+use Rattle.promises.specs.laws.Stores.{padded, flat, AllStored, flat-formed}
 
 -- a session with these entries in the store that a way takes from, and those in the other one
 unfoldable pub standing : Way → Record → ℕ → List Edit → List Edit → Session

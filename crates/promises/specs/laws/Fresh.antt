@@ -14,7 +14,7 @@ use Rattle.promises.specs.laws.ComputedSession.{computedSession}
 use Rattle.promises.specs.Marks.{left, logsMade}
 use Rattle.promises.specs.History.{replay, start}
 use Rattle.promises.specs.Ids.{idsMade, countdown}
-use Rattle.promises.specs.laws.Entered.{padded, flat}
+use Rattle.promises.specs.laws.Stores.{padded, flat}
 use Rattle.promises.specs.laws.ByHistory.{standing, backs, byHistory, Sane}
 use Rattle.promises.specs.laws.Struck.{off}
 use Rattle.promises.specs.laws.Marks.{strokes-start}

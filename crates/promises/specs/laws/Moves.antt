@@ -34,7 +34,7 @@ use Rattle.links.specs.laws.Links.{kind-of-back, writable-back}
 use Rattle.links.specs.laws.Entry.{entry-ok}
 use Rattle.promises.specs.Demand2.{Newest}
 use Rattle.promises.specs.Effects.{zeroedFrom, movesTo, entryBack, MoveEffect}
-use Rattle.promises.specs.laws.Stores.{all-good, all-parts, more-pasted, cut-zeroed, used-is, one-less, store-of, both-used, long-store}
+use Rattle.promises.specs.laws.FormedStores.{all-good, all-parts, more-pasted, cut-zeroed, used-is, one-less, store-of, both-used, long-store}
 use Rattle.promises.specs.laws.UndoDemands.{Called, ill-formed, empty, kept, moves, called}
 
 -- ---- the session after it, store by store

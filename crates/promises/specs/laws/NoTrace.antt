@@ -34,7 +34,7 @@ use Rattle.promises.specs.Calls.{Call, undo, redo, said}
 use Rattle.promises.specs.Marks.{Mark, left, logsMade, undoAnswer}
 use Rattle.promises.specs.History.{keeps, adds, strikes, deed, marked, undosAfter, sinceAfter, replay, Run, did, next-run, OfBytes}
 use Rattle.promises.specs.laws.Ids.{one-made}
-use Rattle.promises.specs.laws.Entered.{padded, paste-padded, flat, AllStored, flat-length}
+use Rattle.promises.specs.laws.Stores.{padded, paste-padded, flat, AllStored, flat-length}
 use Rattle.promises.specs.laws.ByHistory.{standing, backs, byHistory, Kept, Sane, ahead-stored}
 use Rattle.promises.specs.laws.Marks.{off-change, left-change, strokes-change}
 use Rattle.promises.specs.laws.Steps.{undo-history, redo-history, undone-sane}

@@ -36,7 +36,7 @@ use Rattle.undo_call.specs.Undo.{storeOf, usedOf, Moved, notMoved, lessened, gr
 use Rattle.links.specs.laws.Made.{Made}
 use Rattle.links.specs.laws.Links.{Link, link, next-up}
 use Rattle.promises.specs.History.{replay}
-use Rattle.promises.specs.laws.Entered.{padded, length-padded, paste-padded, flat, pile, Stored, AllStored, length-one, flat-length, flat-some, newest-reads, newest-part, newest-cut}
+use Rattle.promises.specs.laws.Stores.{padded, length-padded, paste-padded, flat, pile, Stored, AllStored, length-one, flat-length, flat-some, newest-reads, newest-part, newest-cut}
 use Rattle.promises.specs.laws.ByHistory.{standing, backs, journalOf, byHistory, Step, Sane, kept-up, backs-stored, ahead-stored, history-formed}
 
 -- a well-formed record's next id is 256 at most

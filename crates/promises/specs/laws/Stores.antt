@@ -1,161 +1,160 @@
--- The stores of a well-formed session: what they read as, and that they stay good with one entry more, or the newest one cut off. Assumes nothing.
-use Prim.Native.Nat.{ℕ, _+_, _-_, _≤_}
-use mathlib.Core.Bool.{Bool, true, false, cond, false≢true}
-use mathlib.Core.Path.{_≡_, refl, sym, ap, subst, _∙_}
-use mathlib.Core.List.{List, [], _∷_, _++_}
+-- A store of the entries of changes, the newest last: its bytes, how it reads, and that it is well formed. Assumes nothing.
+use Prim.Native.Nat.{ℕ, suc, _+_, _-_, _≤_}
+use mathlib.Core.Bool.{true}
+use mathlib.Core.Path.{_≡_, refl, sym, ap, _∙_}
+use mathlib.Core.List.{List, [], _∷_, _++_, append-assoc}
 use native.Mathlib.Omega.{arith}
-use lib.Dec.{eqb}
-use lib.ListN.{length, take, drop, replicate, length-append, length-replicate}
-use lib.Seq.{length-take-le, take-take, take-at, drop-at}
+use lib.ListN.{length, take, drop, replicate, length-append, length-replicate, replicate-append-replicate}
+use lib.Seq.{take-at, take-append-seam, drop-append-seam, drop-append-add, drop-at}
 use Rattle.wire.specs.Wire.{allAre, pasted}
 use Rattle.wire.specs.laws.Wire.{all-replicate}
 use Rattle.wire.specs.laws.Cases.{if-b, else-lt}
+use Rattle.change.specs.Change.{kindOf}
 use Rattle.change.specs.declared.Edit.{Edit}
-use Rattle.entries.specs.Entries.{Entry, written, Scan, between, within, unknown, scanFrom, scan, newestAt}
-use Rattle.entries.specs.laws.Entries.{scan-written, scan-older, take-newest, length-written}
+use Rattle.entries.specs.Entries.{Entry, bodyLen, bytesOf, written, between, scanFrom, scan, newestAt, readingOf}
+use Rattle.entries.specs.declared.Reading.the-variants.{Whole}
+use Rattle.entries.specs.laws.Entries.{read-append}
 use Rattle.journal.specs.Bytes.{entryFor, entryBytes}
-use Rattle.journal.specs.Read.{entryOk, allOk, scanOk, entriesOk}
-use Rattle.journal.specs.Add.{entryLen, addedTo, cutFrom}
-use Rattle.journal.specs.Ways.{byWay, other}
+use Rattle.journal.specs.Read.{gotOf, entryOk, allOk, scanOk, entriesOk}
+use Rattle.journal.specs.Add.{entryLen, cutFrom}
+use Rattle.journal.specs.laws.Bodies.{Writable, length-body, some-body}
+use Rattle.journal.specs.laws.Ends.{length-entry}
+use Rattle.journal.specs.declared.Found.the-variants.{Good}
 use Rattle.journal.specs.declared.Way.{Way}
-use Rattle.journal.specs.declared.Way.the-variants.{Before, After}
-use Rattle.journal.specs.laws.Bodies.{Writable}
-use Rattle.journal.specs.laws.Ends.{added, length-added, added-reads, added-unused}
-use Rattle.session.specs.laws.Session.{Store, Formed}
-use Rattle.session.specs.declared.Session.{Session}
-use Rattle.undo_call.specs.Undo.{storeOf, usedOf}
-use Rattle.links.specs.Typed.{TypedSession}
+use Rattle.session.specs.laws.Session.{Store}
 
--- ---- what bytes whose values are good read as
+-- ---- 2,048 bytes of which the first ones are used
 
-pub record Reads (w : Way) (j : List ℕ) : Type 0 where
-  pub entries : List Entry
-  pub scanned : scan j ≡ between entries
-  pub good : allOk w entries ≡ true
+abbrev pub zeros : ℕ → List ℕ
+zeros n = replicate n 0
 
-reads-by : (w : Way) (x : Scan) (j : List ℕ) → scan j ≡ x → scanOk w x ≡ true → Reads w j
-unfolding scanOk
-reads-by w (between es) j e h = record { entries = es; scanned = e; good = h }
-reads-by w (within es k b n) j e h = absurd (false≢true h)
-reads-by w (unknown es) j e h = absurd (false≢true h)
+unfoldable pub padded : List ℕ → List ℕ
+padded l = l ++ replicate (2048 - length l) 0
 
-pub reads : (w : Way) (j : List ℕ) → entriesOk w j ≡ true → Reads w j
-unfolding entriesOk
-reads w j h = reads-by w (scan j) j refl h
+pub length-padded : (l : List ℕ) → length l ≤ 2048 → length (padded l) ≡ 2048
+unfolding padded
+length-padded l h = simp (length-append, length-replicate) (omega arith)
 
--- entries that were read so are good, the newest and the older ones
-pub all-good : (w : Way) (j : List ℕ) (es : List Entry) → entriesOk w j ≡ true → scan j ≡ between es → allOk w es ≡ true
+pub take-padded : (l : List ℕ) → take (length l) (padded l) ≡ l
+unfolding padded
+take-padded l = take-append-seam l (zeros (2048 - length l))
+
+pub drop-padded : (l : List ℕ) → allAre 0 (drop (length l) (padded l)) ≡ true
+unfolding padded
+drop-padded l = ap (allAre 0) (drop-append-seam l (zeros (2048 - length l))) ∙ all-replicate 0 (2048 - length l)
+
+zeros-split : (a b n : ℕ) → a + b ≡ n → zeros n ≡ zeros a ++ zeros b
+zeros-split a b n e = ap zeros (sym e) ∙ sym (replicate-append-replicate a b 0)
+
+length-zeros : (n : ℕ) → length (zeros n) ≡ n
+length-zeros n = length-replicate n 0
+
+-- an entry pasted after the used bytes; the same bytes zeroed again
+pub paste-padded : (l b : List ℕ) → length l + length b ≤ 2048 → pasted (length l) b (padded l) ≡ padded (l ++ b)
+unfolding pasted padded
+paste-padded l b h =
+    let m : ℕ = 2048 - (length l + length b) in
+    let z : drop (length b) (zeros (2048 - length l)) ≡ zeros m =
+    ap (drop (length b)) (zeros-split (length b) m (2048 - length l) (omega arith)) ∙ drop-at (zeros (length b)) (zeros m) (length b) (length-zeros (length b)) in
+    rw (take-append-seam l (zeros (2048 - length l)), drop-append-add l (zeros (2048 - length l)) (length b), z, length-append l b, append-assoc l b (zeros m))
+
+pub unpaste-padded : (l b : List ℕ) → length l + length b ≤ 2048 → pasted (length l) (zeros (length b)) (padded (l ++ b)) ≡ padded l
+unfolding pasted padded
+unpaste-padded l b h =
+    let m : ℕ = 2048 - (length l + length b) in
+    rw (
+      length-append l b,
+      append-assoc l b (zeros m),
+      take-append-seam l (b ++ zeros m),
+      length-zeros (length b),
+      drop-append-add l (b ++ zeros m) (length b),
+      drop-append-seam b (zeros m),
+      ← zeros-split (length b) m (2048 - length l) (omega arith),
+    )
+
+-- ---- entries, the newest last
+
+unfoldable pub flat : List Edit → List ℕ
+flat [] = []
+flat (b ∷ bs) = flat bs ++ entryBytes b
+
+-- one that this way's store may hold, and that reads as it was written
+pub record Stored (w : Way) (b : Edit) : Type 0 where
+  pub writable : Writable w (b .tables) (b .change)
+  pub good : entryOk w (entryFor b) ≡ true
+  pub reads : gotOf w (entryBytes b) ≡ record { found = Good (b .change); tables = b .tables }
+
+abbrev pub AllStored : Way → List Edit → Type 0
+AllStored w [] = Unit {0}
+AllStored w (b ∷ bs) = Stored w b × AllStored w bs
+
+unfoldable pub pile : List Edit → List Entry
+pile [] = []
+pile (b ∷ bs) = entryFor b ∷ pile bs
+
+pub pile-reads : (w : Way) (bs : List Edit) → AllStored w bs → scan (flat bs) ≡ between (pile bs)
+unfolding flat pile scan scanFrom entryBytes entryFor
+pile-reads w [] a = refl
+pile-reads w (b ∷ bs) a =
+    let s = length-body w (b .tables) (b .change) (a .0 .writable) in
+    read-append (flat bs) (pile bs) (entryFor b) (pile-reads w bs (a .1)) (sym s) (omega (arith, s, some-body w (b .tables) (b .change) (a .0 .writable)))
+
+pile-ok : (w : Way) (bs : List Edit) → AllStored w bs → allOk w (pile bs) ≡ true
+unfolding pile allOk
+pile-ok w [] a = refl
+pile-ok w (b ∷ bs) a = sym (if-b _ _ (a .0 .good) (sym (pile-ok w bs (a .1))))
+
+pile-written : (bs : List Edit) → written (pile bs) ≡ flat bs
+unfolding written pile flat entryBytes
+pile-written [] = refl
+pile-written (b ∷ bs) = ap (λ (l : List ℕ). l ++ bytesOf (entryFor b)) (pile-written bs)
+
+pub flat-formed : (w : Way) (bs : List Edit) → AllStored w bs → length (flat bs) ≤ 2048 → Store w (padded (flat bs)) (length (flat bs))
 unfolding entriesOk scanOk
-all-good w j es h r = sym (ap (scanOk w) r) ∙ h
+flat-formed w bs a h =
+    record {
+      fits = omega (arith, length-padded (flat bs) h, h);
+      reads = ap (entriesOk w) (take-padded (flat bs)) ∙ ap (scanOk w) (pile-reads w bs a) ∙ pile-ok w bs a;
+      unused = drop-padded (flat bs);
+    }
 
-pub all-parts : (w : Way) (x : Entry) (es : List Entry) → allOk w (x ∷ es) ≡ true → (entryOk w x ≡ true) × (allOk w es ≡ true)
-unfolding allOk
-all-parts w x es h = go (entryOk w x) refl h
-  where
-    go : (t : Bool) → entryOk w x ≡ t → cond t (allOk w es) false ≡ true → (entryOk w x ≡ true) × (allOk w es ≡ true)
-    go true e h = (e, h)
-    go false e h = absurd (false≢true h)
+-- ---- the newest entry b of a store
 
--- ---- nothing in it
+module _ (w : Way) (b : Edit) (bs : List Edit) (a : AllStored w (b ∷ bs)) where
+  pub length-one : length (entryBytes b) ≡ entryLen b
+  length-one = length-entry w b (a .0 .writable)
 
-pub none-used : (w : Way) (n : ℕ) → Store w (replicate n 0) 0
-unfolding entriesOk scanOk scan scanFrom allOk
-none-used w n = record { fits = omega arith; reads = refl; unused = all-replicate 0 n }
+  pub flat-length : length (flat (b ∷ bs)) ≡ length (flat bs) + entryLen b
+  unfolding flat
+  flat-length = length-append (flat bs) (entryBytes b) ∙ ap (λ (k : ℕ). length (flat bs) + k) length-one
 
--- ---- one entry more
+  pub flat-some : length (flat (b ∷ bs)) ≡ 0 → ⊥
+  flat-some z = omega (arith, flat-length, z)
 
-module _ (w : Way) (j : List ℕ) (used : ℕ) (store : Store w j used) (e : Edit) (writable : Writable w (e .tables) (e .change)) (ok : entryOk w (entryFor e) ≡ true) (room : used + entryLen e ≤ length j) where
-  more-reads : entriesOk w (take (used + entryLen e) (addedTo used e j)) ≡ true
-  unfolding entriesOk scanOk allOk
-  more-reads =
-      let r = reads w (take used j) (store .reads) in
-      ap (scanOk w) (added-reads w e used j writable room (r .entries) (r .scanned)) ∙ sym (if-b _ _ ok (sym (r .good)))
+  -- it starts where the older ones end
+  pub newest-reads : readingOf (scan (take (length (flat (b ∷ bs))) (padded (flat (b ∷ bs))))) ≡ Whole (length (pile (b ∷ bs))) (length (flat bs))
+  unfolding readingOf newestAt pile
+  newest-reads =
+      ap (λ (l : List ℕ). readingOf (scan l)) (take-padded (flat (b ∷ bs)))
+      ∙ ap readingOf (pile-reads w (b ∷ bs) a)
+      ∙ ap (λ (l : List ℕ). Whole (length (pile (b ∷ bs))) (length l)) (pile-written bs)
 
-  pub one-more : Store w (addedTo used e j) (used + entryLen e)
-  one-more = record { fits = omega (arith, length-added w e used j writable room, room); reads = more-reads; unused = added-unused w e used j writable room (store .unused) }
+  pub newest-part : take (length (flat (b ∷ bs)) - length (flat bs)) (drop (length (flat bs)) (padded (flat (b ∷ bs)))) ≡ entryBytes b
+  unfolding padded flat
+  newest-part =
+      let z : List ℕ = replicate (2048 - length (flat bs ++ entryBytes b)) 0 in
+      let k : length (flat bs ++ entryBytes b) - length (flat bs) ≡ length (entryBytes b) = omega (arith, length-append (flat bs) (entryBytes b)) in
+      ap (λ (l : List ℕ). take (length (flat bs ++ entryBytes b) - length (flat bs)) (drop (length (flat bs)) l)) (append-assoc (flat bs) (entryBytes b) z)
+      ∙ ap (take (length (flat bs ++ entryBytes b) - length (flat bs))) (drop-append-seam (flat bs) (entryBytes b ++ z))
+      ∙ take-at (entryBytes b) z (length (flat bs ++ entryBytes b) - length (flat bs)) (sym k)
 
-  pub more-pasted : Store w (pasted used (entryBytes e) j) (used + entryLen e)
-  more-pasted = subst (λ (l : List ℕ). Store w l (used + entryLen e)) (added w e used j writable room) one-more
-
--- ---- the newest entry cut off
-
-all-append : (v : ℕ) (xs ys : List ℕ) → allAre v xs ≡ true → allAre v ys ≡ true → allAre v (xs ++ ys) ≡ true
-unfolding allAre
-all-append v [] ys p q = q
-all-append v (x ∷ xs) ys p q = go (eqb x v) p (λ h. all-append v xs ys h q)
-  where
-    go : (t : Bool) → cond t (allAre v xs) false ≡ true → (allAre v xs ≡ true → allAre v (xs ++ ys) ≡ true) → cond t (allAre v (xs ++ ys)) false ≡ true
-    go true p f = f p
-    go false p f = p
-
-length-zeros : (n : ℕ) → length (replicate {A = ℕ} n 0) ≡ n
-length-zeros n = length-replicate {A = ℕ} n 0
-
-module _ (j : List ℕ) (at used : ℕ) (low : at ≤ used) (high : used ≤ length j) where
-  abbrev zeros : List ℕ
-  zeros = replicate (used - at) 0
-
-  pub cut-zeroed : cutFrom at used j ≡ pasted at (replicate (used - at) 0) j
-  unfolding cutFrom
-  cut-zeroed = sym (else-lt _ _ {m = length j} {n = used} high (else-lt _ _ {m = used} {n = at} low refl))
-
-  cut-is : cutFrom at used j ≡ take at j ++ (zeros ++ drop used j)
-  unfolding pasted
-  cut-is =
-      let k : at + length zeros ≡ used = omega (arith, length-zeros (used - at)) in
-      cut-zeroed ∙ ap (λ (n : ℕ). take at j ++ (zeros ++ drop n j)) k
-
-  front : length (take at j) ≡ at
-  front = length-take-le at j (omega arith)
-
-  take-cut : take at (cutFrom at used j) ≡ take at (take used j)
-  take-cut = ap (take at) cut-is ∙ take-at (take at j) (zeros ++ drop used j) at front ∙ sym (take-take at used j low)
-
-  drop-cut : allAre 0 (drop used j) ≡ true → allAre 0 (drop at (cutFrom at used j)) ≡ true
-  drop-cut z =
-      ap (λ (l : List ℕ). allAre 0 (drop at l)) cut-is
-      ∙ ap (allAre 0) (drop-at (take at j) (zeros ++ drop used j) at front)
-      ∙ all-append 0 zeros (drop used j) (all-replicate 0 (used - at)) z
-
-  length-cut : at ≤ length (cutFrom at used j)
-  length-cut = omega (arith, ap length cut-is, length-append (take at j) (zeros ++ drop used j), front)
-
-module _ (w : Way) (j : List ℕ) (used : ℕ) (store : Store w j used) (x : Entry) (es : List Entry) (read : scan (take used j) ≡ between (x ∷ es)) where
-  -- the used bytes are those of the older entries and of the newest
-  pub used-is : used ≡ length (written es) + (1 + length (x .body))
-  used-is = omega (arith, ap length (scan-written (take used j) (x ∷ es) read), length-written x es, length-take-le used j (store .fits))
-
-  -- the newest starts where the older ones end: they read as they did
-  less-reads : entriesOk w (take (length (written es)) (take used j)) ≡ true
-  unfolding entriesOk scanOk newestAt
-  less-reads =
-      ap (λ (l : List ℕ). scanOk w (scan l)) (take-newest (take used j) x es read)
-      ∙ ap (scanOk w) (scan-older (take used j) x es read)
-      ∙ all-parts w x es (all-good w (take used j) (x ∷ es) (store .reads) read) .1
-
-  pub one-less : Store w (cutFrom (length (written es)) used j) (length (written es))
-  one-less =
-      let low : length (written es) ≤ used = omega (arith, used-is) in
-      record {
-        fits = length-cut j (length (written es)) used low (store .fits);
-        reads = ap (entriesOk w) (take-cut j (length (written es)) used low (store .fits)) ∙ less-reads;
-        unused = drop-cut j (length (written es)) used low (store .fits) (store .unused);
-      }
-
--- ---- in a session, by the way
-
-module _ (s : Session) (f : Formed s) where
-  pub store-of : (w : Way) → Store w (storeOf w s) (usedOf w s)
-  unfolding storeOf usedOf byWay
-  store-of Before = f .journal
-  store-of After = f .redo
-
-  pub both-used : (w : Way) → usedOf w s + usedOf (other w) s ≤ 2048
-  unfolding usedOf other byWay
-  both-used Before = f .both-fit
-  both-used After = omega (arith, f .both-fit)
-
-pub long-store : (s : Session) → TypedSession s → (w : Way) → length (storeOf w s) ≡ 2048
-unfolding storeOf byWay
-long-store s typed Before = typed .journal
-long-store s typed After = typed .redo
+  -- and is cut off there
+  pub newest-cut : length (flat (b ∷ bs)) ≤ 2048 → cutFrom (length (flat bs)) (length (flat (b ∷ bs))) (padded (flat (b ∷ bs))) ≡ padded (flat bs)
+  unfolding cutFrom flat
+  newest-cut fits =
+      let whole = length-padded (flat (b ∷ bs)) fits in
+      let k : length (flat (b ∷ bs)) - length (flat bs) ≡ length (entryBytes b) = omega (arith, flat-length, length-one) in
+      sym (else-lt _ _ {m = length (padded (flat (b ∷ bs)))} {n = length (flat (b ∷ bs))} (omega (arith, whole, fits))
+      (else-lt _ _ {m = length (flat (b ∷ bs))} {n = length (flat bs)} (omega (arith, flat-length)) refl))
+      ∙ ap (λ (m : ℕ). pasted (length (flat bs)) (zeros m) (padded (flat (b ∷ bs)))) k
+      ∙ unpaste-padded (flat bs) (entryBytes b) (omega (arith, flat-length, length-one, fits))

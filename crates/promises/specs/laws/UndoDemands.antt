@@ -37,7 +37,7 @@ use Rattle.undo_call.specs.Undo.{storeOf, usedOf, noneLeft, Moved, notMoved, mo
 use Rattle.undo_call.specs.laws.Came.{none-zero}
 use Rattle.promises.specs.Demand1.{MoveAnswer, UndoAnswer, RedoAnswer}
 use Rattle.promises.specs.Demand2.{Newest, GoesIn, Movable, MoveAccepted, UndoAccepted, RedoAccepted}
-use Rattle.promises.specs.laws.Stores.{reads, all-parts, store-of}
+use Rattle.promises.specs.laws.FormedStores.{reads, all-parts, store-of}
 
 -- ---- what can be put in
 

@@ -28,7 +28,7 @@ use Rattle.links.specs.laws.Links.{Link, link}
 use Rattle.promises.specs.laws.Asked.{data-bytes, occ-made, sbe-made}
 use Rattle.promises.specs.laws.Moves.{moved-formed}
 use Rattle.promises.specs.laws.Room.{end-room}
-use Rattle.promises.specs.laws.Stores.{none-used, one-more}
+use Rattle.promises.specs.laws.FormedStores.{none-used, one-more}
 use Rattle.promises.specs.laws.UndoDemands as ways
 
 -- ---- a change carried out

@@ -88,7 +88,8 @@ movesTo Before s held at entry =
 movesTo After s held at entry =
     withHeld held (s .next) (pasted (s .used) entry (s .journal)) (s .used + length entry) (zeroedFrom at (s .ahead) (s .redo)) at
 
--- what goes to the other store: the entry that takes a change back, with the values now in the record (change/specs/Change.antt)
+-- what goes to the other store: the entry that takes a change back, with the values now in the record; "for kind 08 that is the log's id and reason, 0
+-- and 0 without one" (`backOf` in change/specs/Change.antt)
 abbrev pub entryBack : Session → Edit → Entry
 entryBack s e = entryFor (inverseOf (s .held) e)
 

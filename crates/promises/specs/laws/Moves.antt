@@ -2,7 +2,7 @@
 use Prim.Native.Nat.{ℕ, _+_, _≤_}
 use mathlib.Core.Bool.{true}
 use mathlib.Core.Path.{_≡_, refl, sym, ap, subst, _∙_}
-use mathlib.Core.List.{List, _∷_}
+use mathlib.Core.List.{_∷_}
 use native.Mathlib.Omega.{arith}
 use lib.ListN.{length, take}
 use Rattle.wire.specs.Conditions.{_and_}
@@ -10,7 +10,6 @@ use Rattle.wire.specs.Wire.{pasted}
 use Rattle.record.specs.declared.Record.{Record}
 use Rattle.change.specs.Change.{kindOf, putOf, inverseOf}
 use Rattle.change.specs.declared.Edit.{Edit}
-use Rattle.change.specs.declared.Tables.{Tables}
 use Rattle.formed.specs.Formed.{recordOk, editOk}
 use Rattle.formed.specs.laws.Formed.{sound, inverse-ok}
 use Rattle.entries.specs.Entries.{bodyLen, bytesOf, written}

@@ -15,7 +15,7 @@ use Rattle.wire.specs.laws.Chains.{eq-holds, lt-passes, le-passes, zero-passes,
 use Rattle.wire.specs.laws.Tables.{ByTable, by-is, hit, miss}
 use Rattle.wire.specs.laws.Wire.{tail-part, part-of-part}
 use Rattle.record.specs.declared.Record.{Record}
-use Rattle.change.specs.Change.{accepted, refused, clearOf, unclearOf, resetOf, unresetOf, putWith, putOf, kindOf}
+use Rattle.change.specs.Change.{accepted, refused, clearOf, unclearOf, resetOf, unresetOf, putWith, putOf}
 use Rattle.change.specs.declared.Change.{Change}
 use Rattle.change.specs.declared.Change.the-variants.{Clear, Unclear, SetState, SetRole, SetCaps, SetUser, SetThermal, SetThrottles, Reset, Unreset, SetMask, SetDeadman, SetAreas}
 use Rattle.change.specs.declared.Changed.{Changed}

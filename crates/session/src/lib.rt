@@ -69,7 +69,7 @@ pub fn store_ok(way: Way, j: &[u8], used: usize) -> bool
     if !journal::all_ok(way, &j[..used]) {
         return false;
     }
-    wire::all_are(&j[used..], 0)
+    wire::all_zero(&j[used..])
 }
 
 // ---- the id counter

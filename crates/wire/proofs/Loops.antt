@@ -7,7 +7,8 @@ use native.Mathlib.Numerals.{add-one}
 use native.Mathlib.Nat.{add-zero, add-suc, pow-suc, pow-le-pow-right, mod-add-mod, not-suc-le-zero, le-of-suc-le-suc}
 use native.Mathlib.Omega.{arith}
 use borrow.Author.Fill.{fill-more}
-use lib.Dec.{lit<, eqb}
+use borrow.Author.Tests.{ltb-true, ltb-false, eqb-true, eqb-false, ne-eqb}
+use lib.Dec.{lit<, ltb, eqb}
 use lib.ListN.{length, getD, take, drop, set, replicate, length-append, length-drop, length-set, take-append-drop, drop-of-length-le}
 use lib.Seq.{take-suc, take-length, drop-length, drop-cons, getD-drop, take-set-le, drop-set-lt, take-suc-set, getD-set-same}
 use Rattle.wire.specs.Wire.{sumOf, packetSum, beOnto, beNat, toBE, pasted, allAre}
@@ -108,6 +109,16 @@ pub zero-end : (i : ℕ) (d x : List ℕ) → i ≡ length d → x ≡ replicate
 zero-end i d x e p = p ∙ rw (e, drop-length, append-nil)
 
 -- ---- all_are: the mark says it of the bytes before i
+
+-- the higher of two is 0 where both are
+pub higher-zero : (a b : ℕ) → eqb (cond (ltb a b) b a) 0 ≡ cond (not (eqb b 0)) false (eqb a 0)
+higher-zero a b = go (ltb a b) (eqb b 0) refl refl
+  where
+    go : (t u : Bool) → ltb a b ≡ t → eqb b 0 ≡ u → eqb (cond t b a) 0 ≡ cond (not u) false (eqb a 0)
+    go true true p q = let z : ⊥ = omega (arith, ltb-true a b p, eqb-true b 0 q) in absurd z
+    go true false p q = q
+    go false true p q = refl
+    go false false p q = ne-eqb a 0 (λ z. omega (arith, ltb-false a b p, eqb-false b 0 q, z))
 
 pub are-none : (v : ℕ) (l : List ℕ) → true ≡ allAre v (take 0 l)
 unfolding allAre

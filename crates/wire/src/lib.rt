@@ -2,7 +2,7 @@
 ghost use mathlib.Core.Bool.{cond, not, false};
 ghost use mathlib.Core.Path.{_≡_};
 ghost use Prim.Native.Nat.{_+_, _%_, _^_, _≤_, _<_};
-ghost use lib.Dec.{eqb};
+ghost use lib.Dec.{ltb, eqb};
 ghost use lib.ListN.{length, take, drop, replicate};
 ghost use Rattle.wire.specs.Wire.{packetSum, beNat, toBE, pasted, allAre};
 
@@ -131,4 +131,26 @@ pub fn all_are(s: &[u8], v: u8) -> bool
         i += 1;
     }
     same
+}
+
+fn higher(a: u8, b: u8) -> u8
+    ensures { λ r. ⌜ r ≡ cond (ltb a b) b a ⌝ }
+{
+    if a < b {
+        return b;
+    }
+    a
+}
+
+// Whether every byte is 0: the highest is. One step a byte where `all_are` takes two, for the stores.
+pub fn all_zero(s: &[u8]) -> bool
+    ensures { λ r. ⌜ r ≡ allAre 0 (now (s .entry)) ⌝ }
+{
+    let mut top = 0;
+    let mut i = 0;
+    while i < s.len() {
+        top = higher(top, s[i]);
+        i += 1;
+    }
+    top == 0
 }

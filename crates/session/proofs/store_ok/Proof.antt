@@ -23,21 +23,21 @@ returns-2 : tie.Need-returns-2
 unfolding storeOk
 returns-2 c = else-lt _ _ (c .before .before .before .if1 .left) (if-b _ _ (sym (ap not (c .before .all-ok .ensures)) ∙ c .if2 .taken) refl)
 
-sub-all-are : tie.Need-sub-all-are
-sub-all-are c = search needs
+sub-all-zero : tie.Need-sub-all-zero
+sub-all-zero c = search needs
 
-part-all-are-start : tie.Need-part-all-are-start
-part-all-are-start c = search needs
+part-all-zero-start : tie.Need-part-all-zero-start
+part-all-zero-start c = search needs
 
-part-all-are-end : tie.Need-part-all-are-end
-part-all-are-end c = search needs
+part-all-zero-end : tie.Need-part-all-zero-end
+part-all-zero-end c = search needs
 
-all-are-requires : tie.Need-all-are-requires
-all-are-requires c κs = search needs
+all-zero-requires : tie.Need-all-zero-requires
+all-zero-requires c κs = search needs
 
 returns-3 : tie.Need-returns-3
 unfolding storeOk
-returns-3 c = else-lt _ _ (c .before .before .before .before .before .if1 .left) (else-b _ _ (sym (ap not (c .before .before .before .all-ok .ensures)) ∙ c .before .before .if2 .left) (c .all-are .ensures ∙ ap (allAre 0) (tail-part _ (c .before .before .before .before .before .before .before .args .used))))
+returns-3 c = else-lt _ _ (c .before .before .before .before .before .if1 .left) (else-b _ _ (sym (ap not (c .before .before .before .all-ok .ensures)) ∙ c .before .before .if2 .left) (c .all-zero .ensures ∙ ap (allAre 0) (tail-part _ (c .before .before .before .before .before .before .before .args .used))))
 
 pub store-ok-spec : {M : Type 1} → statement M
 store-ok-spec =
@@ -47,8 +47,8 @@ store-ok-spec =
     slice-aggregate-all-ok
     all-ok-requires
     returns-2
-    sub-all-are
-    part-all-are-start
-    part-all-are-end
-    all-are-requires
+    sub-all-zero
+    part-all-zero-start
+    part-all-zero-end
+    all-zero-requires
     returns-3)

@@ -4,15 +4,15 @@ use mathlib.Core.Bool.{Bool, true, false, cond, not}
 use mathlib.Core.Path.{_≡_, refl, sym, ap, _∙_}
 use mathlib.Core.List.{List, [], _∷_, _++_, append-nil, append-assoc}
 use native.Mathlib.Numerals.{add-one}
-use native.Mathlib.Nat.{add-zero, add-suc, pow-suc, pow-le-pow-right, mod-add-mod, not-suc-le-zero, le-of-suc-le-suc}
+use native.Mathlib.Nat.{add-zero, zero-add, suc-add, add-suc, pow-suc, pow-le-pow-right, mod-add-mod, not-suc-le-zero, le-of-suc-le-suc, add-sub-cancel-left}
 use native.Mathlib.Omega.{arith}
 use borrow.Author.Fill.{fill-more}
-use borrow.Author.Tests.{ltb-true, ltb-false, eqb-true, eqb-false, ne-eqb}
+use borrow.Author.Tests.{ltb-true, ltb-false, eqb-true, eqb-false, ne-eqb, not-true, not-false}
 use lib.Dec.{lit<, ltb, eqb}
 use lib.ListN.{length, getD, take, drop, set, replicate, length-append, length-drop, length-set, take-append-drop, drop-of-length-le}
-use lib.Seq.{take-suc, take-length, drop-length, drop-cons, getD-drop, take-set-le, drop-set-lt, take-suc-set, getD-set-same}
+use lib.Seq.{take-all, take-add, length-take-le, drop-drop, take-suc, take-length, drop-length, drop-cons, getD-drop, take-set-le, drop-set-lt, take-suc-set, getD-set-same}
 use Rattle.wire.specs.Wire.{sumOf, packetSum, beOnto, beNat, toBE, pasted, allAre}
-use Rattle.wire.specs.laws.Wire.{onto-append, length-toBE}
+use Rattle.wire.specs.laws.Wire.{onto-append, length-toBE, tail-part, all-drop}
 
 -- ---- sum: the bytes before i are in the sum
 
@@ -146,3 +146,89 @@ are-next v l i a r h p q = q ∙ ap (cond (not (eqb (getD l i 0) v)) false) p �
 
 pub are-all : (v : ℕ) (l : List ℕ) (i : ℕ) → i ≡ length l → allAre v (take i l) ≡ allAre v l
 are-all v l i e = rw (e, take-length)
+
+-- ---- two parts at a turn
+
+pub both-bad : (top : ℕ) (p q : Bool) → eqb top 0 ≡ p → (top ≡ 0 → ⊥) → false ≡ cond p q false
+both-bad top true q e z = absurd (z (eqb-true top 0 e))
+both-bad top false q e z = refl
+
+pub both-good : (top : ℕ) (p q r : Bool) → eqb top 0 ≡ p → top ≡ 0 → r ≡ q → r ≡ cond p q false
+both-good top true q r e z h = h
+both-good top false q r e z h = absurd (eqb-false top 0 e z)
+
+-- ---- the halves of a list beside each other, and what is left after them
+
+all-append : (v : ℕ) (xs ys : List ℕ) → allAre v (xs ++ ys) ≡ cond (allAre v xs) (allAre v ys) false
+unfolding allAre
+all-append v [] ys = refl
+all-append v (x ∷ xs) ys = go (eqb x v) (all-append v xs ys)
+  where
+    go : (t : Bool) → allAre v (xs ++ ys) ≡ cond (allAre v xs) (allAre v ys) false → cond t (allAre v (xs ++ ys)) false ≡ cond (cond t (allAre v xs) false) (allAre v ys) false
+    go true e = e
+    go false e = refl
+
+-- how far the halves reach: within the last 64 bytes
+pub half-fits : (n : ℕ) → n / 64 * 32 + n / 64 * 32 ≤ n
+half-fits n = omega arith
+
+half-reaches : (n : ℕ) → 64 ≤ n → n - 64 ≤ n / 64 * 32 + n / 64 * 32
+half-reaches n h = omega arith
+
+part-swap : (m k : ℕ) (s : List ℕ) → take k (drop m s) ≡ drop m (take (m + k) s)
+part-swap zero k s = ap (λ (n : ℕ). take n s) (sym (zero-add k))
+part-swap (suc m) k [] = take-all {A = ℕ} k [] (omega arith) ∙ sym (ap (drop (suc m)) (take-all {A = ℕ} (suc m + k) [] (omega arith)))
+part-swap (suc m) k (x ∷ s) = part-swap m k s ∙ ap (λ (n : ℕ). drop (suc m) (take n (x ∷ s))) (sym (suc-add m k))
+
+-- a front and a tail that reaches into it
+covered : (s : List ℕ) (m k : ℕ) → allAre 0 s ≡ cond (allAre 0 (take (m + k) s)) (allAre 0 (drop m s)) false
+covered s m k = whole ∙ go (allAre 0 (take (m + k) s)) refl
+  where
+    whole : allAre 0 s ≡ cond (allAre 0 (take (m + k) s)) (allAre 0 (drop (m + k) s)) false
+    whole = ap (allAre 0) (sym (take-append-drop (m + k) s)) ∙ all-append 0 (take (m + k) s) (drop (m + k) s)
+
+    tail : allAre 0 (take (m + k) s) ≡ true → allAre 0 (drop (m + k) s) ≡ allAre 0 (drop m s)
+    tail e =
+        let front : allAre 0 (take k (drop m s)) ≡ true = ap (allAre 0) (part-swap m k s) ∙ all-drop 0 m (take (m + k) s) e in
+        sym (ap (allAre 0) (sym (take-append-drop k (drop m s))) ∙ all-append 0 (take k (drop m s)) (drop k (drop m s))
+        ∙ ap (λ (b : Bool). cond b (allAre 0 (drop k (drop m s))) false) front ∙ ap (allAre 0) (drop-drop k m s))
+
+    go : (b : Bool) → allAre 0 (take (m + k) s) ≡ b → cond b (allAre 0 (drop (m + k) s)) false ≡ cond b (allAre 0 (drop m s)) false
+    go true e = tail e
+    go false e = refl
+
+-- the halves are the front
+front-is : (s : List ℕ) (h : ℕ) → allAre 0 (take (h + h) s) ≡ cond (allAre 0 (take h s)) (allAre 0 (take (h + h - h) (drop h s))) false
+front-is s h =
+    ap (allAre 0) (take-add h h s)
+    ∙ all-append 0 (take h s) (take h (drop h s))
+    ∙ ap (λ (n : ℕ). cond (allAre 0 (take h s)) (allAre 0 (take n (drop h s))) false) (sym (add-sub-cancel-left h h))
+
+module _ (s : List ℕ) (long : 64 ≤ length s) where
+  abbrev h : ℕ
+  h = length s / 64 * 32
+
+  abbrev m : ℕ
+  m = length s - 64
+
+  reached : m + (h + h - m) ≡ h + h
+  reached = omega (arith, half-reaches (length s) long)
+
+  halves : allAre 0 s ≡ cond (cond (allAre 0 (take h s)) (allAre 0 (take (h + h - h) (drop h s))) false) (allAre 0 (drop m s)) false
+  halves =
+      covered s m (h + h - m)
+      ∙ ap (λ (n : ℕ). cond (allAre 0 (take n s)) (allAre 0 (drop m s)) false) reached
+      ∙ ap (λ (b : Bool). cond b (allAre 0 (drop m s)) false) (front-is s h)
+
+  pub halves-bad : (x : Bool) → x ≡ cond (allAre 0 (take h s)) (allAre 0 (take (h + h - h) (drop h s))) false → not x ≡ true → false ≡ allAre 0 s
+  halves-bad x e bad = sym (halves ∙ ap (λ (b : Bool). cond b (allAre 0 (drop m s)) false) (sym e ∙ not-true x bad))
+
+  pub halves-good : (x y : Bool) → x ≡ cond (allAre 0 (take h s)) (allAre 0 (take (h + h - h) (drop h s))) false → not x ≡ false
+      → y ≡ allAre 0 (take (length s - m) (drop m s)) → y ≡ allAre 0 s
+  halves-good x y e good p =
+      p ∙ ap (allAre 0) (tail-part s m) ∙ sym (halves ∙ ap (λ (b : Bool). cond b (allAre 0 (drop m s)) false) (sym e ∙ not-false x good))
+
+  pub halves-long : length (take h s) ≡ length (take (h + h - h) (drop h s))
+  halves-long =
+      let fits = half-fits (length s) in
+      length-take-le h s (omega (arith, fits)) ∙ sym (ap (λ (n : ℕ). length (take n (drop h s))) (add-sub-cancel-left h h) ∙ length-take-le h (drop h s) (simp length-drop (omega (arith, fits))))

@@ -8,13 +8,10 @@ use borrow.Author.Tests.{ltb-false}
 use lib.Dec.{ltb, eqb}
 use lib.ListN.{length, replicate}
 use Rattle.wire.specs.laws.Cases.{cond-elim}
-use Rattle.record.specs.Record.{workedOf}
 use Rattle.record.specs.declared.Log.{Log}
-use Rattle.record.specs.declared.Worked.{Worked}
 use Rattle.change.specs.Change.{madeBy, putOf, inverseOf}
 use Rattle.change.specs.declared.Change.{Change}
 use Rattle.change.specs.declared.Change.the-variants.{Clear, Unclear, SetState, SetRole, SetCaps, SetUser, SetThermal, SetThrottles, Reset, Unreset, SetMask, SetDeadman, SetAreas}
-use Rattle.change.specs.declared.Changed.{Changed}
 use Rattle.change.specs.declared.Edit.{Edit}
 use Rattle.journal.specs.Add.{entryLen, endOf, addedTo}
 use Rattle.journal.specs.declared.End.{End}

@@ -1,5 +1,5 @@
 -- "Undo takes back the record and all that is worked out from it": a change tried and taken back; and a redo after it.
-use Prim.Native.Nat.{ℕ, _+_}
+use Prim.Native.Nat.{_+_}
 use mathlib.Core.Path.{_≡_}
 use mathlib.Core.List.{List, [], _∷_}
 use lib.ListN.{replicate}

@@ -4,7 +4,7 @@ use Prim.Native.Nat.{ℕ, _+_}
 use mathlib.Core.Bool.{Bool, true, false, cond, not}
 use mathlib.Core.List.{List}
 use lib.ListN.{length, take, drop, replicate}
-use lib.Dec.{ltb, leb, eqb}
+use lib.Dec.{ltb, eqb}
 use Rattle.wire.specs.Wire.{allAre}
 use Rattle.record.specs.Record.{freshRecord, workedOf}
 use Rattle.record.specs.declared.Record.{Record}

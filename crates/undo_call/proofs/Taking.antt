@@ -30,7 +30,6 @@ use Rattle.journal.specs.Add.{entryLen, cutFrom}
 use Rattle.journal.specs.laws.Says.{Whole as Entry, got-whole}
 use Rattle.journal.specs.declared.Way.{Way}
 use Rattle.journal.specs.declared.Way.the-variants.{Before, After}
-use Rattle.journal.specs.declared.Found.{Found}
 use Rattle.journal.specs.declared.Found.the-variants.{Good, Bad}
 use Rattle.journal.specs.declared.Got.{Got}
 use Rattle.session.specs.Session.{wellFormed, withHeld}

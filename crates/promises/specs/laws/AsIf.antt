@@ -28,7 +28,7 @@ use Rattle.promises.specs.laws.ByHistory.{standing, backs, journalOf, by
 use Rattle.promises.specs.laws.Steps.{undo-history, undo-nothing}
 use Rattle.promises.specs.laws.Marks.{tail}
 use Rattle.promises.specs.laws.Demand3.{ahead, Inv, next-inv, formed, held-is, next-is, worked-is}
-use Rattle.promises.specs.laws.Aside.{NotRedo, not-redo, leftAfter, madeAfter, left-after, made-after}
+use Rattle.promises.specs.laws.Aside.{not-redo, leftAfter, madeAfter, left-after, made-after}
 use Rattle.promises.specs.laws.Shifted.{shiftedEdit, kind-shifted, replay-shifted, logs-shifted}
 use Rattle.promises.specs.Shifted.{shiftedRecord}
 use Rattle.promises.specs.laws.Heard.{shiftedDeed, noRoom, full-by-kind, heard}

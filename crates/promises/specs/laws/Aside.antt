@@ -26,14 +26,14 @@ use Rattle.session.specs.declared.Session.{Session}
 use Rattle.occ_call.specs.Occ as occs
 use Rattle.sbe_call.specs.Sbe as sbes
 use Rattle.undo_call.specs.Undo.{Moved, notMoved, undoCall}
-use Rattle.promises.specs.Calls.{Call, occ, sbe, undo, redo, Said, said}
+use Rattle.promises.specs.Calls.{Call, occ, sbe, undo, redo, said}
 use Rattle.promises.specs.Marks.{Mark, left, logsMade}
-use Rattle.promises.specs.History.{Deed, keeps, adds, strikes, unstrikes, adding, occVerdict, occJudgement, sbeVerdict, deed, marked, Run, did, next-run, replay, OfBytes}
+use Rattle.promises.specs.History.{Deed, keeps, adds, strikes, unstrikes, adding, occVerdict, occJudgement, sbeVerdict, deed, marked, Run, did, next-run, OfBytes}
 use Rattle.promises.specs.NoTrace.{ButRedo, SameSaid, AsBefore, AllButRedo}
 use Rattle.promises.specs.laws.Marks.{tail, left-change, left-strike, logs-strike}
 use Rattle.promises.specs.laws.ByHistory.{standing, byHistory, Sane}
 use Rattle.promises.specs.laws.Steps.{undo-history, undo-nothing}
-use Rattle.promises.specs.laws.Demand3.{by-both, ahead, Inv, formed, next-inv}
+use Rattle.promises.specs.laws.Demand3.{ahead, Inv, formed, next-inv}
 
 -- ---- a call but redo doesn't unstrike
 

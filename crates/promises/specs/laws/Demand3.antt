@@ -1,7 +1,7 @@
 -- Demand 3 over any calls: at every moment the session is the one of the changes that are left. Assumes nothing.
 use Prim.Native.Nat.{ℕ, suc, _+_}
 use mathlib.Core.Bool.{Bool, true, false, cond, not}
-use mathlib.Core.Path.{_≡_, refl, sym, ap, ap₂, subst, _∙_}
+use mathlib.Core.Path.{_≡_, refl, sym, ap, subst, _∙_}
 use mathlib.Core.List.{List, [], _∷_}
 use native.Mathlib.Omega.{arith}
 use lib.Dec.{eqb, ltb}
@@ -30,11 +30,11 @@ use Rattle.undo_call.specs.Undo.{Moved, notMoved, undoCall, redoCall}
 use Rattle.links.specs.Typed.{TypedRecord}
 use Rattle.links.specs.laws.Made.{Made}
 use Rattle.promises.specs.Calls.{Call, occ, sbe, undo, redo, said}
-use Rattle.promises.specs.Marks.{Mark, strike, latest, unstrike, left, logsMade, undoAnswer, redoAnswer}
+use Rattle.promises.specs.Marks.{latest, left, logsMade, undoAnswer}
 use Rattle.promises.specs.History.{Deed, keeps, adds, strikes, unstrikes, adding, occVerdict, occJudgement, sbeVerdict, deed, marked, undosAfter, sinceAfter, replay, Run, did, next-run, run, OfBytes, AllOfBytes, Demand3}
 use Rattle.promises.specs.laws.Ids.{drew, ids-add}
 use Rattle.promises.specs.laws.Struck.{off}
-use Rattle.promises.specs.laws.Marks.{answerOf, tail, Strokes, strokes-change, off-change, left-change, strokes-undo, left-undo, off-undo, redo-answer, strokes-redo, left-redo, off-redo, logs-strike, logs-unstrike, ids-strike, ids-unstrike}
+use Rattle.promises.specs.laws.Marks.{answerOf, Strokes, strokes-change, off-change, left-change, strokes-undo, left-undo, off-undo, redo-answer, strokes-redo, left-redo, off-redo, logs-strike, logs-unstrike, ids-strike, ids-unstrike}
 use Rattle.promises.specs.Ids.{idsMade, countdown}
 use Rattle.promises.specs.laws.ByHistory.{standing, byHistory, Sane, history-formed}
 use Rattle.promises.specs.laws.Steps.{carried-history, carried-sane, undo-history, undone-sane, redo-history, redone-sane, undo-nothing, redo-nothing}

@@ -27,7 +27,7 @@ use Rattle.promises.specs.Calls.{Call, occ, sbe, undo, redo, Said, said}
 use Rattle.promises.specs.Marks.{left, logsMade}
 use Rattle.promises.specs.History.{replay, Run, did, next-run, run, AllOfBytes}
 use Rattle.promises.specs.laws.Stores.{length-padded, flat}
-use Rattle.promises.specs.laws.ByHistory.{standing, backs, journalOf, byHistory, Sane}
+use Rattle.promises.specs.laws.ByHistory.{standing, journalOf, byHistory, Sane}
 use Rattle.promises.specs.laws.Demand3.{ahead, Inv, next-inv}
 use Rattle.promises.specs.Lent.{Lent, lent, beside, carriedOver, lentRun}
 

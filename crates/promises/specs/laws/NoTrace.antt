@@ -1,6 +1,6 @@
 -- No trace: a change followed by its undo leaves the session as if nobody had tried, but for the next id; and later too. Assumes nothing.
 use Prim.Native.Nat.{ℕ, zero, suc, _+_, _≤_, _<_}
-use mathlib.Core.Bool.{true, false, cond}
+use mathlib.Core.Bool.{true, cond}
 use mathlib.Core.Logic.{⊎-elim}
 use mathlib.Core.Path.{_≡_, refl, sym, ap, ap₂, subst, _∙_}
 use mathlib.Core.List.{List, [], _∷_, map}
@@ -32,14 +32,14 @@ use Rattle.links.specs.laws.Logs.{unused-parts, passed}
 use Rattle.links.specs.laws.Made.{Made}
 use Rattle.promises.specs.Calls.{Call, undo, redo, said}
 use Rattle.promises.specs.Marks.{Mark, left, logsMade, undoAnswer}
-use Rattle.promises.specs.History.{keeps, adds, strikes, deed, marked, undosAfter, sinceAfter, replay, Run, did, next-run, OfBytes}
+use Rattle.promises.specs.History.{keeps, adds, strikes, deed, marked, sinceAfter, replay, Run, did, next-run, OfBytes}
 use Rattle.promises.specs.laws.Ids.{one-made}
-use Rattle.promises.specs.laws.Stores.{padded, paste-padded, flat, AllStored, flat-length}
+use Rattle.promises.specs.laws.Stores.{padded, paste-padded, flat, flat-length}
 use Rattle.promises.specs.laws.ByHistory.{standing, backs, byHistory, Kept, Sane, ahead-stored}
-use Rattle.promises.specs.laws.Marks.{off-change, left-change, strokes-change}
+use Rattle.promises.specs.laws.Marks.{off-change, left-change}
 use Rattle.promises.specs.laws.Steps.{undo-history, redo-history, undone-sane}
 use Rattle.promises.specs.laws.Demand3.{ahead, Inv, next-inv, undo-answer}
-use Rattle.promises.specs.laws.Aside.{Aside, as-before, leftAfter, madeAfter, left-after, made-after, not-redo}
+use Rattle.promises.specs.laws.Aside.{as-before, leftAfter, madeAfter, left-after, made-after, not-redo}
 use Rattle.promises.specs.laws.Struck.{off}
 use Rattle.journal.specs.declared.Way.the-variants.{After}
 use Rattle.promises.specs.laws.Shifted.{shiftedChange, shiftedEdit, shifted-low}

@@ -5,8 +5,8 @@ use mathlib.Core.Path.{_≡_, refl, sym, ap, subst, _∙_}
 use mathlib.Core.List.{List, [], _∷_}
 use native.Mathlib.Nat.{suc-add}
 use native.Mathlib.Omega.{arith}
-use borrow.Author.Tests.{ltb-false, leb-true}
-use lib.Dec.{ltb, eqb}
+use borrow.Author.Tests.{leb-true}
+use lib.Dec.{ltb}
 use lib.ListN.{length, take, drop, length-append}
 use Rattle.wire.specs.laws.Cases.{if-eq, else-b, else-eq}
 use Rattle.wire.specs.Wire.{pasted}
@@ -17,7 +17,6 @@ use Rattle.change.specs.declared.Edit.{Edit}
 use Rattle.formed.specs.Formed.{recordOk, nextOk}
 use Rattle.formed.specs.laws.Formed.{sound}
 use Rattle.entries.specs.Entries.{bodyLen, scan, readingOf}
-use Rattle.entries.specs.declared.Reading.{Reading}
 use Rattle.entries.specs.declared.Reading.the-variants.{Whole}
 use Rattle.journal.specs.Bytes.{entryBytes}
 use Rattle.journal.specs.Read.{gotOf}
@@ -25,9 +24,8 @@ use Rattle.journal.specs.Add.{entryLen, endOf, addedTo, cutFrom}
 use Rattle.journal.specs.Ways.{byWay, other}
 use Rattle.journal.specs.laws.Ends.{length-entry, end-at, added}
 use Rattle.journal.specs.declared.End.{End}
-use Rattle.journal.specs.declared.End.the-variants.{At, Full}
+use Rattle.journal.specs.declared.End.the-variants.{At}
 use Rattle.journal.specs.declared.Found.the-variants.{Good}
-use Rattle.journal.specs.declared.Got.{Got}
 use Rattle.journal.specs.declared.Way.{Way}
 use Rattle.journal.specs.declared.Way.the-variants.{Before, After}
 use Rattle.session.specs.Session.{wellFormed, withHeld, madeOf, carriedTo, carriedOf}
@@ -36,7 +34,8 @@ use Rattle.undo_call.specs.Undo.{storeOf, usedOf, Moved, notMoved, lessened, gr
 use Rattle.links.specs.laws.Made.{Made}
 use Rattle.links.specs.laws.Links.{Link, link, next-up}
 use Rattle.promises.specs.History.{replay}
-use Rattle.promises.specs.laws.Stores.{padded, length-padded, paste-padded, flat, pile, Stored, AllStored, length-one, flat-length, flat-some, newest-reads, newest-part, newest-cut}
+use Rattle.promises.specs.laws.Room.{end-room}
+use Rattle.promises.specs.laws.Stores.{padded, length-padded, paste-padded, flat, pile, AllStored, flat-length, flat-some, newest-reads, newest-part, newest-cut}
 use Rattle.promises.specs.laws.ByHistory.{standing, backs, journalOf, byHistory, Step, Sane, kept-up, backs-stored, ahead-stored, history-formed}
 
 -- a well-formed record's next id is 256 at most
@@ -47,16 +46,6 @@ next-small r n h = leb-true n 256 (passed (ltb n 1) _ (sound h .next))
     passed : (t b : Bool) → cond t false b ≡ true → b ≡ true
     passed true b h = absurd (true≢false (sym h))
     passed false b h = h
-
--- an entry that isn't refused has room
-pub end-room : (s : Session) (e b : Edit) (n used : ℕ) → carriedTo s e (endOf n used b) .full ≡ false → used + entryLen b ≤ n
-unfolding endOf carriedTo
-end-room s e b n used f = go (ltb n used) (ltb (n - used) (entryLen b)) refl refl f
-  where
-    go : (x y : Bool) → ltb n used ≡ x → ltb (n - used) (entryLen b) ≡ y → carriedTo s e (cond x Full (cond y Full (At (used + entryLen b)))) .full ≡ false → used + entryLen b ≤ n
-    go true y p q f = absurd (true≢false f)
-    go false true p q f = absurd (true≢false f)
-    go false false p q f = omega (arith, ltb-false n used p, ltb-false (n - used) (entryLen b) q)
 
 -- ---- one change more: what could be redone is gone
 

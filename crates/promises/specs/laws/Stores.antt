@@ -1,5 +1,5 @@
 -- A store of the entries of changes, the newest last: its bytes, how it reads, and that it is well formed. Assumes nothing.
-use Prim.Native.Nat.{ℕ, suc, _+_, _-_, _≤_}
+use Prim.Native.Nat.{ℕ, _+_, _-_, _≤_}
 use mathlib.Core.Bool.{true}
 use mathlib.Core.Path.{_≡_, refl, sym, ap, _∙_}
 use mathlib.Core.List.{List, [], _∷_, _++_, append-assoc}
@@ -9,9 +9,8 @@ use lib.Seq.{take-at, take-append-seam, drop-append-seam, drop-append-add, drop-
 use Rattle.wire.specs.Wire.{allAre, pasted}
 use Rattle.wire.specs.laws.Wire.{all-replicate}
 use Rattle.wire.specs.laws.Cases.{if-b, else-lt}
-use Rattle.change.specs.Change.{kindOf}
 use Rattle.change.specs.declared.Edit.{Edit}
-use Rattle.entries.specs.Entries.{Entry, bodyLen, bytesOf, written, between, scanFrom, scan, newestAt, readingOf}
+use Rattle.entries.specs.Entries.{Entry, bytesOf, written, between, scanFrom, scan, newestAt, readingOf}
 use Rattle.entries.specs.declared.Reading.the-variants.{Whole}
 use Rattle.entries.specs.laws.Entries.{read-append}
 use Rattle.journal.specs.Bytes.{entryFor, entryBytes}

@@ -8,7 +8,7 @@ use borrow.Author.Tests.{not-false}
 use lib.Dec.{eqb}
 use lib.ListN.{take, drop}
 use Rattle.record.specs.Record.{workedOf}
-use Rattle.change.specs.Change.{kindOf, putOf}
+use Rattle.change.specs.Change.{putOf}
 use Rattle.change.specs.declared.Change.{Change}
 use Rattle.change.specs.declared.Edit.{Edit}
 use Rattle.formed.specs.Formed.{recordOk}

@@ -92,11 +92,11 @@ fieldsOk r =
 
 -- ---- "thresholds obey the thermal rule"
 
--- two thresholds: "DVFS at most ERROR where neither is 0xFF" (document 02, b), which section 2.4.9 has as not defined. Document 01 had `inOrderFirst`
+-- two thresholds: "DVFS at most ERROR where neither is 0xFF" (document 02, b); section 2.4.9 has 0xFF as not defined. Document 01 compared it as a number
 unfoldable pub inOrder : ℕ → ℕ → Bool
 inOrder dvfs error = cond (eqb dvfs 0xFF) true (cond (eqb error 0xFF) true (leb dvfs error))
 
--- document 01's first rule, "DVFS at most ERROR (H)", 0xFF a number like any other: saves of the base version are judged by it (document 02, m)
+-- document 01's first rule, "DVFS at most ERROR (H)": sessions saved by the base version are judged by it (document 02, m)
 unfoldable pub inOrderFirst : ℕ → ℕ → Bool
 inOrderFirst dvfs error = leb dvfs error
 

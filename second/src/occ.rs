@@ -181,7 +181,7 @@ fn thermal(session: &Standing, data: &[u8]) -> Judged {
     for set in counted_sets(data, 4)?.chunks_exact(4) {
         let fru = usize::from(set[0]);
         need(seen.get(fru) == Some(&false), INVALID_DATA)?;
-        need(set[1] <= set[2], INVALID_DATA)?;
+        need(thresholds_fit(set[1], set[2]), INVALID_DATA)?;
         seen[fru] = true;
         table[3 * fru..3 * fru + 3].copy_from_slice(&set[1..]);
     }

@@ -72,7 +72,7 @@ pub struct WorkedOut {
     pub wanted: u8,
 }
 
-pub const FRESH_THERMAL: [u8; 9] = [0xFF; 9];
+pub const FRESH_THERMAL: [u8; 9] = [UNSET; 9];
 
 impl Record {
     pub fn fresh() -> Self {
@@ -203,9 +203,17 @@ pub fn throttles_fit(received: u8, throttles: &Throttles) -> bool {
     flag_fits(received) && absent_zero && (received == RECEIVED || throttles.presence == 0)
 }
 
-/// DVFS at most ERROR, for each FRU.
-pub fn thermal_rule(thermal: &[u8; 9]) -> bool {
-    thermal.chunks_exact(3).all(|fru| fru[0] <= fru[1])
+/// 0xFF: not defined.
+const UNSET: u8 = 0xFF;
+
+/// DVFS at most ERROR where both are defined.
+pub fn thresholds_fit(dvfs: u8, error: u8) -> bool {
+    dvfs == UNSET || error == UNSET || dvfs <= error
+}
+
+/// For each FRU.
+fn thermal_rule(thermal: &[u8; 9]) -> bool {
+    thermal.chunks_exact(3).all(|fru| thresholds_fit(fru[0], fru[1]))
 }
 
 pub fn thermal_fits(received: u8, thermal: &[u8; 9]) -> bool {

@@ -90,13 +90,22 @@ fieldsOk r =
     (cond (not (throttlesOk (r .received .throttles) (r .throttles))) false
     (areasOk (r .areas))))))
 
--- ---- "thresholds obey the thermal rule": DVFS at most ERROR (H), the first two of each FRU type's three bytes
+-- ---- "thresholds obey the thermal rule"
 
+-- two thresholds: "DVFS at most ERROR where neither is 0xFF" (document 02, b); section 2.4.9 has 0xFF as not defined. Document 01 compared it as a number
+unfoldable pub inOrder : ℕ → ℕ → Bool
+inOrder dvfs error = cond (eqb dvfs 0xFF) true (cond (eqb error 0xFF) true (leb dvfs error))
+
+-- document 01's first rule, "DVFS at most ERROR (H)": sessions saved by the base version are judged by it (document 02, m)
+unfoldable pub inOrderFirst : ℕ → ℕ → Bool
+inOrderFirst dvfs error = leb dvfs error
+
+-- the first two of each FRU type's three bytes
 unfoldable pub thermalRule : List ℕ → Bool
 thermalRule t =
-    cond (ltb (getD t 1 0) (getD t 0 0)) false
-    (cond (ltb (getD t 4 0) (getD t 3 0)) false
-    (leb (getD t 6 0) (getD t 7 0)))
+    cond (not (inOrder (getD t 0 0) (getD t 1 0))) false
+    (cond (not (inOrder (getD t 3 0) (getD t 4 0))) false
+    (inOrder (getD t 6 0) (getD t 7 0)))
 
 unfoldable pub thermalOk : ℕ → List ℕ → Bool
 thermalOk got t = cond (not (flagOk got)) false (cond (not (eqb got 0)) (thermalRule t) (allAre 0xFF t))

@@ -1,7 +1,7 @@
 // When a record is well formed, and which values a change may hold: ones that a well-formed record could.
 ghost use mathlib.Core.Path.{_≡_};
 ghost use lib.ListN.{drop};
-ghost use Rattle.formed.specs.Formed.{stateOk, flagOk, roleOk, capsOk, pairOk, absentZero, throttlesOk, deadmanOk, multipleOf128, inMemory, areaOk, areasOk, thermalRule, thermalOk, reasonOk, logOk, unused, logsOk, nextOk, fieldsOk, recordOk, clearedOk, madeOk, unresetOk};
+ghost use Rattle.formed.specs.Formed.{stateOk, flagOk, roleOk, capsOk, pairOk, absentZero, throttlesOk, deadmanOk, multipleOf128, inMemory, areaOk, areasOk, inOrder, thermalRule, thermalOk, reasonOk, logOk, unused, logsOk, nextOk, fieldsOk, recordOk, clearedOk, madeOk, unresetOk};
 use record::Area;
 use record::Areas;
 use record::Caps;
@@ -155,17 +155,30 @@ pub fn areas_ok(areas: Areas) -> bool
     area_ok(pass)
 }
 
-// DVFS at most ERROR, for each of the three FRU types.
+// Whether DVFS is at most ERROR; one that is 0xFF is not defined, and compared with nothing.
+pub fn in_order(dvfs: u8, error: u8) -> bool
+    ensures { λ x. ⌜ x ≡ inOrder dvfs error ⌝ }
+{
+    if dvfs == 0xFF {
+        return true;
+    }
+    if error == 0xFF {
+        return true;
+    }
+    dvfs <= error
+}
+
+// The thresholds of each of the three FRU types.
 fn thermal_rule(t: [u8; 9]) -> bool
     ensures { λ x. ⌜ x ≡ thermalRule t ⌝ }
 {
-    if t[1] < t[0] {
+    if !in_order(t[0], t[1]) {
         return false;
     }
-    if t[4] < t[3] {
+    if !in_order(t[3], t[4]) {
         return false;
     }
-    t[6] <= t[7]
+    in_order(t[6], t[7])
 }
 
 pub fn thermal_ok(got: u8, t: [u8; 9]) -> bool

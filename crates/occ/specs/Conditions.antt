@@ -57,7 +57,7 @@ SetsFormatOk width d rule =
 unfoldable pub ThrottlesFormatOk : List ℕ → Type 0
 ThrottlesFormatOk d = SetsFormatOk 12 d (SetsOk (getD d 2 0) (drop 3 d))
 
--- "0x21, 0x13 .. FRU 0 to 2, none twice, DVFS at most ERROR (H)"
+-- "0x21, 0x13 .. FRU 0 to 2, none twice, DVFS at most ERROR (H)", since document 02, b "where neither is 0xFF"
 unfoldable pub ThermalFormatOk : List ℕ → Type 0
 ThermalFormatOk d = SetsFormatOk 4 d (FrusOk (getD d 2 0) (drop 3 d))
 

@@ -16,6 +16,7 @@ pub mod AsIf
 pub mod WellFormed
 pub mod Fresh
 pub mod Examples
+pub mod Unset
 pub mod ComputedSession
 pub mod ComputedOcc
 pub mod ComputedSbe

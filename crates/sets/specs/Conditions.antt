@@ -1,10 +1,12 @@
 -- Document 01, formats 0x12 and 0x13: the conditions on the sets that follow the count, and the tables that they give.
 use Prim.Native.Nat.{ℕ, zero, suc, _+_, _*_, _^_, _<_, _≤_}
+use mathlib.Core.Bool.{true}
 use mathlib.Core.Path.{_≡_}
 use mathlib.Core.List.{List}
 use lib.ListN.{length, getD, take, drop, replicate}
 use Rattle.wire.specs.Conditions.{_and_}
 use Rattle.record.specs.declared.Throttles.{Throttles}
+use Rattle.formed.specs.Formed.{inOrder}
 use Rattle.sets.specs.Sets.{bitOf}
 
 -- the i-th part of w bytes
@@ -41,9 +43,9 @@ pub record SentPairs (n : ℕ) (l : List ℕ) (t : Throttles) : Type 0 where
   pub pairs : t .present < 2 ^ 16
   pub long : length (t .sets) ≡ 160
 
--- "FRU 0 to 2, none twice, DVFS at most ERROR (H)": four bytes a set, FRU, DVFS and ERROR first
+-- "FRU 0 to 2, none twice, DVFS at most ERROR (H)", since document 02, b "where neither is 0xFF": four bytes a set, FRU, DVFS and ERROR first
 abbrev pub InFrus : List ℕ → Type 0
-InFrus s = (getD s 0 0 ≤ 2) and (getD s 1 0 ≤ getD s 2 0)
+InFrus s = (getD s 0 0 ≤ 2) and (inOrder (getD s 1 0) (getD s 2 0) ≡ true)
 
 abbrev pub fruOf : List ℕ → ℕ
 fruOf s = getD s 0 0

@@ -6,6 +6,7 @@ use lib.ListN.{getD, take, drop}
 use lib.Dec.{ltb, eqb}
 use Rattle.wire.specs.Wire.{pasted}
 use Rattle.record.specs.Record.{noThrottles, noThermal}
+use Rattle.formed.specs.Formed.{inOrder}
 use Rattle.sets.specs.declared.Sets.{Sets}
 use Rattle.sets.specs.declared.Frus.{Frus}
 
@@ -39,7 +40,7 @@ unfoldable pub setsOf : ℕ → Sets → List ℕ → Sets
 setsOf zero t l = t
 setsOf (suc n) t l = setsOf n (oneSet t (take 12 l)) (drop 12 l)
 
--- ---- "0x21, 0x13: FRU 0 to 2, none twice, DVFS at most ERROR (H). FRU types not sent become 0xFF, 0xFF, 0xFF"
+-- ---- "0x21, 0x13: FRU 0 to 2, none twice, DVFS at most ERROR (H). FRU types not sent become 0xFF, 0xFF, 0xFF"; document 02, b: "where neither is 0xFF"
 
 unfoldable pub emptyFrus : Frus
 emptyFrus = record { ok = true; seen = 0; bytes = noThermal }
@@ -55,7 +56,7 @@ unfoldable pub oneFru : Frus → List ℕ → Frus
 oneFru t s =
     cond (not (t .ok)) t
     (cond (ltb 2 (getD s 0 0)) (badFrus t)
-    (cond (ltb (getD s 2 0) (getD s 1 0)) (badFrus t)
+    (cond (not (inOrder (getD s 1 0) (getD s 2 0))) (badFrus t)
     (cond (not (eqb (bitOf (t .seen) (getD s 0 0)) 0)) (badFrus t)
     (withFru t (getD s 0 0) (take 3 (drop 1 s))))))
 

@@ -138,7 +138,7 @@ fn with_fru(t: Frus, fru: usize, v: &[u8]) -> Frus
     }
 }
 
-// One set of four bytes: FRU 0 to 2, none twice, DVFS at most ERROR.
+// One set of four bytes: FRU 0 to 2, none twice, DVFS and ERROR in order.
 fn one_fru(t: Frus, s: &[u8]) -> Frus
     requires { ⌜ length (now s) ≡ 4 ⌝ }
     ensures { λ x. ⌜ x ≡ oneFru t (now (s .entry)) ⌝ }
@@ -150,7 +150,7 @@ fn one_fru(t: Frus, s: &[u8]) -> Frus
     if 2 < fru {
         return bad_frus(t);
     }
-    if s[2] < s[1] {
+    if !formed::in_order(s[1], s[2]) {
         return bad_frus(t);
     }
     let bit = POWERS[fru];

@@ -1,6 +1,6 @@
 //! OCC commands: right ones, ones with a single thing off, and long ones.
 
-use super::random::Random;
+use super::{random::Random, scene};
 use crate::occ::{self, checksum, command_packet};
 use crate::record::*;
 use crate::session::Session;
@@ -106,9 +106,8 @@ fn throttles(random: &mut Random) -> Vec<u8> {
 fn thermal_data(random: &mut Random, frus: &[usize]) -> Vec<u8> {
     let mut data = vec![FORMAT_THERMAL, occ::VERSION, frus.len() as u8];
     for fru in frus {
-        let (one, two) = (random.byte(), random.byte());
-        let two = if random.one_in(4) { one } else { two };
-        data.extend([*fru as u8, one.min(two), one.max(two), random.byte()]);
+        let [dvfs, error] = scene::thresholds(random);
+        data.extend([*fru as u8, dvfs, error, random.byte()]);
     }
     data
 }
@@ -223,7 +222,7 @@ fn repeat_a_set(random: &mut Random, data: &mut Vec<u8>, length: usize, key: usi
     data.copy_within(from..from + key, to);
 }
 
-/// FRU 3, a FRU twice, DVFS one over ERROR, a wrong count, a count of 0, a wrong version; or an edge.
+/// FRU 3, a FRU twice, DVFS over ERROR, a wrong count, a count of 0, a wrong version; or an edge, an unset one too.
 fn off_thermal(random: &mut Random) -> Vec<u8> {
     let count = random.between(1, 3);
     let frus = random.distinct(count, 3);
@@ -232,7 +231,13 @@ fn off_thermal(random: &mut Random) -> Vec<u8> {
     match random.below(10) {
         0 => data[set] = 3,
         1 => data[set] = random.pick(&[2, 4, 0x80, 0xFF]),
-        2 | 3 => data[set + 1] = data[set + 2].saturating_add(1),
+        2 => data[set + 1] = data[set + 2].saturating_add(1),
+        3 => data[set + 1..set + 3].copy_from_slice(&random.pick(&[
+            [0xFE, 0xFD],
+            [0xFE, 0],
+            [0xFF, 0xFE],
+            [1, 0],
+        ])),
         4 => data[set + 2] = data[set + 1].saturating_sub(1),
         5 => repeat_a_set(random, &mut data, 4, 1),
         6 => data[1] = random.pick(&[0x00, 0x0F, 0x11, 0x20]),

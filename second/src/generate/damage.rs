@@ -215,15 +215,16 @@ fn crossed_caps(random: &mut Random) -> Caps {
 
 fn one_threshold(random: &mut Random) -> [u8; 9] {
     let mut thermal = FRESH_THERMAL;
-    thermal[random.pick(&[0, 2, 3, 5, 6, 8])] = 0xFE;
+    thermal[random.below(9)] = random.pick(&[0xFE, 0]);
     thermal
 }
 
 fn crossed_thermal(random: &mut Random) -> [u8; 9] {
     let mut thermal = scene::thermal(random);
     let fru = 3 * random.below(3);
-    let error = random.byte().min(254);
-    thermal[fru..fru + 2].copy_from_slice(&[error + 1, error]);
+    let error = random.byte().min(0xFD);
+    let dvfs = random.pick(&[error + 1, 0xFE]);
+    thermal[fru..fru + 2].copy_from_slice(&[dvfs, error]);
     thermal
 }
 

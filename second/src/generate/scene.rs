@@ -11,12 +11,26 @@ pub fn caps(random: &mut Random) -> Caps {
     Caps { minimum: one.min(two), maximum: one.max(two), oversubscription: random.edge_u16() }
 }
 
+/// DVFS and ERROR in order; now and then either is unset, or both stand at the last number.
+pub fn thresholds(random: &mut Random) -> [u8; 2] {
+    let (one, two) = (random.byte(), random.byte());
+    let (low, high) = (one.min(two), one.max(two));
+    match random.below(10) {
+        0 | 1 => [0xFF, one],
+        2 => [one, 0xFF],
+        3 => [0xFF, random.pick(&[0, 0xFE, 0xFF])],
+        4 => random.pick(&[[0xFE, 0xFE], [0xFE, 0xFF], [0, 0], [0, 0xFE]]),
+        5 => [one, one],
+        _ => [low, high],
+    }
+}
+
 pub fn thermal(random: &mut Random) -> [u8; 9] {
     let mut bytes = FRESH_THERMAL;
     for fru in bytes.chunks_exact_mut(3) {
         if random.percent(70) {
-            let (one, two) = (random.byte(), random.byte());
-            fru.copy_from_slice(&[one.min(two), one.max(two), random.byte()]);
+            fru[..2].copy_from_slice(&thresholds(random));
+            fru[2] = random.byte();
         }
     }
     bytes

@@ -2,7 +2,7 @@
 use mathlib.Core.Path.{refl}
 use native.Mathlib.Omega.{arith}
 use borrow.Author.Needs.{needs}
-use Rattle.wire.specs.laws.Cases.{else-b, else-lt, if-b, if-lt}
+use Rattle.wire.specs.laws.Cases.{else-b, else-lt, else-not, if-b, if-lt, if-not}
 use Rattle.sets.specs.Sets.{oneFru}
 use Rattle.sets.proofs.Stored.{fru-below, bit-clear, if-bit, else-bit}
 use Rattle.sets.proofs.Powers.{power-positive}
@@ -26,18 +26,25 @@ returns-2 : tie.Need-returns-2
 unfolding oneFru
 returns-2 c = else-b _ _ (c .before .before .if1 .left) (if-lt _ _ (c .before .if2 .taken) (c .bad-frus .ensures))
 
-shared-slice-read-if3 : tie.Need-shared-slice-read-if3
-shared-slice-read-if3 c = search needs
+shared-slice-read-in-order : tie.Need-shared-slice-read-in-order
+shared-slice-read-in-order c = search needs
 
-shared-slice-read-if3-2 : tie.Need-shared-slice-read-if3-2
-shared-slice-read-if3-2 c = search needs
+shared-slice-read-in-order-2 : tie.Need-shared-slice-read-in-order-2
+shared-slice-read-in-order-2 c = search needs
+
+in-order-requires : tie.Need-in-order-requires
+in-order-requires c κs = search needs
 
 bad-frus-requires-2 : tie.Need-bad-frus-requires-2
 bad-frus-requires-2 c κs = search needs
 
 returns-3 : tie.Need-returns-3
 unfolding oneFru
-returns-3 c = else-b _ _ (c .before .before .before .before .before .if1 .left) (else-lt _ _ (c .before .before .before .before .if2 .left) (if-lt _ _ (c .before .if3 .taken) (c .bad-frus2 .ensures)))
+returns-3 c =
+    let fru = c .before .before .before .before .before in
+    else-b _ _ (fru .before .if1 .left)
+    (else-lt _ _ (fru .if2 .left)
+    (if-not _ _ (c .before .before .in-order .ensures) (c .before .if3 .taken) (c .bad-frus2 .ensures)))
 
 mul-bit : tie.Need-mul-bit
 mul-bit c = search needs
@@ -46,7 +53,7 @@ array-read-bit : tie.Need-array-read-bit
 array-read-bit c = search needs
 
 div-if4 : tie.Need-div-if4
-div-if4 c = power-positive _ (fru-below _ (c .before .before .before .before .if2 .left))
+div-if4 c = power-positive _ (fru-below _ (c .before .before .before .before .before .if2 .left))
 
 bad-frus-requires-3 : tie.Need-bad-frus-requires-3
 bad-frus-requires-3 c κs = search needs
@@ -55,10 +62,10 @@ returns-4 : tie.Need-returns-4
 unfolding oneFru
 returns-4 c =
     let dvfs = c .before .before .before in
-    let fru = dvfs .before .before .before in
+    let fru = dvfs .before .before .before .before in
     else-b _ _ (fru .before .if1 .left)
     (else-lt _ _ (fru .if2 .left)
-    (else-lt _ _ (dvfs .if3 .left)
+    (else-not _ _ (dvfs .before .in-order .ensures) (dvfs .if3 .left)
     (if-bit _ _ (fru-below _ (fru .if2 .left)) _ _ (c .before .if4 .taken) (c .bad-frus3 .ensures))))
 
 sub-with-fru : tie.Need-sub-with-fru
@@ -71,16 +78,16 @@ part-with-fru-end : tie.Need-part-with-fru-end
 part-with-fru-end c = search needs
 
 with-fru-requires : tie.Need-with-fru-requires
-with-fru-requires c κs = (search needs, search needs, bit-clear _ _ (fru-below _ (c .before .before .before .before .before .before .if2 .left)) (c .before .if4 .left))
+with-fru-requires c κs = (search needs, search needs, bit-clear _ _ (fru-below _ (c .before .before .before .before .before .before .before .if2 .left)) (c .before .if4 .left))
 
 returns-5 : tie.Need-returns-5
 unfolding oneFru
 returns-5 c =
     let dvfs = c .before .before .before .before in
-    let fru = dvfs .before .before .before in
+    let fru = dvfs .before .before .before .before in
     else-b _ _ (fru .before .if1 .left)
     (else-lt _ _ (fru .if2 .left)
-    (else-lt _ _ (dvfs .if3 .left)
+    (else-not _ _ (dvfs .before .in-order .ensures) (dvfs .if3 .left)
     (else-bit _ _ (fru-below _ (fru .if2 .left)) _ _ (c .before .before .if4 .left) (c .with-fru .ensures))))
 
 pub one-fru-spec : {M : Type 1} → statement M
@@ -92,8 +99,9 @@ one-fru-spec =
     returns
     bad-frus-requires
     returns-2
-    shared-slice-read-if3
-    shared-slice-read-if3-2
+    shared-slice-read-in-order
+    shared-slice-read-in-order-2
+    in-order-requires
     bad-frus-requires-2
     returns-3
     mul-bit

@@ -3,18 +3,20 @@ use Prim.Native.Nat.{ℕ, zero, suc, _+_, _-_, _*_, _/_, _%_, _^_, _<_, _≤_}
 use mathlib.Core.Bool.{true, not}
 use mathlib.Core.Path.{_≡_, refl, sym, ap, subst, _∙_}
 use mathlib.Core.List.{List, [], _∷_, _++_, append-assoc}
+use mathlib.Core.Logic.{inl, inr, ⊎-elim}
 use native.Mathlib.Nat.{two-pow-succ, pow-succ', div-div-eq-div-mul, div-one, add-assoc, not-suc-le-zero, le-of-suc-le-suc}
 use native.Mathlib.Omega.{arith}
-use borrow.Author.Tests.{ltb-false, eqb-true, not-false, le-leb}
+use borrow.Author.Tests.{ltb-false, eqb-true, not-false}
 use lib.Dec.{ltb, eqb}
 use lib.ListN.{length, getD, take, drop, length-take, length-drop}
 use lib.Seq.{take-add, take-at, drop-at, drop-drop, drop-append-add, length-take-le}
 use Rattle.wire.specs.Wire.{pasted, allAre}
-use Rattle.wire.specs.laws.Cases.{if-eq, else-lt, cond-cases}
+use Rattle.wire.specs.laws.Cases.{if-eq, cond-cases}
 use Rattle.wire.specs.laws.Wire.{length-pasted}
 use Rattle.record.specs.declared.Throttles.{Throttles}
-use Rattle.formed.specs.Formed.{pairOk, pairsOk, absentZero, thermalRule}
+use Rattle.formed.specs.Formed.{pairOk, pairsOk, absentZero, inOrder, thermalRule}
 use Rattle.formed.specs.laws.Formed.{both-hold, hold-both}
+use Rattle.formed.specs.laws.Thresholds.{in-order-exactly}
 use Rattle.sets.specs.declared.Sets.{Sets}
 use Rattle.sets.specs.declared.Frus.{Frus}
 use Rattle.sets.specs.Sets.{bitOf, emptySets, badSets, withPair, oneSet, setsOf, emptyFrus, badFrus, withFru, oneFru, frusOf}
@@ -146,14 +148,14 @@ sets-formed n l =
 
 -- ---- thermal thresholds
 
--- n times three bytes, the first at most the second
+-- n times three bytes, the first two in order
 data Triples : ℕ → List ℕ → Type 0 where
   none : Triples 0 []
-  next : {a b c n : ℕ} {l : List ℕ} → a ≤ b → Triples n l → Triples (suc n) (a ∷ b ∷ c ∷ l)
+  next : {a b c n : ℕ} {l : List ℕ} → inOrder a b ≡ true → Triples n l → Triples (suc n) (a ∷ b ∷ c ∷ l)
 
 -- v goes over any three bytes
 abbrev Over : List ℕ → Type 0
-Over v = (a b c n : ℕ) (l : List ℕ) → a ≤ b → Triples n l → Triples (suc n) (pasted 0 v (a ∷ b ∷ c ∷ l))
+Over v = (a b c n : ℕ) (l : List ℕ) → inOrder a b ≡ true → Triples n l → Triples (suc n) (pasted 0 v (a ∷ b ∷ c ∷ l))
 
 triples-with : {n : ℕ} {l : List ℕ} (p : ℕ) (v : List ℕ) → Over v → p < n → Triples n l → Triples n (pasted (p * 3) v l)
 triples-with p v o h none = absurd (not-suc-le-zero h)
@@ -162,11 +164,17 @@ triples-with (suc p) v o h (next {a = a} {b = b} {c = c} {l = l} e t) =
     let place : suc p * 3 ≡ 3 + p * 3 = omega arith in
     rw (place, paste-past) (next e (triples-with p v o (le-of-suc-le-suc h) t))
 
-set-over : (s : List ℕ) → getD s 1 0 ≤ getD s 2 0 → Over (take 3 (drop 1 s))
+-- in order with 0, in order with all
+zero-over : (x b : ℕ) → inOrder x 0 ≡ true → inOrder x b ≡ true
+zero-over x b h =
+    in-order-exactly x b .1
+    (⊎-elim inl (⊎-elim (λ e. absurd (omega (arith, e))) (λ k. inr (inr (omega (arith, k))))) (in-order-exactly x 0 .0 h))
+
+set-over : (s : List ℕ) → inOrder (getD s 1 0) (getD s 2 0) ≡ true → Over (take 3 (drop 1 s))
 unfolding pasted
 set-over [] h a b c n l e t = next e t
 set-over (f ∷ []) h a b c n l e t = next e t
-set-over (f ∷ x ∷ []) h a b c n l e t = let k : x ≤ b = omega arith in next k t
+set-over (f ∷ x ∷ []) h a b c n l e t = next (zero-over x b h) t
 set-over (f ∷ x ∷ y ∷ []) h a b c n l e t = next h t
 set-over (f ∷ x ∷ y ∷ z ∷ s) h a b c n l e t = next h t
 
@@ -180,21 +188,21 @@ fru-keeps t s f =
     let fru = getD s 0 0 in
     cond-cases Ruled (not (t .ok)) (λ _. f)
     (λ _. cond-cases Ruled (ltb 2 fru) (λ _. f)
-    (λ a. cond-cases Ruled (ltb (getD s 2 0) (getD s 1 0)) (λ _. f)
+    (λ a. cond-cases Ruled (not (inOrder (getD s 1 0) (getD s 2 0))) (λ _. f)
     (λ b. cond-cases Ruled (not (eqb (bitOf (t .seen) fru) 0)) (λ _. f)
     (λ _.
     let h : fru ≤ 2 = ltb-false 2 fru a in
     let k : fru < 3 = omega arith in
-    triples-with fru (take 3 (drop 1 s)) (set-over s (ltb-false (getD s 2 0) (getD s 1 0) b)) k f))))
+    triples-with fru (take 3 (drop 1 s)) (set-over s (not-false _ b)) k f))))
 
 triples-rule : {l : List ℕ} → Triples 3 l → (thermalRule l ≡ true) × (length l ≡ 9)
 unfolding thermalRule
-triples-rule (next p (next q (next r none))) = (sym (else-lt _ _ p (else-lt _ _ q (sym (le-leb _ _ r)))), refl)
+triples-rule (next p (next q (next r none))) = (hold-both p (hold-both q r), refl)
 
 -- whatever was read
 pub frus-formed : (n : ℕ) (l : List ℕ) → (thermalRule (frusOf n emptyFrus l .bytes) ≡ true) × (length (frusOf n emptyFrus l .bytes) ≡ 9)
-unfolding emptyFrus
+unfolding emptyFrus inOrder
 frus-formed n l = triples-rule (parts-keep Ruled frus-parted fru-keeps n emptyFrus l start)
   where
     start : Ruled emptyFrus
-    start = let h : 255 ≤ 255 = omega arith in next h (next h (next h none))
+    start = next refl (next refl (next refl none))

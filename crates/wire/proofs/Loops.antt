@@ -34,6 +34,25 @@ sum-more l i a r p q = q ∙ ap (λ (k : ℕ). (k + getD l i 0) % 65536) p ∙ m
 pub sum-all : (l : List ℕ) (i : ℕ) → i ≡ length l → packetSum (take i l) ≡ packetSum l
 sum-all l i e = rw (e, take-length)
 
+-- ---- eight_parts: each part of n bytes has a sum of its own
+
+-- one byte more in the part from m on
+pub part-more : (s : List ℕ) (m i a r : ℕ) → a ≡ packetSum (take i (drop m s)) → r ≡ (a + getD s (m + i) 0) % 65536 → r ≡ packetSum (take (i + 1) (drop m s))
+part-more s m i a r p q = sum-more (drop m s) i a r p (q ∙ ap (λ (x : ℕ). (a + x) % 65536) (sym (getD-drop m s i 0)))
+
+sum-append : (xs ys : List ℕ) → sumOf (xs ++ ys) ≡ sumOf xs + sumOf ys
+unfolding sumOf
+sum-append [] ys = omega arith
+sum-append (x ∷ xs) ys = omega (arith, sum-append xs ys)
+
+-- the part from m on joins the bytes before it
+pub part-joins : (s : List ℕ) (m n k x y r : ℕ) → m + n ≡ k → x ≡ packetSum (take m s) → y ≡ packetSum (take n (drop m s)) → r ≡ (x + y) % 65536 → r ≡ packetSum (take k s)
+unfolding packetSum
+part-joins s m n k x y r e p q t =
+    let whole : sumOf (take k s) ≡ sumOf (take m s) + sumOf (take n (drop m s)) =
+        ap (λ (j : ℕ). sumOf (take j s)) (sym e) ∙ ap sumOf (take-add m n s) ∙ sum-append (take m s) (take n (drop m s)) in
+    omega (arith, p, q, t, whole)
+
 -- ---- be: the first i bytes are read
 
 pub be-none : (l : List ℕ) → beNat (take 0 l) ≡ 0

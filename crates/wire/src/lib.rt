@@ -1,7 +1,7 @@
 // Bytes on the wire: the packet sum, big-endian numbers of any width, and parts of lent buffers.
 ghost use mathlib.Core.Bool.{cond, not, false};
 ghost use mathlib.Core.Path.{_≡_};
-ghost use Prim.Native.Nat.{_+_, _%_, _^_, _≤_, _<_};
+ghost use Prim.Native.Nat.{_+_, _*_, _%_, _^_, _≤_, _<_};
 ghost use lib.Dec.{ltb, eqb};
 ghost use lib.ListN.{length, take, drop, replicate};
 ghost use Rattle.wire.specs.Wire.{packetSum, beNat, toBE, pasted, allAre};
@@ -25,12 +25,50 @@ fn low8(v: u64) -> u8
     (v % 256) as u8
 }
 
-// The two-byte sum of every byte of `s`, ignoring overflow.
+// Two such sums together.
+fn joined(a: u16, b: u16) -> u16
+    ensures { λ r. ⌜ r ≡ (a + b) % 65536 ⌝ }
+{
+    std::num::wrapping_add_u16(a, b)
+}
+
+// The sum of eight parts of `n` bytes, one after the other: a byte of each at a turn, each part with a sum of its own. So every part is read
+// in order, and no sum waits for another.
+fn eight_parts(s: &[u8], n: usize) -> u16
+    requires { ⌜ 8 * n ≤ length (now s) ⌝ }
+    ensures { λ r. ⌜ r ≡ packetSum (take (8 * n) (now (s .entry))) ⌝ }
+{
+    let mut a: u16 = 0;
+    let mut b: u16 = 0;
+    let mut c: u16 = 0;
+    let mut d: u16 = 0;
+    let mut e: u16 = 0;
+    let mut f: u16 = 0;
+    let mut g: u16 = 0;
+    let mut h: u16 = 0;
+    let mut i = 0;
+    while i < n {
+        a = plus(a, s[i]);
+        b = plus(b, s[n + i]);
+        c = plus(c, s[2 * n + i]);
+        d = plus(d, s[3 * n + i]);
+        e = plus(e, s[4 * n + i]);
+        f = plus(f, s[5 * n + i]);
+        g = plus(g, s[6 * n + i]);
+        h = plus(h, s[7 * n + i]);
+        i += 1;
+    }
+    let front = joined(joined(joined(a, b), c), d);
+    joined(joined(joined(joined(front, e), f), g), h)
+}
+
+// The two-byte sum of every byte of `s`, ignoring overflow: eight at a turn, the leftovers after.
 pub fn sum(s: &[u8]) -> u16
     ensures { λ r. ⌜ r ≡ packetSum (now (s .entry)) ⌝ }
 {
-    let mut acc: u16 = 0;
-    let mut i = 0;
+    let n = s.len() / 8;
+    let mut acc = eight_parts(s, n);
+    let mut i = 8 * n;
     while i < s.len() {
         acc = plus(acc, s[i]);
         i += 1;

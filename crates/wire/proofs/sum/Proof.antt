@@ -1,5 +1,5 @@
 use Rattle.wire.specs.Wire.{packetSum}
-use Rattle.wire.proofs.Loops.{sum-none, sum-more, sum-all}
+use Rattle.wire.proofs.Loops.{sum-more, sum-all}
 use mathlib.Core.Path.{_≡_, sym, _∙_}
 use native.Mathlib.Omega.{arith}
 use borrow.Author.Needs.{needs}
@@ -9,13 +9,19 @@ use Rattle.wire.proofs.sum.Statement.{statement}
 use Rattle.wire.proofs.sum.Tie as tie
 
 abbrev Inv-loop : tie.InvT-loop
-Inv-loop s acc₀ i₀ acc i = (i ≤ length s) × (acc ≡ packetSum (take i s))
+Inv-loop s n acc₀ i₀ acc i = (i ≤ length s) × (acc ≡ packetSum (take i s))
 
 abbrev μ-loop : tie.MeasureT-loop
-μ-loop s acc₀ i₀ acc i = length s - i
+μ-loop s n acc₀ i₀ acc i = length s - i
+
+eight-parts-requires : tie.Need-eight-parts-requires Inv-loop μ-loop
+eight-parts-requires c κs = search needs
+
+mul-i : tie.Need-mul-i Inv-loop μ-loop
+mul-i c = search needs
 
 loop-holds : tie.Need-loop-holds Inv-loop μ-loop
-loop-holds c = (search needs, sym sum-none)
+loop-holds c = (search needs, c .eight-parts .ensures)
 
 shared-slice-read-plus : tie.Need-shared-slice-read-plus Inv-loop μ-loop
 shared-slice-read-plus c = search needs
@@ -30,11 +36,10 @@ loop-less : tie.Need-loop-less Inv-loop μ-loop
 loop-less c = search needs
 
 loop-again : tie.Need-loop-again Inv-loop μ-loop
-loop-again c = let p = c .before .before .before in
-    (search needs, sum-more _ (p .loop .i) _ _ (p .loop .inv .1) (c .plus .ensures))
+loop-again c = (search needs, sum-more _ (c .before .before .before .loop .i) _ _ (c .before .before .before .loop .inv .1) (c .plus .ensures))
 
 returns : tie.Need-returns Inv-loop μ-loop
-returns c = c .before .loop .inv .1 ∙ sum-all (c .before .before .before .args .s .now) (c .before .loop .i) (omega arith)
+returns c = c .before .loop .inv .1 ∙ sum-all (c .before .before .before .before .args .s .now) (c .before .loop .i) (omega arith)
 
 pub sum-spec : {M : Type 1} → statement M
 sum-spec =
@@ -42,6 +47,8 @@ sum-spec =
     (tie.spec
     Inv-loop
     μ-loop
+    eight-parts-requires
+    mul-i
     loop-holds
     shared-slice-read-plus
     plus-requires

@@ -62,18 +62,62 @@ fn eight_parts(s: &[u8], n: usize) -> u16
     joined(joined(joined(joined(front, e), f), g), h)
 }
 
-// The two-byte sum of every byte of `s`, ignoring overflow: eight at a turn, the leftovers after.
-pub fn sum(s: &[u8]) -> u16
+// The sum of `n` rows of eight bytes, a row at a turn: for fewer bytes than eight vectors.
+fn eight_in_row(s: &[u8], n: usize) -> u16
+    requires { ⌜ 8 * n ≤ length (now s) ⌝ }
+    ensures { λ r. ⌜ r ≡ packetSum (take (8 * n) (now (s .entry))) ⌝ }
+{
+    let mut a: u16 = 0;
+    let mut b: u16 = 0;
+    let mut c: u16 = 0;
+    let mut d: u16 = 0;
+    let mut e: u16 = 0;
+    let mut f: u16 = 0;
+    let mut g: u16 = 0;
+    let mut h: u16 = 0;
+    let mut k = 0;
+    while k < n {
+        let at = 8 * k;
+        a = plus(a, s[at]);
+        b = plus(b, s[at + 1]);
+        c = plus(c, s[at + 2]);
+        d = plus(d, s[at + 3]);
+        e = plus(e, s[at + 4]);
+        f = plus(f, s[at + 5]);
+        g = plus(g, s[at + 6]);
+        h = plus(h, s[at + 7]);
+        k += 1;
+    }
+    let front = joined(joined(joined(a, b), c), d);
+    joined(joined(joined(joined(front, e), f), g), h)
+}
+
+// The sum of all of `s`, in rows, then the fewer than eight leftovers.
+fn rows_and_leftovers(s: &[u8]) -> u16
     ensures { λ r. ⌜ r ≡ packetSum (now (s .entry)) ⌝ }
 {
     let n = s.len() / 8;
-    let mut acc = eight_parts(s, n);
+    let mut acc = eight_in_row(s, n);
     let mut i = 8 * n;
     while i < s.len() {
         acc = plus(acc, s[i]);
         i += 1;
     }
     acc
+}
+
+// The two-byte sum of every byte of `s`, ignoring overflow: eight at a turn, the leftovers after. A long packet is taken by parts of whole
+// vectors first.
+pub fn sum(s: &[u8]) -> u16
+    ensures { λ r. ⌜ r ≡ packetSum (now (s .entry)) ⌝ }
+{
+    let all = s.len();
+    if all < 128 {
+        return rows_and_leftovers(s);
+    }
+    let n = all / 128 * 16;
+    let end = 8 * n;
+    joined(eight_parts(s, n), rows_and_leftovers(&s[end..]))
 }
 
 // The number that the `n` bytes from `at` on spell.

@@ -50,7 +50,7 @@ pub part-joins : (s : List ℕ) (m n k x y r : ℕ) → m + n ≡ k → x ≡ pa
 unfolding packetSum
 part-joins s m n k x y r e p q t =
     let whole : sumOf (take k s) ≡ sumOf (take m s) + sumOf (take n (drop m s)) =
-        ap (λ (j : ℕ). sumOf (take j s)) (sym e) ∙ ap sumOf (take-add m n s) ∙ sum-append (take m s) (take n (drop m s)) in
+    ap (λ (j : ℕ). sumOf (take j s)) (sym e) ∙ ap sumOf (take-add m n s) ∙ sum-append (take m s) (take n (drop m s)) in
     omega (arith, p, q, t, whole)
 
 -- ---- eight_in_row: the bytes before the row are in the eight sums together
@@ -68,7 +68,7 @@ one-takes : (s : List ℕ) (i j a a' u t t' : ℕ) → i + 1 ≡ j → t ≡ a +
 one-takes s i j a a' u t t' e old new z q =
     let b = getD s i 0 in
     let more : t' % 65536 ≡ (t + b) % 65536 =
-        ap (λ (k : ℕ). k % 65536) new ∙ sums-join (a + b) a' u ((a' + u) % 65536) q refl ∙ ap (λ (k : ℕ). k % 65536) (omega arith) in
+    ap (λ (k : ℕ). k % 65536) new ∙ sums-join (a + b) a' u ((a' + u) % 65536) q refl ∙ ap (λ (k : ℕ). k % 65536) (omega arith) in
     sum-more s i (t % 65536) (t' % 65536) z (more ∙ sym (mod-add-mod t 65536 b)) ∙ ap (λ (k : ℕ). packetSum (take k s)) e
 
 pub row-more : (s : List ℕ) (k a b c d e f g h a' b' c' d' e' f' g' h' : ℕ) → (a + b + c + d + e + f + g + h) % 65536 ≡ packetSum (take (8 * k) s)

@@ -25,6 +25,19 @@ fn low8(v: u64) -> u8
     (v % 256) as u8
 }
 
+// For the fewer than eight leftovers.
+fn one_by_one(s: &[u8]) -> u16
+    ensures { λ r. ⌜ r ≡ packetSum (now (s .entry)) ⌝ }
+{
+    let mut acc: u16 = 0;
+    let mut i = 0;
+    while i < s.len() {
+        acc = plus(acc, s[i]);
+        i += 1;
+    }
+    acc
+}
+
 // Two such sums together.
 fn joined(a: u16, b: u16) -> u16
     ensures { λ r. ⌜ r ≡ (a + b) % 65536 ⌝ }
@@ -92,18 +105,12 @@ fn eight_in_row(s: &[u8], n: usize) -> u16
     joined(joined(joined(joined(front, e), f), g), h)
 }
 
-// The sum of all of `s`, in rows, then the fewer than eight leftovers.
 fn rows_and_leftovers(s: &[u8]) -> u16
     ensures { λ r. ⌜ r ≡ packetSum (now (s .entry)) ⌝ }
 {
     let n = s.len() / 8;
-    let mut acc = eight_in_row(s, n);
-    let mut i = 8 * n;
-    while i < s.len() {
-        acc = plus(acc, s[i]);
-        i += 1;
-    }
-    acc
+    let end = 8 * n;
+    joined(eight_in_row(s, n), one_by_one(&s[end..]))
 }
 
 // The two-byte sum of every byte of `s`, ignoring overflow: eight at a turn, the leftovers after. A long packet is taken by parts of whole

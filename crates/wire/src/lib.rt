@@ -25,7 +25,7 @@ fn low8(v: u64) -> u8
     (v % 256) as u8
 }
 
-// For the fewer than eight leftovers.
+// The sum of the leftovers, fewer than eight bytes.
 fn one_by_one(s: &[u8]) -> u16
     ensures { λ r. ⌜ r ≡ packetSum (now (s .entry)) ⌝ }
 {
@@ -75,7 +75,7 @@ fn eight_parts(s: &[u8], n: usize) -> u16
     joined(joined(joined(joined(front, e), f), g), h)
 }
 
-// The sum of `n` rows of eight bytes, a row at a turn: for fewer bytes than eight vectors.
+// The sum of `n` rows of eight bytes, a row at a turn: for what is too short for eight parts of 16 bytes.
 fn eight_in_row(s: &[u8], n: usize) -> u16
     requires { ⌜ 8 * n ≤ length (now s) ⌝ }
     ensures { λ r. ⌜ r ≡ packetSum (take (8 * n) (now (s .entry))) ⌝ }
@@ -105,6 +105,7 @@ fn eight_in_row(s: &[u8], n: usize) -> u16
     joined(joined(joined(joined(front, e), f), g), h)
 }
 
+// The sum of a few rows, then of the leftovers.
 fn rows_and_leftovers(s: &[u8]) -> u16
     ensures { λ r. ⌜ r ≡ packetSum (now (s .entry)) ⌝ }
 {
@@ -113,8 +114,8 @@ fn rows_and_leftovers(s: &[u8]) -> u16
     joined(eight_in_row(s, n), one_by_one(&s[end..]))
 }
 
-// The two-byte sum of every byte of `s`, ignoring overflow: eight at a turn, the leftovers after. A long packet is taken by parts of whole
-// vectors first.
+// The two-byte sum of every byte of `s`, ignoring overflow: eight at a turn, the leftovers after. A long packet is taken by eight parts first,
+// each of whole vectors of 16 bytes.
 pub fn sum(s: &[u8]) -> u16
     ensures { λ r. ⌜ r ≡ packetSum (now (s .entry)) ⌝ }
 {

@@ -1,9 +1,9 @@
 use Rattle.wire.specs.Wire.{packetSum}
 use Rattle.wire.proofs.Loops.{row-none, row-more, sums-join, rows-all}
-use mathlib.Core.Path.{_≡_, sym, _∙_}
+use mathlib.Core.Path.{_≡_, _∙_}
 use native.Mathlib.Omega.{arith}
 use borrow.Author.Needs.{needs}
-use lib.ListN.{length, take}
+use lib.ListN.{take}
 use Prim.Native.Nat.{_+_, _*_, _%_, _≤_, _-_}
 use Rattle.wire.proofs.eight_in_row.Statement.{statement}
 use Rattle.wire.proofs.eight_in_row.Tie as tie

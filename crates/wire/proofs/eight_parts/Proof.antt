@@ -3,8 +3,8 @@ use Rattle.wire.proofs.Loops.{sum-none, sum-more, part-more, part-joins
 use mathlib.Core.Path.{_≡_, sym, ap, _∙_}
 use native.Mathlib.Omega.{arith}
 use borrow.Author.Needs.{needs}
-use lib.ListN.{length, take, drop}
-use Prim.Native.Nat.{ℕ, _+_, _*_, _≤_, _-_}
+use lib.ListN.{take, drop}
+use Prim.Native.Nat.{ℕ, _*_, _≤_, _-_}
 use Rattle.wire.proofs.eight_parts.Statement.{statement}
 use Rattle.wire.proofs.eight_parts.Tie as tie
 

@@ -1,5 +1,4 @@
 use Rattle.wire.proofs.Loops.{rest-joins}
-use native.Mathlib.Omega.{arith}
 use borrow.Author.Needs.{needs}
 use Rattle.wire.proofs.sum.Statement.{statement}
 use Rattle.wire.proofs.sum.Tie as tie

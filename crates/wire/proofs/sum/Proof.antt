@@ -1,51 +1,53 @@
-use Rattle.wire.specs.Wire.{packetSum}
-use Rattle.wire.proofs.Loops.{sum-none, sum-more, sum-all}
-use mathlib.Core.Path.{_≡_, sym, _∙_}
-use native.Mathlib.Omega.{arith}
+use Rattle.wire.proofs.Loops.{rest-joins}
 use borrow.Author.Needs.{needs}
-use lib.ListN.{length, take}
-use Prim.Native.Nat.{_≤_, _-_}
 use Rattle.wire.proofs.sum.Statement.{statement}
 use Rattle.wire.proofs.sum.Tie as tie
 
-abbrev Inv-loop : tie.InvT-loop
-Inv-loop s acc₀ i₀ acc i = (i ≤ length s) × (acc ≡ packetSum (take i s))
+rows-and-leftovers-requires : tie.Need-rows-and-leftovers-requires
+rows-and-leftovers-requires c κs = search needs
 
-abbrev μ-loop : tie.MeasureT-loop
-μ-loop s acc₀ i₀ acc i = length s - i
+returns : tie.Need-returns
+returns c = c .rows-and-leftovers .ensures
 
-loop-holds : tie.Need-loop-holds Inv-loop μ-loop
-loop-holds c = (search needs, sym sum-none)
+mul-n : tie.Need-mul-n
+mul-n c = search needs
 
-shared-slice-read-plus : tie.Need-shared-slice-read-plus Inv-loop μ-loop
-shared-slice-read-plus c = search needs
+mul-end : tie.Need-mul-end
+mul-end c = search needs
 
-plus-requires : tie.Need-plus-requires Inv-loop μ-loop
-plus-requires c κs = search needs
+eight-parts-requires : tie.Need-eight-parts-requires
+eight-parts-requires c κs = search needs
 
-add-i : tie.Need-add-i Inv-loop μ-loop
-add-i c = search needs
+sub-rows-and-leftovers : tie.Need-sub-rows-and-leftovers
+sub-rows-and-leftovers c = search needs
 
-loop-less : tie.Need-loop-less Inv-loop μ-loop
-loop-less c = search needs
+part-rows-and-leftovers-start : tie.Need-part-rows-and-leftovers-start
+part-rows-and-leftovers-start c = search needs
 
-loop-again : tie.Need-loop-again Inv-loop μ-loop
-loop-again c = let p = c .before .before .before in
-    (search needs, sum-more _ (p .loop .i) _ _ (p .loop .inv .1) (c .plus .ensures))
+part-rows-and-leftovers-end : tie.Need-part-rows-and-leftovers-end
+part-rows-and-leftovers-end c = search needs
 
-returns : tie.Need-returns Inv-loop μ-loop
-returns c = c .before .loop .inv .1 ∙ sum-all (c .before .before .before .args .s .now) (c .before .loop .i) (omega arith)
+rows-and-leftovers-requires-2 : tie.Need-rows-and-leftovers-requires-2
+rows-and-leftovers-requires-2 c κs = search needs
+
+joined-requires : tie.Need-joined-requires
+joined-requires c κs = search needs
+
+returns-2 : tie.Need-returns-2
+returns-2 c = rest-joins (c .before .before .before .before .before .before .args .s .now) _ _ _ _ (search needs) (c .before .before .before .eight-parts .ensures) (c .before .rows-and-leftovers2 .ensures) (c .joined .ensures)
 
 pub sum-spec : {M : Type 1} → statement M
 sum-spec =
     tie.close
     (tie.spec
-    Inv-loop
-    μ-loop
-    loop-holds
-    shared-slice-read-plus
-    plus-requires
-    add-i
-    loop-less
-    loop-again
-    returns)
+    rows-and-leftovers-requires
+    returns
+    mul-n
+    mul-end
+    eight-parts-requires
+    sub-rows-and-leftovers
+    part-rows-and-leftovers-start
+    part-rows-and-leftovers-end
+    rows-and-leftovers-requires-2
+    joined-requires
+    returns-2)

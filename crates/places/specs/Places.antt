@@ -86,10 +86,12 @@ abbrev pub startOf : Table → ℕ → ℕ
 startOf t i = 3 + i * widthOf t
 
 -- hub and MBA, or the FRU, of the sets at two places are the same
+unfoldable pub sameSecond : Table → List ℕ → ℕ → ℕ → Bool
+sameSecond Throttles d one other = eqb (getD d (one + 1) 0) (getD d (other + 1) 0)
+sameSecond Thermal d one other = true
+
 unfoldable pub sameNumber : Table → List ℕ → ℕ → ℕ → Bool
-sameNumber Throttles d one other =
-    cond (not (eqb (getD d one 0) (getD d other 0))) false (eqb (getD d (one + 1) 0) (getD d (other + 1) 0))
-sameNumber Thermal d one other = cond (not (eqb (getD d one 0) (getD d other 0))) false true
+sameNumber t d one other = cond (not (eqb (getD d one 0) (getD d other 0))) false (sameSecond t d one other)
 
 unfoldable pub anyBelow : (ℕ → Bool) → ℕ → Bool
 anyBelow p zero = false

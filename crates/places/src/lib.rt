@@ -184,6 +184,14 @@ fn most(table: Table) -> u8
     }
 }
 
+// The bytes before the i-th set, from 0.
+fn start(table: Table, i: usize) -> usize
+    requires { ⌜ i < 256 ⌝ }
+    ensures { λ x. ⌜ x ≡ startOf table i ⌝ }
+{
+    3 + i * width(table)
+}
+
 // Whether the sets at two places are of one pair or FRU.
 fn same_number(table: Table, d: &[u8], one: usize, other: usize) -> bool
     requires { ⌜ (one + 1 < length (now d)) × (other + 1 < length (now d)) ⌝ }
@@ -202,11 +210,10 @@ fn seen_before(table: Table, d: &[u8], i: usize) -> bool
     requires { ⌜ (i < 255) × (startOf table i + 1 < length (now d)) ⌝ }
     ensures { λ x. ⌜ x ≡ seenBefore table (now (d .entry)) i ⌝ }
 {
-    let step = width(table);
-    let other = 3 + i * step;
+    let second = start(table, i);
     let mut k = 0;
     while k < i {
-        if same_number(table, d, 3 + k * step, other) {
+        if same_number(table, d, start(table, k), second) {
             return true;
         }
         k += 1;
@@ -215,19 +222,19 @@ fn seen_before(table: Table, d: &[u8], i: usize) -> bool
 }
 
 // What comes after a set's first byte: the MBA, or DVFS and ERROR.
-fn rest_fault(table: Table, d: &[u8], start: usize) -> Found
-    requires { ⌜ (start + widthOf table ≤ length (now d)) × (start < 65000) ⌝ }
-    ensures { λ x. ⌜ x ≡ restFault table (now (d .entry)) start ⌝ }
+fn rest_fault(table: Table, d: &[u8], first: usize) -> Found
+    requires { ⌜ (first + widthOf table ≤ length (now d)) × (first < 65000) ⌝ }
+    ensures { λ x. ⌜ x ≡ restFault table (now (d .entry)) first ⌝ }
 {
     match table {
         Table::Throttles => {
-            if 1 < d[start + 1] {
-                return found_at(Reason::OutOfRange, start + 2);
+            if 1 < d[first + 1] {
+                return found_at(Reason::OutOfRange, first + 2);
             }
         }
         Table::Thermal => {
-            if !formed::in_order(d[start + 1], d[start + 2]) {
-                return found_at(Reason::Clash, start + 3);
+            if !formed::in_order(d[first + 1], d[first + 2]) {
+                return found_at(Reason::Clash, first + 3);
             }
         }
     }
@@ -238,14 +245,14 @@ fn set_fault(table: Table, d: &[u8], i: usize) -> Found
     requires { ⌜ (i < 255) × (startOf table i + widthOf table ≤ length (now d)) ⌝ }
     ensures { λ x. ⌜ x ≡ setFault table (now (d .entry)) i ⌝ }
 {
-    let start = 3 + i * width(table);
-    if most(table) < d[start] {
-        return found_at(Reason::OutOfRange, start + 1);
+    let first = start(table, i);
+    if most(table) < d[first] {
+        return found_at(Reason::OutOfRange, first + 1);
     }
     if seen_before(table, d, i) {
-        return found_at(Reason::Repeated, start + 1);
+        return found_at(Reason::Repeated, first + 1);
     }
-    rest_fault(table, d, start)
+    rest_fault(table, d, first)
 }
 
 fn first_set(table: Table, d: &[u8], n: usize) -> Found

@@ -115,7 +115,7 @@ CommandFaults r kind d =
 unfoldable pub NotAfter : Fault → Fault → Type 0
 NotAfter x y = (x .at < y .at) ⊎ ((x .at ≡ y .at) and (named (x .reason) .number ≤ named (y .reason) .number))
 
--- the least fault is found, or there is none
-unfoldable pub Least : Faults → Found → Type 0
-Least F Nothing = (x : Fault) → F x → ⊥
-Least F (Wrong x) = F x and ((y : Fault) → F y → NotAfter x y)
+-- what is found of some faults: nothing where there are none, or the least of them
+pub data Least (F : Faults) : Found → Type 0 where
+  no-fault : ((x : Fault) → F x → ⊥) → Least F Nothing
+  least : (x : Fault) → F x → ((y : Fault) → F y → NotAfter x y) → Least F (Wrong x)

@@ -3,7 +3,8 @@ use Prim.Native.Nat.{ℕ, _-_, _≤_, _<_}
 use native.Mathlib.Omega.{arith}
 use Rattle.places.specs.declared.Found.the-variants.{Nothing}
 use Rattle.places.specs.Places.{widthOf, startOf, setFault, firstBelow, firstSet}
-use Rattle.places.proofs.Loops.{starts-apart, first-none, first-more, first-found}
+use Rattle.places.specs.laws.Below.{first-none, first-more, first-found}
+use Rattle.places.proofs.Loops.{starts-apart}
 use Rattle.places.proofs.first_set.Statement.{statement}
 use Rattle.places.proofs.first_set.Tie as tie
 use borrow.Author.Needs.{needs}

@@ -3,7 +3,8 @@ use Prim.Native.Nat.{ℕ, _-_, _≤_}
 use mathlib.Core.Bool.{false}
 use native.Mathlib.Omega.{arith}
 use Rattle.places.specs.Places.{widthOf, startOf, sameNumber, anyBelow, seenBefore}
-use Rattle.places.proofs.Loops.{width-bounds, starts-apart, any-none, any-more, any-found}
+use Rattle.places.specs.laws.Below.{any-none, any-more, any-exactly}
+use Rattle.places.proofs.Loops.{width-bounds, starts-apart}
 use Rattle.places.proofs.seen_before.Statement.{statement}
 use Rattle.places.proofs.seen_before.Tie as tie
 use borrow.Author.Needs.{needs}
@@ -28,7 +29,7 @@ same-number-requires c κs = (omega (arith, c .start2 .ensures, starts-apart (c 
 
 returns : tie.Need-returns Inv-loop μ-loop
 unfolding seenBefore
-returns c = sym (any-found _ (c .before .before .before .before .loop .k) (c .before .before .before .before .before .before .before .args .i) (c .before .before .before .loop-test .taken) ((λ j. sameNumber (c .before .before .before .before .before .before .before .args .table) (c .before .before .before .before .before .before .before .args .d .now) (sym (c .before .before .start2 .ensures) j) (sym (c .before .before .before .before .before .start .ensures) j)) ∙ sym (c .before .same-number .ensures) ∙ c .if1 .taken))
+returns c = sym (any-exactly _ (c .before .before .before .before .before .before .before .args .i) .1 (c .before .before .before .before .loop .k, c .before .before .before .loop-test .taken, (λ j. sameNumber (c .before .before .before .before .before .before .before .args .table) (c .before .before .before .before .before .before .before .args .d .now) (sym (c .before .before .start2 .ensures) j) (sym (c .before .before .before .before .before .start .ensures) j)) ∙ sym (c .before .same-number .ensures) ∙ c .if1 .taken))
 
 add-k : tie.Need-add-k Inv-loop μ-loop
 add-k c = search needs

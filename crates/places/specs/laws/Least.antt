@@ -240,7 +240,7 @@ module _ (f : ℕ → Found) (F : ℕ → Faults) (each : (i : ℕ) → Least (F
     λ h. by-order (h .0) n (h .1) (λ l. inl (h .0, l, h .2)) (λ e. inr (subst (λ (i : ℕ). F i x) e (h .2))),
   )
 
-  pub first-least : (n : ℕ) → Least (eachOf n F) (firstBelow f n)
+  first-least : (n : ℕ) → Least (eachOf n F) (firstBelow f n)
   unfolding firstBelow
   first-least zero = no-fault (λ x h. not-suc-le-zero (h .1))
   first-least (suc n) = least-same (with-last n) (least-or (first-least n) (each n) (λ x y h. rising (h .0) n (h .1) x y (h .2)))
@@ -266,6 +266,14 @@ thermals-rise : (d : List ℕ) (i j : ℕ) → i < j → (x y : Fault) → Therm
 unfolding NotAfter
 thermals-rise d i j h x y f g = let a = thermal-within d i x f in let b = thermal-within d j y g in inl (omega (arith, a, b, h))
 
+pub throttles-least : (d : List ℕ) (n : ℕ) → Least (eachOf n (ThrottleFaults d)) (firstSet Throttles d n)
+unfolding firstSet
+throttles-least d n = first-least (setFault Throttles d) (ThrottleFaults d) (throttle-least d) (throttles-rise d) n
+
+pub thermals-least : (d : List ℕ) (n : ℕ) → Least (eachOf n (ThermalFaults d)) (firstSet Thermal d n)
+unfolding firstSet
+thermals-least d n = first-least (setFault Thermal d) (ThermalFaults d) (thermal-least d) (thermals-rise d) n
+
 -- version and count stand before the sets
 sets-least : (t : Table) (F : ℕ → Faults) (d : List ℕ) → Least (eachOf (getD d 2 0) F) (firstSet t d (getD d 2 0)) → ((i : ℕ) (x : Fault) → F i x → 4 ≤ x .at)
     → Least (ofLength (length d ≡ 3 + getD d 2 0 * widthOf t) (SetsFaults F d)) (setsFault t d)
@@ -283,15 +291,15 @@ sets-least t F d all from =
 -- ---- every command
 
 configure-least : (d : List ℕ) → Least (ofLength (1 ≤ length d) (ConfigureFaults d)) (configureFault d)
-unfolding configureFault formatFault ConfigureFaults widthOf firstSet
+unfolding configureFault formatFault ConfigureFaults widthOf
 configure-least d =
     least-sized (zero-passes (length d))
     (least-rows (eq-holds _ _) (role-least d)
     (least-rows (eq-holds _ _) (caps-least d)
     (least-rows (eq-holds _ _)
-    (sets-least Throttles (ThrottleFaults d) d (first-least (setFault Throttles d) (ThrottleFaults d) (throttle-least d) (throttles-rise d) _) (λ i x h. omega (arith, throttle-within d i x h)))
+    (sets-least Throttles (ThrottleFaults d) d (throttles-least d _) (λ i x h. omega (arith, throttle-within d i x h)))
     (least-rows (eq-holds _ _)
-    (sets-least Thermal (ThermalFaults d) d (first-least (setFault Thermal d) (ThermalFaults d) (thermal-least d) (thermals-rise d) _) (λ i x h. omega (arith, thermal-within d i x h)))
+    (sets-least Thermal (ThermalFaults d) d (thermals-least d _) (λ i x h. omega (arith, thermal-within d i x h)))
     (least-byte {t = true} 1 OutOfRange (λ h. tt, λ h. refl) refl)))))
 
 -- "the number of the first data byte that is wrong ..., and the least number wins"

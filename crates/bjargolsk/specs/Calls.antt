@@ -24,7 +24,7 @@ answerIn result = result % 65536
 -- bytes made a fresh session
 unfoldable pub freshOn : List ℕ → Left
 freshOn b =
-    cond (not (eqb (length b) imageLength)) (noImage b []) (record { told = record { answer = 0; beside = 0 }; image = imageOf freshSession; reply = [] })
+    cond (not (eqb (length b) imageLength)) (noImage b []) (record { told = record { answer = 0; small = 0; beside = 0 }; image = imageOf freshSession; reply = [] })
 
 -- ---- what the contracts allow: the result, and the lent bytes and the reply buffer as they are left
 

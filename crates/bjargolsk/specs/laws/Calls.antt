@@ -24,7 +24,7 @@ use Rattle.undo_call.specs.laws.Came as undo
 use Rattle.bjargolsk.specs.Calls.{packed, answerIn}
 
 -- a call that answered 0 has answer 0 in its result
-answered-zero : (n high : ℕ) → n ≡ 0 → answerIn (packed (record { answer = n; beside = high })) ≡ 0
+answered-zero : (n high : ℕ) → n ≡ 0 → answerIn (packed (record { answer = n; small = 0; beside = high })) ≡ 0
 unfolding answerIn packed
 answered-zero n high e = ap (λ (k : ℕ). (high * 65536 + k) % 65536) e ∙ digits-mod high (lit< tt)
 

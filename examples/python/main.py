@@ -42,13 +42,13 @@ class Bench:
         packet = bytes([self.sequence, kind]) + len(data).to_bytes(2, "big") + bytes(data)
         packet += (sum(packet) % 65536).to_bytes(2, "big")
         result = self.lib.bjargolsk_occ(self.session, SESSION, sender, packet, len(packet), self.reply, 4096)
-        answer = result & 0xFFFF
+        answer = result & 0xFF
         length = 7 + int.from_bytes(self.reply.raw[3:5], "big")
         print("%s: answer %d%s" % (name, answer, self.shown(answer, length)))
 
     def sbe(self, name, request):
         result = self.lib.bjargolsk_sbe(self.session, SESSION, request, len(request), self.reply, 4096)
-        answer = result & 0xFFFF
+        answer = result & 0xFF
         print("%s: answer %d bell %04X%s" % (name, answer, result >> 16, self.shown(answer, 32)))
 
     def undo(self):
@@ -59,7 +59,7 @@ class Bench:
 
 
 def show_kind(name, result):
-    print("%s: answer %d kind %02X" % (name, result & 0xFFFF, result >> 16))
+    print("%s: answer %d kind %02X" % (name, result & 0xFF, result >> 16))
 
 
 def main():

@@ -69,7 +69,7 @@ module _ (h : Head) (b : List ℕ) (here : Stands h b) (sender : ℕ) (c d : Lis
     unfolding occRead judgedSays sessionIn
     by-verdict q e = ap occLeft (e ∙ ap (judgedSays s (getD c 0 0) (getD c 1 0) d) asked)
 
-    pub told-in : (t : Told) (z : List ℕ) → t ≡ record { answer = 0; beside = 0 } → (tagOf the-type (j .verdict) ≡ 2 → ⊥)
+    pub told-in : (t : Told) (z : List ℕ) → t ≡ record { answer = 0; small = 0; beside = 0 } → (tagOf the-type (j .verdict) ≡ 2 → ⊥)
         → z ≡ toldOf (j .verdict) (h .held) (h .worked) (getD c 0 0) (getD c 1 0) d → Hears t b z
     unfolding occLeft says answered sessionIn
     told-in t z p n q =
@@ -86,13 +86,13 @@ module _ (h : Head) (b : List ℕ) (here : Stands h b) (sender : ℕ) (c d : Lis
       unfolding verdictSays occMade
       by-carried q e = by-verdict q (e ∙ sym (ap (verdictSays s (getD c 0 0) (getD c 1 0) d (j .tables)) v))
 
-      pub full-in : t ≡ record { answer = 5; beside = 0 } → full ≡ true → Hears t y d
+      pub full-in : t ≡ record { answer = 5; small = 0; beside = 0 } → full ≡ true → Hears t y d
       unfolding occLeft kept answered carriedSays carriedIn
       full-in p g =
           let same = left ∙ sym (if-b b (imageOf (after .session)) (sym room ∙ g) refl) ∙ here .image in
           parts t y d _ ((λ i. record { told = p i; image = same i; reply = d }) ∙ by-carried (kept 5 s d) (if-b _ _ (sym room ∙ g) refl))
 
-      pub done-in : t ≡ record { answer = 0; beside = 0 } → full ≡ false → (z : List ℕ) → z ≡ replied (getD c 0 0) (getD c 1 0) 0x00 [] d → Hears t y z
+      pub done-in : t ≡ record { answer = 0; small = 0; beside = 0 } → full ≡ false → (z : List ℕ) → z ≡ replied (getD c 0 0) (getD c 1 0) 0x00 [] d → Hears t y z
       unfolding occLeft says answered carriedSays carriedIn
       done-in p g z q =
           let image = left ∙ sym (else-b b (imageOf (after .session)) (sym room ∙ g) refl) in
@@ -114,7 +114,7 @@ module _ (b : List ℕ) (long : length b ≡ imageLength) (h : Head) (read : h �
       ∙ ap (λ (x : Session). occLeft (occCall x sender c d)) (as-read b long h read)
       ∙ else-ne _ _ long refl
 
-  pub refused-in : Bytes b → (t : Told) → t ≡ record { answer = n; beside = 0 } → (n ≡ 0 → ⊥) → Parts t b d (occOn b sender c d)
+  pub refused-in : Bytes b → (t : Told) → t ≡ record { answer = n; small = 0; beside = 0 } → (n ≡ 0 → ⊥) → Parts t b d (occOn b sender c d)
   unfolding occFrom occLeft kept answered
   refused-in bytes t p z =
       parts t b d _ ((λ i. record { told = p i; image = stands b long h read bytes .image i; reply = d })
@@ -127,7 +127,7 @@ module _ (b : List ℕ) (long : length b ≡ imageLength) (h : Head) (read : h �
       ∙ ap occLeft (else-ne (kept n (sessionIn h b) d) (occRead (sessionIn h b) sender c d) none refl) ∙ by-refusal)
 
 -- bytes that are no image
-pub no-image : (b : List ℕ) → (length b ≡ imageLength → ⊥) → (sender : ℕ) (c d : List ℕ) (t : Told) → t ≡ record { answer = 1; beside = 0 } → Parts t b d (occOn b sender c d)
+pub no-image : (b : List ℕ) → (length b ≡ imageLength → ⊥) → (sender : ℕ) (c d : List ℕ) (t : Told) → t ≡ record { answer = 1; small = 0; beside = 0 } → Parts t b d (occOn b sender c d)
 unfolding occOn
 no-image b z sender c d t p = parts t b d _ (if-ne _ _ z (λ i. record { told = p i; image = b; reply = d }))
 

@@ -99,7 +99,7 @@ occCall s sender c d = occFrom (occRefusal s sender (length c) (length d)) s sen
 -- ---- on a session that is lent as its image's bytes
 
 unfoldable pub occLeft : OccResult → Left
-occLeft q = record { told = record { answer = q .outcome .answer; beside = 0 }; image = imageOf (q .outcome .session); reply = q .reply }
+occLeft q = record { told = record { answer = q .outcome .answer; small = 0; beside = 0 }; image = imageOf (q .outcome .session); reply = q .reply }
 
 unfoldable pub occOn : List ℕ → ℕ → List ℕ → List ℕ → Left
 occOn b sender c d = cond (not (eqb (length b) imageLength)) (noImage b d) (occLeft (occCall (sessionOf b) sender c d))

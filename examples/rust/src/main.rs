@@ -59,7 +59,7 @@ impl Bench {
                 self.reply.len(),
             )
         };
-        let answer = result & 0xFFFF;
+        let answer = result & 0xFF;
         let length = 7 + usize::from(u16::from_be_bytes([self.reply[3], self.reply[4]]));
         println!("{name}: answer {answer}{}", self.shown(answer, length));
     }
@@ -75,7 +75,7 @@ impl Bench {
                 self.reply.len(),
             )
         };
-        let (answer, bell) = (result & 0xFFFF, result >> 16);
+        let (answer, bell) = (result & 0xFF, result >> 16);
         println!(
             "{name}: answer {answer} bell {bell:04X}{}",
             self.shown(answer, 32)
@@ -96,11 +96,7 @@ impl Bench {
 }
 
 fn show_kind(name: &str, result: u32) {
-    println!(
-        "{name}: answer {} kind {:02X}",
-        result & 0xFFFF,
-        result >> 16
-    );
+    println!("{name}: answer {} kind {:02X}", result & 0xFF, result >> 16);
 }
 
 fn main() {

@@ -238,7 +238,7 @@ impl Generator {
     /// Many undos, then many redos, again and again, with a change in between now and then.
     fn back_and_forth(&mut self, rounds: usize) {
         for _ in 0..rounds {
-            let most = self.random.pick(&[1, 2, 5, 40]);
+            let most = self.random.pick(&[1, 1, 2, 2, 3, 5, 5, 40]);
             self.undos(most);
             self.redos(most + 2);
             if self.random.one_in(3) {
@@ -260,7 +260,7 @@ impl Generator {
     fn back_and_forth_from_fresh(&mut self) {
         self.line("fresh", &[]);
         self.framed(0x10, 0x21, &[FORMAT_ROLE, 1]);
-        if self.random.one_in(6) {
+        if self.random.one_in(30) {
             // the longest chain there can be: entries of two bytes
             let entries = if self.small { 60 } else { 1100 };
             (0..entries).for_each(|_| self.framed(0x10, 0x20, &[0, 1, 0]));

@@ -1,4 +1,4 @@
-//! A master OCC brought up and capped; changes taken back, one step too far, and one put in again.
+//! A master OCC brought up and capped; changes taken back, one step too far, and one put in again; a cap that is too high.
 
 #[path = "../../../include/bjargolsk.rs"]
 mod ffi;
@@ -59,9 +59,16 @@ impl Bench {
                 self.reply.len(),
             )
         };
-        let answer = result & 0xFF;
+        let (answer, reason, place) = (result & 0xFF, result >> 8 & 0xFF, result >> 16);
+        let wrong = match reason {
+            0 => String::new(),
+            _ => format!(" reason {reason} byte {place}"),
+        };
         let length = 7 + usize::from(u16::from_be_bytes([self.reply[3], self.reply[4]]));
-        println!("{name}: answer {answer}{}", self.shown(answer, length));
+        println!(
+            "{name}: answer {answer}{wrong}{}",
+            self.shown(answer, length)
+        );
     }
 
     fn sbe(&mut self, name: &str, request: &[u8]) {
@@ -132,5 +139,7 @@ fn main() {
     bench.undo();
     bench.redo();
     bench.occ("poll", BMC, 0x00, &[0x10]);
+    // Status 0x13; the result says which data byte is wrong, and why.
+    bench.occ("high cap", BMC, 0x22, &[0x07, 0xD0]);
     bench.occ("stranger", 0x30, 0x00, &[0x10]);
 }

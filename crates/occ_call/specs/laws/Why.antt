@@ -10,10 +10,10 @@ use borrow.Author.Tests.{eqb-true, eqb-false, not-true, not-false, eq-eqb}
 use lib.Dec.{ltb, eqb}
 use lib.ListN.{length, getD, take, drop}
 use Rattle.wire.specs.Conditions.{_and_}
-use Rattle.wire.specs.Wire.{beNat}
+use Rattle.wire.specs.Wire.{beNat, packetSum}
 use Rattle.wire.specs.laws.Cases.{cond-elim, cond-cases, else-ne}
 use Rattle.record.specs.declared.Record.{Record}
-use Rattle.packet.specs.Packet.{dataLength, packetSum, statusAt, packetStatus, dataOf}
+use Rattle.packet.specs.Packet.{dataLength, statusAt, packetStatus, dataOf}
 use Rattle.occ.specs.Judge.{plainly, openTo, judgeOf}
 use Rattle.occ.specs.declared.Verdict.{Verdict}
 use Rattle.occ.specs.declared.Verdict.the-variants.{Refuse, Poll, Make}

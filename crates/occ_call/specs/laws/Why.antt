@@ -26,10 +26,16 @@ use Rattle.places.specs.declared.Fault.{Fault}
 use Rattle.places.specs.declared.Found.{Found}
 use Rattle.places.specs.declared.Found.the-variants.{Nothing, Wrong}
 use Rattle.session.specs.declared.Session.{Session}
-use Rattle.occ_call.specs.Occ.{askedFor, askedOf, faultFor, whyRead}
+use Rattle.occ_call.specs.Occ.{askedFor, askedOf, faultFor, whyRead, besideOf}
 
-nothing-wrong : {A : Type 0} (x : Fault) → Nothing ≡ Wrong x → A
+pub nothing-wrong : {A : Type 0} (x : Fault) → Nothing ≡ Wrong x → A
 nothing-wrong x e = let z : _≡_ {A = ℕ} 0 1 = ap isWrong e in absurd (omega arith)
+
+-- the answer is what it is
+pub answer-beside : (n : ℕ) (f : Found) → besideOf n f .answer ≡ n
+unfolding besideOf
+answer-beside n Nothing = refl
+answer-beside n (Wrong x) = refl
 
 -- a fault stands beside 0x13 only, and is the one of the data
 beside-only : (v : Verdict) (held : Record) (kind : ℕ) (d : List ℕ) (x : Fault) → faultFor v held kind d ≡ Wrong x → (v ≡ Refuse 0x13) × (faultOf held kind d ≡ Wrong x)

@@ -1,12 +1,12 @@
 -- Document 02, c: beside the answer a wrong byte stands exactly where the command was read and judged 0x13, and it is the least of all
 -- faults. Assumes nothing.
 use Prim.Native.Nat.{ℕ, _+_}
-use mathlib.Core.Bool.{Bool, true, false, cond, not}
+use mathlib.Core.Bool.{true, not}
 use mathlib.Core.List.{List}
 use mathlib.Core.Logic.{_↔_}
 use mathlib.Core.Path.{_≡_, refl, sym, ap, subst, _∙_}
 use native.Mathlib.Omega.{arith}
-use borrow.Author.Tests.{eqb-true, eqb-false, not-true, not-false, eq-eqb}
+use borrow.Author.Tests.{eqb-true, not-false}
 use lib.Dec.{ltb, eqb}
 use lib.ListN.{length, getD, take, drop}
 use Rattle.wire.specs.Conditions.{_and_}
@@ -19,7 +19,7 @@ use Rattle.occ.specs.declared.Verdict.{Verdict}
 use Rattle.occ.specs.declared.Verdict.the-variants.{Refuse, Poll, Make}
 use Rattle.occ.specs.declared.Judged.{Judged}
 use Rattle.places.specs.Places.{faultOf}
-use Rattle.places.specs.Faults.{Faults, CommandFaults, NotAfter, Least, no-fault, least}
+use Rattle.places.specs.Faults.{Faults, CommandFaults, NotAfter, Least, least}
 use Rattle.places.specs.laws.Exactly.{exactly-wrong, isWrong, statusOf}
 use Rattle.places.specs.laws.Least.{least-fault}
 use Rattle.places.specs.declared.Fault.{Fault}
@@ -83,9 +83,9 @@ module _ (s : Session) (sender : ℕ) (c : List ℕ) where
   why-exactly = (
     λ h. asked-read (beside-only _ (s .held) (getD c 1 0) (dataOf c) (h .0) (h .1) .0),
     λ h.
-    let q = exactly-wrong (s .held) (s .worked) (s .next) sender (getD c 1 0) (dataOf c) (may-send (h .1)) .0 (h .1) in
-    let asked : judged ≡ askedOf (s .held) (s .worked) (s .next) sender c = else-ne _ _ (h .0) refl in
-    (q .0, ap (λ (j : Judged). faultFor (j .verdict) (s .held) (getD c 1 0) (dataOf c)) (sym asked) ∙ ap (λ (v : Verdict). faultFor v (s .held) (getD c 1 0) (dataOf c)) (h .1) ∙ q .1),
+        let q = exactly-wrong (s .held) (s .worked) (s .next) sender (getD c 1 0) (dataOf c) (may-send (h .1)) .0 (h .1) in
+        let asked : judged ≡ askedOf (s .held) (s .worked) (s .next) sender c = else-ne _ _ (h .0) refl in
+        (q .0, ap (λ (j : Judged). faultFor (j .verdict) (s .held) (getD c 1 0) (dataOf c)) (sym asked) ∙ ap (λ (v : Verdict). faultFor v (s .held) (getD c 1 0) (dataOf c)) (h .1) ∙ q .1),
   )
 
   pub why-least : length (s .held .logs) ≡ 4 → (x : Fault) → whyRead s sender c ≡ Wrong x

@@ -6,11 +6,9 @@ use mathlib.Core.List.{List}
 use mathlib.Core.Logic.{_↔_, inl, inr, ⊎-elim}
 use native.Mathlib.Nat.{lt-of-not-le}
 use native.Mathlib.Omega.{arith}
-use borrow.Author.Tests.{not-true, not-false}
 use lib.Dec.{ltb, leb, eqb}
 use lib.ListN.{length, getD, take, drop}
 use lib.Seq.{getD-take, getD-drop}
-use Rattle.wire.specs.Conditions.{_and_}
 use Rattle.wire.specs.Wire.{beNat}
 use Rattle.record.specs.declared.Caps.{Caps}
 use Rattle.record.specs.declared.Log.{Log}
@@ -22,7 +20,7 @@ use Rattle.change.specs.declared.Tables.{Tables}
 use Rattle.formed.specs.Formed.{inOrder}
 use Rattle.formed.specs.laws.Thresholds.{out-of-order}
 use Rattle.sets.specs.Sets.{emptySets, setsOf, emptyFrus, frusOf}
-use Rattle.sets.specs.Conditions.{setAt, InPairs, pairOf, InFrus, fruOf, SetsOk, FrusOk}
+use Rattle.sets.specs.Conditions.{setAt, InPairs, InFrus, SetsOk, FrusOk}
 use Rattle.sets.specs.laws.Exactly.{sets-exactly, frus-exactly}
 use Rattle.occ.specs.declared.Verdict.{Verdict}
 use Rattle.occ.specs.declared.Verdict.the-variants.{Refuse, Poll, Make}
@@ -35,7 +33,7 @@ use Rattle.places.specs.declared.Fault.{Fault}
 use Rattle.places.specs.declared.Found.{Found}
 use Rattle.places.specs.declared.Found.the-variants.{Nothing, Wrong}
 use Rattle.places.specs.declared.Table.the-variants.{Throttles, Thermal}
-use Rattle.places.specs.Places.{wrong, pollFault, clearFault, stateFault, roleFault, capsFault, userFault, resetFault, widthOf, setFault, firstSet, countFault, setsFault, formatFault, configureFault, faultOf}
+use Rattle.places.specs.Places.{wrong, pollFault, clearFault, stateFault, roleFault, capsFault, userFault, resetFault, widthOf, firstSet, countFault, setsFault, formatFault, configureFault, faultOf}
 use Rattle.places.specs.Faults.{Faults, ThrottleFaults, ThermalFaults, eachOf, Least, no-fault, least}
 use Rattle.places.specs.laws.Least.{throttles-least, thermals-least}
 

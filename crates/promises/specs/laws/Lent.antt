@@ -23,7 +23,7 @@ use Rattle.image.specs.Image.{imageLength, imageOf, sessionOf}
 use Rattle.image.specs.laws.Image.{Typed, session-image, length-image}
 use Rattle.inplace.specs.InPlace.{Left}
 use Rattle.bjargolsk.specs.Calls.{packed, freshOn}
-use Rattle.promises.specs.Calls.{Call, occ, sbe, undo, redo, Said, said}
+use Rattle.promises.specs.Calls.{Call, occ, sbe, undo, redo, said}
 use Rattle.promises.specs.Marks.{left, logsMade}
 use Rattle.promises.specs.History.{replay, Run, did, next-run, run, AllOfBytes}
 use Rattle.promises.specs.laws.Stores.{length-padded, flat}

@@ -1,11 +1,11 @@
 -- Document 02, c: the data byte that is told beside an answer. Assumes nothing.
 use Prim.Native.Nat.{ℕ}
-use mathlib.Core.Bool.{true, cond, not}
+use mathlib.Core.Bool.{not}
 use mathlib.Core.List.{List}
-use mathlib.Core.Logic.{_↔_, Iff·trans}
+use mathlib.Core.Logic.{_↔_}
 use mathlib.Core.Path.{_≡_, refl, sym, ap, _∙_}
 use native.Mathlib.Omega.{arith}
-use borrow.Author.Tests.{ltb-false, eqb-true, not-true, not-false}
+use borrow.Author.Tests.{ltb-false, eqb-true, not-false}
 use lib.Dec.{ltb, eqb}
 use lib.ListN.{length, getD}
 use Rattle.wire.specs.Conditions.{_and_}
@@ -30,12 +30,12 @@ module _ (s : Session) (sender : ℕ) (c d : List ℕ) where
   unfolding occRefusal refusalOf
   due-exactly = (
     cond-cases P (not (wellFormed s)) (λ f z. absurd (omega (arith, z)))
-    (λ f. cond-cases P (not (knownSender sender)) (λ g z. absurd (omega (arith, z)))
-    (λ g. cond-cases P (ltb (length d) 4096) (λ h z. absurd (omega (arith, z)))
-    (λ h. cond-cases P (ltb (length c) 4) (λ l z. absurd (omega (arith, z)))
-    (λ l z. record { formed = not-false _ f; known = known-exactly sender .0 (not-false _ g); reply = ltb-false _ _ h; command = ltb-false _ _ l })))),
+        (λ f. cond-cases P (not (knownSender sender)) (λ g z. absurd (omega (arith, z)))
+        (λ g. cond-cases P (ltb (length d) 4096) (λ h z. absurd (omega (arith, z)))
+        (λ h. cond-cases P (ltb (length c) 4) (λ l z. absurd (omega (arith, z)))
+        (λ l z. record { formed = not-false _ f; known = known-exactly sender .0 (not-false _ g); reply = ltb-false _ _ h; command = ltb-false _ _ l })))),
     λ p.
-    sym (else-b _ _ (ap not (p .formed)) (else-b _ _ (ap not (known-exactly sender .1 (p .known))) (else-lt _ _ (p .reply) (else-lt _ _ (p .command) refl)))),
+        sym (else-b _ _ (ap not (p .formed)) (else-b _ _ (ap not (known-exactly sender .1 (p .known))) (else-lt _ _ (p .reply) (else-lt _ _ (p .command) refl)))),
   )
     where
       P : ℕ → Type 0
@@ -46,7 +46,7 @@ module _ (s : Session) (sender : ℕ) (c d : List ℕ) where
   unfolding occWhy whyFrom
   why-due x = (
     cond-cases (λ (f : Found). f ≡ Wrong x → OccDue s sender c d and (whyRead s sender c ≡ Wrong x)) (not (eqb (occRefusal s sender (length c) (length d)) 0)) (λ t. nothing-wrong x)
-    (λ t e. (due-exactly .0 (eqb-true _ 0 (not-false _ t)), e)),
+        (λ t e. (due-exactly .0 (eqb-true _ 0 (not-false _ t)), e)),
     λ h. sym (else-ne Nothing _ (due-exactly .1 (h .0)) refl) ∙ h .1,
   )
 

@@ -29,7 +29,8 @@ use Rattle.sbe_call.specs.laws.Came as sbe-came
 use Rattle.undo_call.specs.Undo.{usedOf, moveCall, undoCall, redoCall, UndoAllows, RedoAllows}
 use Rattle.undo_call.specs.laws.Came as undo-came
 use Rattle.trace.specs.Trace.{traceScan}
-use Rattle.replay.specs.Replay.{imageAfter, linesOf, stopLine, piecesOf}
+use Rattle.replay.specs.declared.Played.{Played}
+use Rattle.replay.specs.Replay.{StepAllows, PlayAllows, imageAfter, linesOf, stopLine, piecesOf}
 use Rattle.replay.specs.Steps.{oldestFirst, imageFrom, linesFrom}
 use Rattle.replay.specs.laws.Steps.{image-by-steps, lines-by-steps}
 use Rattle.promises.specs.Calls.{Call, occ, sbe, redo, said}
@@ -161,6 +162,12 @@ one-outcome-of-undo-for-c b = one-pair _ _
 
 pub one-outcome-of-redo-for-c : (b : List ℕ) → OneOutcome (λ (o : ℕ × List ℕ). RedoReturns b (o .0) (o .1))
 one-outcome-of-redo-for-c b = one-pair _ _
+
+pub one-outcome-of-step : (b : List ℕ) (number : ℕ) (e d : List ℕ) → OneOutcome (λ (o : ℕ × List ℕ × List ℕ). StepAllows b number e d (o .0) (o .1) (o .2))
+one-outcome-of-step b number e d = one-triple _ _ _
+
+pub one-outcome-of-play : (b t d : List ℕ) → OneOutcome (λ (o : Played × List ℕ × List ℕ). PlayAllows b t d (o .0) (o .1) (o .2))
+one-outcome-of-play b t d = one-triple _ _ _
 
 -- ---- well-formed in, well-formed out, on every session of the type; and what is worked out is the record's
 

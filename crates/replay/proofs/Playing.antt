@@ -12,6 +12,7 @@ use lib.Dec.{leb}
 use lib.ListN.{length, take, drop, getD, length-append, length-drop}
 use lib.Seq.{length-take-le}
 use Rattle.wire.specs.Wire.{pasted}
+use Rattle.wire.specs.Conditions.{_and_}
 use Rattle.wire.specs.laws.Wire.{tail-part}
 use Rattle.wire.specs.laws.Cases.{if-not, else-not, if-ne, else-ne, if-lt, else-lt, else-eq, same-le}
 use Rattle.io.specs.Counts.{Counts}
@@ -46,11 +47,11 @@ fitting ps d d′ end h e =
 -- ---- `step`
 
 abbrev Steps : ℕ → List ℕ → List ℕ → Stepped → Type 0
-Steps r b′ d′ x = (r ≡ x .count) × ((b′ ≡ x .image) × ((d′ ≡ x .out) × Counts r d′))
+Steps r b′ d′ x = ((r ≡ x .count) and (b′ ≡ x .image) and (d′ ≡ x .out)) × Counts r d′
 
 module _ (b : List ℕ) (number : ℕ) (e d : List ℕ) {x : Bool} (judged : x ≡ wholeEntry e) where
   kept : record { count = 0; image = b; out = d } ≡ stepped b number e d → Steps 0 b d (stepped b number e d)
-  kept h = subst (Steps 0 b d) h (refl, (refl, (refl, (omega arith, refl))))
+  kept h = subst (Steps 0 b d) h ((refl, (refl, refl)), (omega arith, refl))
 
   pub step-none : not x ≡ true → Steps 0 b d (stepped b number e d)
   unfolding stepped
@@ -64,7 +65,7 @@ module _ (b : List ℕ) (number : ℕ) (e d : List ℕ) {x : Bool} (judged : x �
   unfolding stepped
   step-put {r} {b′} {d′} h room p =
       let text = fitting (line number (heard b (entryOf e))) d d′ r (omega (arith, p .fits)) (p .puts) in
-      subst (Steps r b′ d′) (else-not _ _ judged h (else-lt _ _ room refl)) (text .0, (p .image, (text .1, p .counts)))
+      subst (Steps r b′ d′) (else-not _ _ judged h (else-lt _ _ room refl)) ((text .0, (p .image, text .1)), p .counts)
 
 -- ---- the bytes of the next entry
 
@@ -185,7 +186,7 @@ room-some len count h = same-le count ((len - 37) / 34) (roomFor count) len (λ 
 -- ---- `play`
 
 abbrev Plays : Played → List ℕ → List ℕ → Replayed → Type 0
-Plays r b′ d′ x = (r ≡ x .result) × ((b′ ≡ x .image) × (d′ ≡ x .out))
+Plays r b′ d′ x = (r ≡ x .result) and (b′ ≡ x .image) and (d′ ≡ x .out)
 
 pub fresh-written : (b b′ : List ℕ) (s : Session) → length b ≡ imageLength → s ≡ freshSession → b′ ≡ writtenTo b s → b′ ≡ imageOf freshSession
 unfolding writtenTo

@@ -6,6 +6,7 @@ use mathlib.Core.List.{List, [], _∷_, _++_}
 use lib.Dec.{ltb, eqb}
 use lib.ListN.{length, getD, take, drop, replicate}
 use Rattle.wire.specs.Wire.{pasted}
+use Rattle.wire.specs.Conditions.{_and_}
 use Rattle.io.specs.Counts.{Counts}
 use Rattle.text.specs.Text.{ascii, lineEnd, hexes, decimal, sheet, putAll, joined}
 use Rattle.entries.specs.Entries.{Entry, entryOf, entriesOf, readingOf}
@@ -127,6 +128,11 @@ stepped b number e d =
     (cond (ltb (length d) lineRoom) (record { count = 0; image = b; out = d })
     (steppedTo number (heard b (entryOf e)) d))
 
+-- what the contract allows: the line's length, and the lent bytes and the buffer as they are left
+abbrev pub StepAllows : List ℕ → ℕ → List ℕ → List ℕ → ℕ → List ℕ → List ℕ → Type 0
+StepAllows b number e d count image out =
+    (count ≡ stepped b number e d .count) and (image ≡ stepped b number e d .image) and (out ≡ stepped b number e d .out)
+
 -- ---- a whole trace
 
 -- a stop line has at most 37 bytes
@@ -149,3 +155,7 @@ replayed b t d =
       image = imageAfter (entriesOf (traceScan t));
       out = pasted 0 (textOf t) d;
     }))
+
+-- what the contract allows
+abbrev pub PlayAllows : List ℕ → List ℕ → List ℕ → Played → List ℕ → List ℕ → Type 0
+PlayAllows b t d result image out = (result ≡ replayed b t d .result) and (image ≡ replayed b t d .image) and (out ≡ replayed b t d .out)

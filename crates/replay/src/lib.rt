@@ -13,7 +13,7 @@ ghost use Rattle.image.specs.Image.{imageOf};
 ghost use Rattle.occ_call.specs.Occ.{occOn};
 ghost use Rattle.sbe_call.specs.Sbe.{sbeOn};
 ghost use Rattle.undo_call.specs.Undo.{undoOn};
-ghost use Rattle.replay.specs.Replay.{ifWritten, occHeard, sbeHeard, undoHeard, heard, statusText, lineWith, lineRoom, Puts, imageAfter, linesOf, placeText, stopLine, wholeEntry, stepped, roomFor, replayed};
+ghost use Rattle.replay.specs.Replay.{ifWritten, occHeard, sbeHeard, undoHeard, heard, statusText, lineWith, lineRoom, Puts, imageAfter, linesOf, placeText, stopLine, wholeEntry, StepAllows, roomFor, PlayAllows};
 use entries::Next;
 use entries::Reading;
 
@@ -116,9 +116,7 @@ pub const LINE: usize = 34;
 // Plays one whole entry of a trace, the `number`th, on a lent session: its line at the front of `out`, and the line's length. 0, and all is kept,
 // where the bytes aren't one whole entry or `out` is shorter than the longest line.
 pub fn step(lent: &mut [u8], number: u64, entry: &[u8], out: &mut [u8]) -> usize
-    ensures { λ r. ⌜ r ≡ stepped (now (lent .entry)) number (now (entry .entry)) (now (out .entry)) .count ⌝ }
-    ensures { λ _. ⌜ now (lent .exit) ≡ stepped (now (lent .entry)) number (now (entry .entry)) (now (out .entry)) .image ⌝ }
-    ensures { λ _. ⌜ now (out .exit) ≡ stepped (now (lent .entry)) number (now (entry .entry)) (now (out .entry)) .out ⌝ }
+    ensures { λ r. ⌜ StepAllows (now (lent .entry)) number (now (entry .entry)) (now (out .entry)) r (now (lent .exit)) (now (out .exit)) ⌝ }
     ensures { λ r. ⌜ Counts r (now (out .exit)) ⌝ }
 {
     if !is_whole(entry) {
@@ -173,6 +171,7 @@ fn play_entries(lent: &mut [u8], t: &[u8], out: &mut [u8]) -> usize
 }
 
 fn put_place(out: &mut [u8], at: usize, words: &[u8], place: usize) -> usize
+    ensures { λ r. ⌜ Counts r (now (out .exit)) ⌝ }
     ensures { λ r. ⌜ sheet (now (out .exit)) r ≡ putAll (sheet (now (out .entry)) at) (placeText (now (words .entry)) place) ⌝ }
     ensures { λ _. ⌜ length (joined (placeText (now (words .entry)) place)) ≤ length (now (words .entry)) + 21 ⌝ }
 {
@@ -183,6 +182,7 @@ fn put_place(out: &mut [u8], at: usize, words: &[u8], place: usize) -> usize
 
 // Where the trace breaks, and why.
 fn put_stop(out: &mut [u8], at: usize, reading: Reading) -> usize
+    ensures { λ r. ⌜ (at ≤ length (now (out .entry)) → Counts r (now (out .exit))) ⌝ }
     ensures { λ r. ⌜ sheet (now (out .exit)) r ≡ putAll (sheet (now (out .entry)) at) (stopLine reading) ⌝ }
     ensures { λ _. ⌜ length (joined (stopLine reading)) ≤ 37 ⌝ }
 {
@@ -196,12 +196,18 @@ fn put_stop(out: &mut [u8], at: usize, reading: Reading) -> usize
     }
 }
 
+// The stop line alone, at the front of `out`, and its length: for a trace that is played step by step. 37 bytes always take it.
+pub fn stop(out: &mut [u8], reading: Reading) -> usize
+    ensures { λ r. ⌜ Counts r (now (out .exit)) ⌝ }
+    ensures { λ r. ⌜ sheet (now (out .exit)) r ≡ putAll (sheet (now (out .entry)) 0) (stopLine reading) ⌝ }
+{
+    put_stop(out, 0, reading)
+}
+
 // Plays a lent trace from a fresh session, which the lent bytes become: a line for each whole entry at the front of `out`, and the stop line where it breaks.
 // A buffer of 34 bytes for each entry and 37 more has always room.
 pub fn play(lent: &mut [u8], t: &[u8], out: &mut [u8]) -> Played
-    ensures { λ r. ⌜ r ≡ replayed (now (lent .entry)) (now (t .entry)) (now (out .entry)) .result ⌝ }
-    ensures { λ _. ⌜ now (lent .exit) ≡ replayed (now (lent .entry)) (now (t .entry)) (now (out .entry)) .image ⌝ }
-    ensures { λ _. ⌜ now (out .exit) ≡ replayed (now (lent .entry)) (now (t .entry)) (now (out .entry)) .out ⌝ }
+    ensures { λ r. ⌜ PlayAllows (now (lent .entry)) (now (t .entry)) (now (out .entry)) r (now (lent .exit)) (now (out .exit)) ⌝ }
 {
     if lent.len() != image::LENGTH {
         return Played::NoImage;

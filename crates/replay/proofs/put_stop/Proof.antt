@@ -1,6 +1,8 @@
 use Rattle.text.specs.Text.{sheet}
 use Rattle.replay.proofs.Lines.{stop-none, stop-unknown, stop-cut}
 use native.Mathlib.Omega.{arith}
+use lib.Seq.{length-take-le}
+use mathlib.Core.Path.{sym}
 use borrow.Author.Needs.{needs}
 use Rattle.replay.proofs.put_stop.Statement.{statement}
 use Rattle.replay.proofs.put_stop.Tie as tie
@@ -27,19 +29,19 @@ put-place-requires-2 : tie.Need-put-place-requires-2
 put-place-requires-2 c κs = search needs
 
 returns : tie.Need-returns
-returns c = stop-none (sheet (c .before .before .before .args .out .now) (c .before .before .before .args .at)) (c .enum-told .given .1)
+returns c = (λ h. (h, sym (length-take-le (c .before .before .before .args .at) (c .before .before .before .args .out .now) h)), stop-none (sheet (c .before .before .before .args .out .now) (c .before .before .before .args .at)) (c .enum-told .given .1))
 
 same-length : tie.Need-same-length
 same-length c = search needs
 
 returns-2 : tie.Need-returns-2
-returns-2 c = stop-unknown (sheet (c .before .before .before .before .before .before .before .before .before .args .out .now) (c .before .before .before .before .before .before .before .before .before .args .at)) (c .before .before .before .before .before .before .reading .given .1) (c .before .before .put-place .ensures .0) (c .before .before .put-place .ensures .1)
+returns-2 c = (λ h. c .before .before .put-place .ensures .0, stop-unknown (sheet (c .before .before .before .before .before .before .before .before .before .args .out .now) (c .before .before .before .before .before .before .before .before .before .args .at)) (c .before .before .before .before .before .before .reading .given .1) (c .before .before .put-place .ensures .1 .0) (c .before .before .put-place .ensures .1 .1))
 
 same-length-2 : tie.Need-same-length-2
 same-length-2 c = search needs
 
 returns-3 : tie.Need-returns-3
-returns-3 c = stop-cut (sheet (c .before .before .before .before .before .before .before .before .before .args .out .now) (c .before .before .before .before .before .before .before .before .before .args .at)) (c .before .before .before .before .before .before .reading2 .given .1) (c .before .before .put-place2 .ensures .0) (omega (arith, c .before .before .put-place2 .ensures .1))
+returns-3 c = (λ h. c .before .before .put-place2 .ensures .0, stop-cut (sheet (c .before .before .before .before .before .before .before .before .before .args .out .now) (c .before .before .before .before .before .before .before .before .before .args .at)) (c .before .before .before .before .before .before .reading2 .given .1) (c .before .before .put-place2 .ensures .1 .0) (omega (arith, c .before .before .put-place2 .ensures .1 .1)))
 
 pub put-stop-spec : {M : Type 1} → statement M
 put-stop-spec =

@@ -29,10 +29,10 @@ use Rattle.sbe_call.specs.laws.Came as sbe-came
 use Rattle.undo_call.specs.Undo.{usedOf, moveCall, undoCall, redoCall, UndoAllows, RedoAllows}
 use Rattle.undo_call.specs.laws.Came as undo-came
 use Rattle.trace.specs.Trace.{traceScan}
-use Rattle.replay.specs.declared.Played.{Played}
-use Rattle.replay.specs.Replay.{StepAllows, PlayAllows, imageAfter, linesOf, stopLine, piecesOf}
-use Rattle.replay.specs.Steps.{oldestFirst, imageFrom, linesFrom}
-use Rattle.replay.specs.laws.Steps.{image-by-steps, lines-by-steps}
+use Rattle.playing.specs.declared.Played.{Played}
+use Rattle.playing.specs.Playing.{StepAllows, PlayAllows, imageAfter, linesOf, stopLine, piecesOf}
+use Rattle.playing.specs.Steps.{oldestFirst, imageFrom, linesFrom}
+use Rattle.playing.specs.laws.Steps.{image-by-steps, lines-by-steps}
 use Rattle.promises.specs.Calls.{Call, occ, sbe, redo, said}
 use Rattle.promises.specs.Demand1.{OccAnswer, SbeAnswer, UndoAnswer, RedoAnswer, OccDue, SbeDue, OccStatus, occError, sbeError}
 use Rattle.promises.specs.Demand2.{atFront, NotPoll, successReply, OccSucceeds, OccAccepted, SbeSucceeds, SbeAccepted, Newest, UndoAccepted, RedoAccepted}

@@ -7,8 +7,8 @@ use lib.ListN.{getD, take, drop, replicate}
 use Rattle.entries.specs.Entries.{Entry, written, entriesOf}
 use Rattle.trace.specs.Trace.{traceScan}
 use Rattle.image.specs.Image.{imageOf}
-use Rattle.replay.specs.Replay.{Heard, ifWritten, line}
-use Rattle.replay.specs.Steps.{oldestFirst}
+use Rattle.playing.specs.Playing.{Heard, ifWritten, line}
+use Rattle.playing.specs.Steps.{oldestFirst}
 use Rattle.promises.specs.Calls.{Call, occ, sbe, undo, redo, Said, said}
 use Rattle.promises.specs.History.{Run, next-run}
 

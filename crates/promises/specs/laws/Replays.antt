@@ -22,9 +22,9 @@ use Rattle.image.specs.laws.Image.{Typed}
 use Rattle.occ_call.specs.Occ as occs
 use Rattle.sbe_call.specs.Sbe as sbes
 use Rattle.undo_call.specs.Undo.{undoOn, movedLeft}
-use Rattle.replay.specs.Replay.{Heard, heardWith, occHeard, sbeHeard, undoHeard, heard, line, imageAfter, stopLine, piecesOf}
-use Rattle.replay.specs.Steps.{oldestFirst, imageFrom, linesFrom}
-use Rattle.replay.specs.laws.Steps.{image-by-steps, lines-by-steps, pieces-of-whole, entries-of-whole}
+use Rattle.playing.specs.Playing.{Heard, heardWith, occHeard, sbeHeard, undoHeard, heard, line, imageAfter, stopLine, piecesOf}
+use Rattle.playing.specs.Steps.{oldestFirst, imageFrom, linesFrom}
+use Rattle.playing.specs.laws.Steps.{image-by-steps, lines-by-steps, pieces-of-whole, entries-of-whole}
 use Rattle.promises.specs.Calls.{Call, occ, sbe, undo, said}
 use Rattle.promises.specs.History.{Run, did, next-run, run, start, OfBytes, AllOfBytes}
 use Rattle.promises.specs.Replays.{callOf, callsOf, callsIn, wholePart, statusOf, heardOf, linesBy}

@@ -6,7 +6,8 @@
  * A buffer is a pointer and its length in bytes. The pointer is never NULL, and the buffers of one call don't overlap: the proofs take both
  * for granted.
  *
- * A result has the answer in its low 16 bits:
+ * A result has the answer in bits 0 to 7 (no answer is over 255), a small number in bits 8 to 15 and one of 16 bits above; each function says
+ * what these two are, and they are 0 where it says nothing. The answers:
  *   0  done; an OCC or SBE reply is written, good or error
  *   1  the session isn't BJARGOLSK_SESSION bytes long, or isn't well formed
  *   2  the OCC sender is neither BJARGOLSK_HTMGT nor BJARGOLSK_BMC
@@ -36,14 +37,30 @@ enum {
     BJARGOLSK_BMC = 0x20
 };
 
-#define BJARGOLSK_ANSWER(result) ((result) & 0xFFFFu)
+#define BJARGOLSK_ANSWER(result) ((result) & 0xFFu)
 #define BJARGOLSK_HIGH(result) ((result) >> 16)
+
+/* Of an OCC call whose reply has status 0x13: the reason, and the number of the data byte that is wrong, from 1; of other calls 0. */
+#define BJARGOLSK_REASON(result) (((result) >> 8) & 0xFFu)
+#define BJARGOLSK_PLACE(result) BJARGOLSK_HIGH(result)
+
+enum {
+    BJARGOLSK_BAD_VERSION = 1,
+    BJARGOLSK_BAD_COUNT = 2,
+    BJARGOLSK_OUT_OF_RANGE = 3,
+    BJARGOLSK_REPEATED = 4,
+    BJARGOLSK_CLASH = 5,
+    BJARGOLSK_NOT_PENDING = 6
+};
 
 /* Makes the session the fresh one. Answers 0 and 1; the bytes need not be a session before. */
 uint32_t bjargolsk_fresh(uint8_t *session, size_t session_length);
 
 /* Answers an OCC command packet from a sender. A reply has 7 bytes and its data: sequence, type, status, two bytes of data length, data,
- * two bytes of checksum; the reply buffer past it is kept. Answers 0 to 5; the high 16 bits are 0. */
+ * two bytes of checksum; the reply buffer past it is kept. Answers 0 to 5. If the status is 0x13, bits 8 to 15 are the reason and the high 16
+ * bits the number of the data byte. The least number of a byte that is wrong is given, and of two reasons there the one that stands
+ * first above. A pair or FRU is repeated where it is seen the second time; of two fields that clash it is the later one; a field of two bytes
+ * counts as its first. */
 uint32_t bjargolsk_occ(uint8_t *session, size_t session_length, uint8_t sender, const uint8_t *command, size_t command_length,
                        uint8_t *reply, size_t reply_length);
 

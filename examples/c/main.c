@@ -1,4 +1,4 @@
-/* A master OCC brought up and capped; changes taken back, one step too far, and one put in again. */
+/* A master OCC brought up and capped; changes taken back, one step too far, and one put in again; a cap that is too high. */
 #include <stdio.h>
 
 #include "bjargolsk.h"
@@ -27,6 +27,8 @@ static void occ(const char *name, uint8_t sender, uint8_t type, const uint8_t *d
     packet[5 + length] = (uint8_t)sum;
     uint32_t result = bjargolsk_occ(session, sizeof session, sender, packet, 6u + length, reply, sizeof reply);
     printf("%s: answer %u", name, (unsigned)BJARGOLSK_ANSWER(result));
+    if (BJARGOLSK_REASON(result) != 0)
+        printf(" reason %u byte %u", (unsigned)BJARGOLSK_REASON(result), (unsigned)BJARGOLSK_PLACE(result));
     show(BJARGOLSK_ANSWER(result) == 0 ? 7u + reply[3] * 256u + reply[4] : 0);
 }
 
@@ -61,6 +63,7 @@ int main(void)
     static const uint8_t throttles[] = {0x12, 0x10, 1, 0, 0, 0, 1, 0, 2, 0, 3, 0, 4, 0, 5};
     static const uint8_t active[] = {0, 3, 0};
     static const uint8_t user[] = {0x03, 0xE8};
+    static const uint8_t high[] = {0x07, 0xD0};
     static const uint8_t deadman[32] = {0, 0, 0x01, 0x01, 0, 7, 0xD1, 0x01, 0, 0, 0, 0, 0, 0, 0x03, 0xE8};
 
     printf("fresh: answer %u\n", (unsigned)bjargolsk_fresh(session, sizeof session));
@@ -80,6 +83,8 @@ int main(void)
     undo();
     redo();
     occ("poll", BJARGOLSK_BMC, 0x00, poll, sizeof poll);
+    /* Status 0x13; the result says which data byte is wrong, and why. */
+    occ("high cap", BJARGOLSK_BMC, 0x22, high, sizeof high);
     occ("stranger", 0x30, 0x00, poll, sizeof poll);
     return 0;
 }

@@ -1,4 +1,4 @@
-"""A master OCC brought up and capped; changes taken back, one step too far, and one put in again.
+"""A master OCC brought up and capped; changes taken back, one step too far, and one put in again; a cap that is too high.
 
 usage: python3 main.py LIBRARY, the shared object that is made from the archive
 """
@@ -42,13 +42,15 @@ class Bench:
         packet = bytes([self.sequence, kind]) + len(data).to_bytes(2, "big") + bytes(data)
         packet += (sum(packet) % 65536).to_bytes(2, "big")
         result = self.lib.bjargolsk_occ(self.session, SESSION, sender, packet, len(packet), self.reply, 4096)
-        answer = result & 0xFFFF
+        answer = result & 0xFF
+        reason = result >> 8 & 0xFF
+        wrong = " reason %d byte %d" % (reason, result >> 16) if reason else ""
         length = 7 + int.from_bytes(self.reply.raw[3:5], "big")
-        print("%s: answer %d%s" % (name, answer, self.shown(answer, length)))
+        print("%s: answer %d%s%s" % (name, answer, wrong, self.shown(answer, length)))
 
     def sbe(self, name, request):
         result = self.lib.bjargolsk_sbe(self.session, SESSION, request, len(request), self.reply, 4096)
-        answer = result & 0xFFFF
+        answer = result & 0xFF
         print("%s: answer %d bell %04X%s" % (name, answer, result >> 16, self.shown(answer, 32)))
 
     def undo(self):
@@ -59,7 +61,7 @@ class Bench:
 
 
 def show_kind(name, result):
-    print("%s: answer %d kind %02X" % (name, result & 0xFFFF, result >> 16))
+    print("%s: answer %d kind %02X" % (name, result & 0xFF, result >> 16))
 
 
 def main():
@@ -82,6 +84,8 @@ def main():
     bench.undo()
     bench.redo()
     bench.occ("poll", BMC, 0x00, [0x10])
+    # Status 0x13; the result says which data byte is wrong, and why.
+    bench.occ("high cap", BMC, 0x22, [0x07, 0xD0])
     bench.occ("stranger", 0x30, 0x00, [0x10])
 
 

@@ -56,6 +56,7 @@ fn count_order(counts: &mut Counts, program: &mut Program, order: Order) {
     let before = program.session.clone();
     let described = describe(&order, &before);
     let loaded = matches!(order, Order::Load(_));
+    let asked_why = order == Order::Why;
     let named = match &described {
         Described::Occ(what) | Described::Sbe(what) | Described::Undo(what) | Described::Redo(what) => {
             what.clone()
@@ -70,6 +71,11 @@ fn count_order(counts: &mut Counts, program: &mut Program, order: Order) {
             add(counts, "call occ".to_string());
             let status = words.get(3).map_or(String::new(), |status| format!(" status {status}"));
             add(counts, format!("occ {what} answer {number}{status}"));
+            if let Some(fault) = program.fault {
+                let sort = what.split(' ').next().unwrap_or("");
+                add(counts, format!("why {}", fault.reason.words()));
+                add(counts, format!("why {sort} {} at {}", fault.reason.words(), place(sort, fault.byte)));
+            }
         }
         Described::Sbe(what) => {
             add(counts, "call sbe".to_string());
@@ -88,6 +94,7 @@ fn count_order(counts: &mut Counts, program: &mut Program, order: Order) {
             add(counts, "call redo".to_string());
             add(counts, format!("redo {what} answer {number}"));
         }
+        Described::Other if asked_why => add(counts, "line why".to_string()),
         Described::Other => add(counts, "line not a call".to_string()),
     }
     if !named.is_empty() {
@@ -142,6 +149,27 @@ fn occ_sort(sender: u8, command: &[u8]) -> String {
         _ => "other".to_string(),
     };
     format!("{sort} {sender}")
+}
+
+/// Where a fault is: the number of the byte, or which set and which of its bytes.
+fn place(sort: &str, byte: usize) -> String {
+    let set_length = match sort {
+        "21/12" => 12,
+        "21/13" => 4,
+        _ => return format!("byte {byte}"),
+    };
+    let Some(after) = byte.checked_sub(4) else {
+        return format!("byte {byte}");
+    };
+    let set = match after / set_length {
+        0 => "the first set",
+        1 => "the second set",
+        2..=14 => "a set in between",
+        15 => "the sixteenth set",
+        16 => "the seventeenth set",
+        _ => "a set further on",
+    };
+    format!("byte {} of {set}", after % set_length + 1)
 }
 
 /// The newest entry's kind, and why it may not be undone.

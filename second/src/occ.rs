@@ -32,7 +32,55 @@ pub enum Effect {
     Change(Accepted),
 }
 
-type Judged = Result<Effect, u8>;
+/// Why data is wrong, in the order that decides where two hold at one byte.
+#[derive(Clone, Copy, PartialEq, Eq, Debug)]
+pub enum Reason {
+    BadVersion,
+    BadCount,
+    OutOfRange,
+    Repeated,
+    Clash,
+    NotPending,
+}
+
+impl Reason {
+    /// From 1, as the C interface has it.
+    pub fn number(self) -> u8 {
+        self as u8 + 1
+    }
+
+    pub fn words(self) -> &'static str {
+        match self {
+            Reason::BadVersion => "bad version",
+            Reason::BadCount => "bad count",
+            Reason::OutOfRange => "out of range",
+            Reason::Repeated => "repeated",
+            Reason::Clash => "clash",
+            Reason::NotPending => "not pending",
+        }
+    }
+}
+
+/// The first data byte that is wrong, counted from 1, and why.
+#[derive(Clone, Copy, PartialEq, Eq, Debug)]
+pub struct Fault {
+    pub byte: usize,
+    pub reason: Reason,
+}
+
+/// An error status; where the data is wrong, the fault beside it.
+pub struct Refusal {
+    pub status: u8,
+    pub fault: Option<Fault>,
+}
+
+impl From<u8> for Refusal {
+    fn from(status: u8) -> Self {
+        Refusal { status, fault: None }
+    }
+}
+
+type Judged = Result<Effect, Refusal>;
 
 /// The two-byte sum, ignoring overflow.
 pub fn checksum(bytes: &[u8]) -> u16 {
@@ -40,29 +88,23 @@ pub fn checksum(bytes: &[u8]) -> u16 {
 }
 
 /// Type and data of the packet at the front of the command.
-fn read_packet(command: &[u8]) -> Result<(u8, &[u8]), u8> {
+fn read_packet(command: &[u8]) -> Result<(u8, &[u8]), Refusal> {
     let [_, command_type, high, low, rest @ ..] = command else {
-        return Err(INVALID_LENGTH);
+        return Err(INVALID_LENGTH.into());
     };
     let length = usize::from(u16::from_be_bytes([*high, *low]));
-    if length > LONGEST_DATA || length + 6 > command.len() {
-        return Err(INVALID_LENGTH);
-    }
+    need(length <= LONGEST_DATA && length + 6 <= command.len(), INVALID_LENGTH)?;
     let (data, after) = rest.split_at_checked(length).ok_or(INVALID_LENGTH)?;
     let sent = Reader::new(after).u16().ok_or(INVALID_LENGTH)?;
     let summed = command.get(..length + 4).map(checksum);
-    if summed != Some(sent) {
-        return Err(CHECKSUM_FAILURE);
-    }
+    need(summed == Some(sent), CHECKSUM_FAILURE)?;
     Ok((*command_type, data))
 }
 
 /// Every status of the table, in its order.
 pub fn judge(session: &Standing, sender: u8, command: &[u8]) -> Judged {
     let (command_type, data) = read_packet(command)?;
-    if sender == BMC && command_type != POLL && command_type != USER_CAP {
-        return Err(INVALID_COMMAND);
-    }
+    need(sender != BMC || command_type == POLL || command_type == USER_CAP, INVALID_COMMAND)?;
     match command_type {
         POLL => poll(data),
         CLEAR_LOG => clear_log(session, data),
@@ -70,7 +112,7 @@ pub fn judge(session: &Standing, sender: u8, command: &[u8]) -> Judged {
         CONFIGURATION => configuration(session, data),
         USER_CAP => user_cap(session, data),
         RESET_PREP => reset_prep(session, data),
-        _ => Err(INVALID_COMMAND),
+        _ => Err(INVALID_COMMAND.into()),
     }
 }
 
@@ -78,29 +120,42 @@ fn change(session: &Standing, before: Change, record: Record) -> Judged {
     Ok(Effect::Change(Accepted { before, record, next_id: session.next_id }))
 }
 
-fn need(held: bool, status: u8) -> Result<(), u8> {
+fn need(held: bool, status: u8) -> Result<(), Refusal> {
     if held {
         Ok(())
     } else {
-        Err(status)
+        Err(status.into())
     }
 }
 
+/// What the data must hold, with the number of the byte that is wrong if it doesn't. Asked byte by byte, the first is told.
+fn right(held: bool, byte: usize, reason: Reason) -> Result<(), Refusal> {
+    if held {
+        Ok(())
+    } else {
+        Err(wrong(byte, reason))
+    }
+}
+
+fn wrong(byte: usize, reason: Reason) -> Refusal {
+    Refusal { status: INVALID_DATA, fault: Some(Fault { byte, reason }) }
+}
+
 /// The data if it has exactly the length the type fixes.
-fn exactly<const N: usize>(data: &[u8]) -> Result<[u8; N], u8> {
-    data.try_into().map_err(|_| INVALID_LENGTH)
+fn exactly<const N: usize>(data: &[u8]) -> Result<[u8; N], Refusal> {
+    data.try_into().map_err(|_| INVALID_LENGTH.into())
 }
 
 fn poll(data: &[u8]) -> Judged {
     let [version] = exactly(data)?;
-    need(version == VERSION, INVALID_DATA)?;
+    right(version == VERSION, 1, Reason::BadVersion)?;
     Ok(Effect::Poll)
 }
 
 fn clear_log(session: &Standing, data: &[u8]) -> Judged {
     let [id] = exactly(data)?;
     let mut record = *session.record;
-    let place = record.place_of(id).ok_or(INVALID_DATA)?;
+    let place = record.place_of(id).ok_or(wrong(1, Reason::NotPending))?;
     let log = record.logs[place];
     record.remove_log(place);
     change(session, Change::Clear { place: place as u8, log }, record)
@@ -108,7 +163,9 @@ fn clear_log(session: &Standing, data: &[u8]) -> Judged {
 
 fn set_state(session: &Standing, data: &[u8]) -> Judged {
     let [version, state, reserved] = exactly(data)?;
-    need(version == 0 && state_fits(state) && reserved == 0, INVALID_DATA)?;
+    right(version == 0, 1, Reason::BadVersion)?;
+    right(state_fits(state), 2, Reason::OutOfRange)?;
+    right(reserved == 0, 3, Reason::OutOfRange)?;
     let ready = match state {
         OBSERVATION => session.worked_out.observation == 1,
         ACTIVE => session.worked_out.active == 1,
@@ -125,14 +182,14 @@ fn configuration(session: &Standing, data: &[u8]) -> Judged {
         FORMAT_CAPS => caps(session, data),
         FORMAT_THROTTLES => throttles(session, data),
         FORMAT_THERMAL => thermal(session, data),
-        _ => Err(INVALID_DATA),
+        _ => Err(wrong(1, Reason::OutOfRange)),
     }
 }
 
 fn role(session: &Standing, data: &[u8]) -> Judged {
     let [_, role] = exactly(data)?;
     let now = session.record;
-    need(role <= MASTER, INVALID_DATA)?;
+    right(role <= MASTER, 2, Reason::OutOfRange)?;
     need(now.state == STANDBY, STATE_PROHIBITS)?;
     let before = Change::Role { received: now.role_received, role: now.role };
     change(session, before, Record { role, role_received: 1, ..*now })
@@ -142,33 +199,38 @@ fn caps(session: &Standing, data: &[u8]) -> Judged {
     let [_, version, values @ ..] = exactly::<8>(data)?;
     let now = session.record;
     let caps = read_caps(&mut Reader::new(&values)).ok_or(INVALID_LENGTH)?;
-    need(version == VERSION && caps.minimum <= caps.maximum, INVALID_DATA)?;
+    right(version == VERSION, 2, Reason::BadVersion)?;
+    right(caps.minimum <= caps.maximum, 5, Reason::Clash)?; // at the maximum
     need(now.is_master(), STATE_PROHIBITS)?;
     let before = Change::Caps { received: now.caps_received, caps: now.caps };
     change(session, before, Record { caps, caps_received: 1, ..*now })
 }
 
-/// The sets of a packet whose third byte is their count: the length first, then version and count.
-fn counted_sets(data: &[u8], set_length: usize) -> Result<&[u8], u8> {
+/// The sets of a packet whose third byte is their count, each with the number of its first byte: the length is judged first,
+/// then version and count.
+fn counted_sets(data: &[u8], length: usize) -> Result<impl Iterator<Item = (usize, &[u8])>, Refusal> {
     let [_, version, count, sets @ ..] = data else {
-        return Err(INVALID_LENGTH);
+        return Err(INVALID_LENGTH.into());
     };
-    need(sets.len() == set_length * usize::from(*count), INVALID_LENGTH)?;
-    need(*version == VERSION && *count >= 1, INVALID_DATA)?;
-    Ok(sets)
+    need(sets.len() == length * usize::from(*count), INVALID_LENGTH)?;
+    right(*version == VERSION, 2, Reason::BadVersion)?;
+    right(*count >= 1, 3, Reason::BadCount)?;
+    Ok((4..).step_by(length).zip(sets.chunks_exact(length)))
 }
 
 fn throttles(session: &Standing, data: &[u8]) -> Judged {
     let mut table = Throttles::default();
-    for sent in counted_sets(data, 12)?.chunks_exact(12) {
+    for (byte, sent) in counted_sets(data, 12)? {
         let mut set = Reader::new(sent);
         let (hub, mba) = set.u8().zip(set.u8()).ok_or(INVALID_LENGTH)?;
         let values = set.array().ok_or(INVALID_LENGTH)?;
-        need(hub <= 7 && mba <= 1, INVALID_DATA)?;
-        let pair = 2 * hub + mba;
-        need(table.presence >> pair & 1 == 0, INVALID_DATA)?;
-        table.presence |= 1 << pair;
-        table.sets[usize::from(pair)] = values;
+        right(hub <= 7, byte, Reason::OutOfRange)?;
+        // A pair with a wrong MBA is no pair yet, so it can't have been seen.
+        let seen = mba <= 1 && table.presence >> (2 * hub + mba) & 1 == 1;
+        right(!seen, byte, Reason::Repeated)?;
+        right(mba <= 1, byte + 1, Reason::OutOfRange)?;
+        table.presence |= 1 << (2 * hub + mba);
+        table.sets[usize::from(2 * hub + mba)] = values;
     }
     let now = session.record;
     let before = Change::Throttles { received: now.throttles_received, throttles: now.throttles };
@@ -178,10 +240,11 @@ fn throttles(session: &Standing, data: &[u8]) -> Judged {
 fn thermal(session: &Standing, data: &[u8]) -> Judged {
     let mut table = FRESH_THERMAL;
     let mut seen = [false; 3];
-    for set in counted_sets(data, 4)?.chunks_exact(4) {
+    for (byte, set) in counted_sets(data, 4)? {
         let fru = usize::from(set[0]);
-        need(seen.get(fru) == Some(&false), INVALID_DATA)?;
-        need(thresholds_fit(set[1], set[2]), INVALID_DATA)?;
+        right(fru < seen.len(), byte, Reason::OutOfRange)?;
+        right(!seen[fru], byte, Reason::Repeated)?;
+        right(thresholds_fit(set[1], set[2]), byte + 2, Reason::Clash)?; // at ERROR
         seen[fru] = true;
         table[3 * fru..3 * fru + 3].copy_from_slice(&set[1..]);
     }
@@ -194,14 +257,15 @@ fn user_cap(session: &Standing, data: &[u8]) -> Judged {
     let user_cap = u16::from_be_bytes(exactly(data)?);
     let now = session.record;
     let within = (now.caps.minimum..=now.caps.maximum).contains(&user_cap);
-    need(user_cap == 0 || (now.has_caps() && within), INVALID_DATA)?;
+    right(user_cap == 0 || (now.has_caps() && within), 1, Reason::OutOfRange)?;
     need(now.is_master(), STATE_PROHIBITS)?;
     change(session, Change::UserCap(now.user_cap), Record { user_cap, ..*now })
 }
 
 fn reset_prep(session: &Standing, data: &[u8]) -> Judged {
     let [version, reason] = exactly(data)?;
-    need(version == 0 && reason <= 2, INVALID_DATA)?;
+    right(version == 0, 1, Reason::BadVersion)?;
+    right(reason <= 2, 2, Reason::OutOfRange)?;
     let now = session.record;
     let mut record = Record { state: STANDBY, ..*now };
     let mut next_id = session.next_id;

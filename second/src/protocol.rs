@@ -2,8 +2,8 @@
 
 use crate::bytes::{hex, hex_spaced};
 use crate::image::{self, IMAGE_LENGTH};
-use crate::occ::command_packet;
-use crate::session::{Session, DONE, OCC_REPLY_LENGTH, SBE_REPLY_LENGTH};
+use crate::occ::{command_packet, Fault};
+use crate::session::{OccAnswer, Session, DONE, OCC_REPLY_LENGTH, SBE_REPLY_LENGTH};
 use crate::show::{journal_listing, show};
 use std::io::{BufRead, BufReader, Read, Write};
 
@@ -23,6 +23,7 @@ image             the session as 4337 bytes
 load BYTES        go on with the session of such an image
 send SS TT DATA   as occ: a packet of type TT, framed for you
 buffer N          reply buffers of N bytes; alone: whole ones again
+why               which data byte the last packet had wrong
 show              the session for a person
 journal           the journal's entries
 help              these words
@@ -49,6 +50,7 @@ pub enum Order {
     },
     /// Reply buffers of that length; `None`: whole ones.
     Buffer(Option<usize>),
+    Why,
     Show,
     Journal,
     Help,
@@ -185,6 +187,7 @@ fn parse_words(rest: &mut Scanner) -> Result<Order, Complaint> {
         b"redo" => rest.nothing_more(Order::Redo),
         b"fresh" => rest.nothing_more(Order::Fresh),
         b"image" => rest.nothing_more(Order::Image),
+        b"why" => rest.nothing_more(Order::Why),
         b"show" => rest.nothing_more(Order::Show),
         b"journal" => rest.nothing_more(Order::Journal),
         b"help" => rest.nothing_more(Order::Help),
@@ -210,16 +213,18 @@ fn parse_buffer(rest: &mut Scanner) -> Result<Order, Complaint> {
     rest.nothing_more(Order::Buffer(Some(length as usize)))
 }
 
-/// The session, the sequence number of the last `send`, and the length of reply buffers if they aren't whole.
+/// The session, the sequence number of the last `send`, the length of reply buffers if they aren't whole, and what the last OCC
+/// call had wrong.
 pub struct Program {
     pub session: Session,
     sequence: u8,
     buffer: Option<usize>,
+    pub fault: Option<Fault>,
 }
 
 impl Default for Program {
     fn default() -> Self {
-        Program { session: Session::fresh(), sequence: 0, buffer: None }
+        Program { session: Session::fresh(), sequence: 0, buffer: None, fault: None }
     }
 }
 
@@ -249,6 +254,10 @@ impl Program {
                 self.buffer = length;
                 "ok\n".to_string()
             }
+            Order::Why => match self.fault {
+                Some(fault) => format!("{} {}\n", fault.byte, fault.reason.words()),
+                None => "0\n".to_string(),
+            },
             Order::Image => format!("image {}\n", hex(&image::write(&self.session))),
             Order::Show => show(&self.session),
             Order::Journal => journal_listing(&self.session) + ".\n",
@@ -268,7 +277,8 @@ impl Program {
 
     fn occ(&mut self, sender: u8, command: &[u8]) -> String {
         let mut reply = vec![0; self.buffer.unwrap_or(OCC_REPLY_LENGTH)];
-        let (answer, length) = self.session.occ(sender, command, &mut reply);
+        let OccAnswer { answer, length, fault } = self.session.occ(sender, command, &mut reply);
+        self.fault = fault;
         match reply.get(..length) {
             Some(written) if answer == DONE => format!("{answer} {}\n", hex_spaced(written)),
             _ => format!("{answer}\n"),

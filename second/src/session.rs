@@ -52,6 +52,22 @@ pub struct Inspection<'a> {
     redo: Survey,
 }
 
+/// What an OCC call gives beside the reply.
+#[derive(Clone, Copy, PartialEq, Eq, Debug)]
+pub struct OccAnswer {
+    pub answer: u8,
+    /// The reply's length, 0 when none is written.
+    pub length: usize,
+    /// Which data byte is wrong; `None` when the status isn't 0x13.
+    pub fault: Option<occ::Fault>,
+}
+
+impl OccAnswer {
+    fn refused(answer: u8) -> Self {
+        OccAnswer { answer, length: 0, fault: None }
+    }
+}
+
 /// A rule of well-formedness: its name and whether a session obeys it.
 pub type Rule = (&'static str, fn(&Inspection) -> bool);
 
@@ -145,27 +161,31 @@ impl<B: Bytes> Session<B> {
         true
     }
 
-    /// The answer, and the reply's length (0 when none is written).
-    pub fn occ(&mut self, sender: u8, command: &[u8], reply: &mut [u8]) -> (u8, usize) {
+    pub fn occ(&mut self, sender: u8, command: &[u8], reply: &mut [u8]) -> OccAnswer {
         if !self.well_formed() {
-            return (NOT_WELL_FORMED, 0);
+            return OccAnswer::refused(NOT_WELL_FORMED);
         }
         if sender != occ::HTMGT && sender != occ::BMC {
-            return (UNKNOWN_SENDER, 0);
+            return OccAnswer::refused(UNKNOWN_SENDER);
         }
         if reply.len() < OCC_REPLY_LENGTH {
-            return (REPLY_TOO_SHORT, 0);
+            return OccAnswer::refused(REPLY_TOO_SHORT);
         }
         let [sequence, command_type, _, _, ..] = *command else {
-            return (COMMAND_TOO_SHORT, 0);
+            return OccAnswer::refused(COMMAND_TOO_SHORT);
         };
+        let mut fault = None;
         let (status, data) = match occ::judge(&self.standing(), sender, command) {
-            Err(status) => (status, occ::Data::log_id(0)),
+            Err(refusal) => {
+                fault = refusal.fault;
+                (refusal.status, occ::Data::log_id(0))
+            }
             Ok(occ::Effect::Poll) => (occ::SUCCESS, occ::poll_data(&self.standing())),
             Ok(occ::Effect::Change(accepted)) if self.accept(&accepted) => (occ::SUCCESS, occ::Data::none()),
-            Ok(occ::Effect::Change(_)) => return (JOURNAL_FULL, 0),
+            Ok(occ::Effect::Change(_)) => return OccAnswer::refused(JOURNAL_FULL),
         };
-        (DONE, occ::write_reply(reply, [sequence, command_type, status], data.bytes()))
+        let length = occ::write_reply(reply, [sequence, command_type, status], data.bytes());
+        OccAnswer { answer: DONE, length, fault }
     }
 
     /// The answer and the doorbell; the response is 32 bytes when the answer is 0.

@@ -99,7 +99,10 @@ fn example_10_longest_data() {
     let mut reply = [0; OCC_REPLY_LENGTH];
     for (length, status) in [(4090usize, 0x11), (4091, 0x12)] {
         let packet = second::occ::command_packet(9, 0xEE, &vec![0xFF; length]);
-        assert_eq!(session.occ(0x10, &packet, &mut reply), (DONE, 8));
+        assert_eq!(
+            session.occ(0x10, &packet, &mut reply),
+            OccAnswer { answer: DONE, length: 8, fault: None }
+        );
         assert_eq!(reply[2], status);
     }
 }
@@ -108,8 +111,9 @@ fn example_10_longest_data() {
 fn reply_buffers_one_short() {
     let mut session = Session::fresh();
     let mut reply = [0xAA; OCC_REPLY_LENGTH - 1];
-    assert_eq!(session.occ(0x10, &[], &mut reply), (REPLY_TOO_SHORT, 0));
-    assert_eq!(session.occ(0x11, &[], &mut reply), (UNKNOWN_SENDER, 0));
+    for (sender, answer) in [(0x10, REPLY_TOO_SHORT), (0x11, UNKNOWN_SENDER)] {
+        assert_eq!(session.occ(sender, &[], &mut reply), OccAnswer { answer, length: 0, fault: None });
+    }
     let mut response = [0xAA; SBE_REPLY_LENGTH - 1];
     assert_eq!(session.sbe(&[], &mut response), (REPLY_TOO_SHORT, 0));
     assert!(reply.iter().chain(&response).all(|byte| *byte == 0xAA));

@@ -1,5 +1,6 @@
 -- What each test of an answer chooses to say. Assumes nothing.
 use Prim.Native.Nat.{ℕ, _+_, _<_, _≤_}
+use Prim.Native.String.{String}
 use mathlib.Core.Bool.{Bool, true, false, cond}
 use mathlib.Core.Path.{_≡_, refl, sym, ap, ap₂, _∙_}
 use mathlib.Core.List.{List, [], _∷_, _++_}
@@ -9,13 +10,14 @@ use lib.Dec.{ltb}
 use lib.ListN.{length, take, drop}
 use borrow.Author.Tests.{ltb-false}
 use Rattle.wire.specs.Wire.{pasted, beNat}
-use Rattle.wire.specs.laws.Cases.{if-lt, else-lt, if-ne, else-ne}
-use Rattle.text.specs.Text.{Sheet, sheet, putOn, putAll, atFront, lineEnd, decimal}
+use Rattle.wire.specs.laws.Cases.{if-lt, else-lt, if-eq, else-eq, if-ne, else-ne}
+use Rattle.text.specs.Text.{Sheet, sheet, ascii, putOn, putAll, atFront, lineEnd, decimal}
 use Rattle.text.specs.laws.Pieces.{same-pieces, put-fits}
 use Rattle.listing.specs.Listing.{tooLong, listing, longest, listed, listedLength}
 use Rattle.listing.specs.laws.Lengths.{length-listing}
 use Rattle.orders.specs.declared.Wrong.{Wrong}
-use Rattle.answers.specs.Answers.{complaintText, callText, wholeReply, replyLength, listText}
+use Rattle.places.specs.Reasons.{named, wordsAmong, wordsFor}
+use Rattle.answers.specs.Answers.{lineText, complaintText, callText, wholeReply, replyLength, whyText, listText}
 
 -- ---- what is wrong: v is the variant that it is
 
@@ -50,6 +52,29 @@ module _ (s : List ℕ) where
 
     pub reply-whole : 7 + n ≤ length s → 7 + n ≡ replyLength s
     reply-whole h = else-lt 0 (7 + n) h refl ∙ reply-by
+
+-- ---- the words of a reason: k is the number that it is
+
+module _ (p : Sheet) {s : Sheet} {n : ℕ} where
+  pub reason-is : (k : ℕ) → n ≡ k → s ≡ putOn p (ascii (wordsFor k)) → s ≡ putOn p (ascii (wordsFor n))
+  reason-is k e h = h ∙ ap (λ (m : ℕ). putOn p (ascii (wordsFor m))) (sym e)
+
+  pub no-reason : (n ≡ 1 → ⊥) → (n ≡ 2 → ⊥) → (n ≡ 3 → ⊥) → (n ≡ 4 → ⊥) → (n ≡ 5 → ⊥) → (n ≡ 6 → ⊥) → s ≡ putOn p [] → s ≡ putOn p (ascii (wordsFor n))
+  unfolding wordsFor wordsAmong named
+  no-reason a b c d e f h =
+      let not : (k : ℕ) → (n ≡ k → ⊥) → k ≡ n → ⊥ = λ k x y. x (sym y) in
+      h
+      ∙ ap (λ (w : String). putOn p (ascii w))
+      (else-eq _ _ (not 1 a) (else-eq _ _ (not 2 b) (else-eq _ _ (not 3 c) (else-eq _ _ (not 4 d) (else-eq _ _ (not 5 e) (else-eq _ _ (not 6 f) refl))))))
+
+module _ (reason at : ℕ) where
+  pub why-none : reason ≡ 0 → lineText (ascii "0") ≡ whyText reason at
+  unfolding whyText
+  why-none h = if-eq _ _ h refl
+
+  pub why-some : (reason ≡ 0 → ⊥) → decimal at ∷ ascii " " ∷ ascii (wordsFor reason) ∷ lineEnd ∷ [] ≡ whyText reason at
+  unfolding whyText
+  why-some h = else-eq _ _ h refl
 
 -- ---- the listing
 

@@ -7,6 +7,7 @@ use lib.ListN.{length, take, drop}
 use Rattle.wire.specs.Wire.{beNat, toBE}
 use Rattle.text.specs.Text.{ascii, lineEnd, hexOf, hexes, spaced, decimal}
 use Rattle.listing.specs.Listing.{tooLong, listing, longest}
+use Rattle.places.specs.Reasons.{wordsFor}
 use Rattle.orders.specs.declared.Wrong.{Wrong}
 use Rattle.orders.specs.Orders.{imageBytes}
 use Rattle.orders.specs.declared.Wrong.the-variants.{LongLine, NoWord, MoreText, NoDigit, TooMany, NoImage, NoNumber, LongBuffer}
@@ -64,6 +65,10 @@ kindText answer kind = callText answer (ascii " " ∷ hexOf kind ∷ [])
 
 -- ---- views
 
+-- "`0`, or the number and the reason's words"
+unfoldable pub whyText : ℕ → ℕ → List (List ℕ)
+whyText reason at = cond (eqb reason 0) (lineText (ascii "0")) (decimal at ∷ ascii " " ∷ ascii (wordsFor reason) ∷ lineEnd ∷ [])
+
 -- "`image `, then the session's bytes in capitals without blanks"
 unfoldable pub imageText : List ℕ → List (List ℕ)
 imageText bytes = ascii "image " ∷ (hexes bytes ++ (lineEnd ∷ []))
@@ -90,6 +95,7 @@ helpText =
     ∷ ascii "load BYTES        go on with the session of such an image\n"
     ∷ ascii "send SS TT DATA   as occ: a packet of type TT, framed for you\n"
     ∷ ascii "buffer N          reply buffers of N bytes; alone: whole ones again\n"
+    ∷ ascii "why               which data byte the last packet had wrong\n"
     ∷ ascii "show              the session for a person\n"
     ∷ ascii "journal           the journal's entries\n"
     ∷ ascii "help              these words\n"

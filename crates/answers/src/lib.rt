@@ -2,8 +2,9 @@
 ghost use mathlib.Core.Path.{_≡_};
 ghost use lib.ListN.{length, take, drop};
 ghost use Rattle.io.specs.Counts.{Counts};
-ghost use Rattle.text.specs.Text.{sheet, putOn, putAll, atFront, lineEnd};
-ghost use Rattle.answers.specs.Answers.{lineText, columnText, imageComplaint, complaintText, replyLength, replyText, bellText, rungText, kindText, imageText, listText, journalText, helpText};
+ghost use Rattle.text.specs.Text.{sheet, ascii, putOn, putAll, atFront, lineEnd};
+ghost use Rattle.places.specs.Reasons.{wordsFor};
+ghost use Rattle.answers.specs.Answers.{lineText, columnText, imageComplaint, complaintText, replyLength, replyText, bellText, rungText, kindText, whyText, imageText, listText, journalText, helpText};
 use orders::Wrong;
 
 fn put_end(out: &mut [u8], at: usize) -> usize
@@ -129,6 +130,34 @@ pub fn with_kind(out: &mut [u8], answer: u8, kind: u8) -> usize
 
 // ---- views
 
+fn put_reason(out: &mut [u8], at: usize, reason: u8) -> usize
+    ensures { λ r. ⌜ sheet (now (out .exit)) r ≡ putOn (sheet (now (out .entry)) at) (ascii (wordsFor reason)) ⌝ }
+{
+    match reason {
+        1 => text::put(out, at, b"bad version"),
+        2 => text::put(out, at, b"bad count"),
+        3 => text::put(out, at, b"out of range"),
+        4 => text::put(out, at, b"repeated"),
+        5 => text::put(out, at, b"clash"),
+        6 => text::put(out, at, b"not pending"),
+        _ => text::put(out, at, b""),
+    }
+}
+
+// The data byte that the last OCC call had wrong and the reason by its number, of which 0 is none.
+pub fn why(out: &mut [u8], reason: u8, at: u16) -> usize
+    ensures { λ r. ⌜ Counts r (now (out .exit)) ⌝ }
+    ensures { λ r. ⌜ sheet (now (out .exit)) r ≡ atFront (now (out .entry)) (whyText reason at) ⌝ }
+{
+    if reason == 0 {
+        return line(out, b"0");
+    }
+    let place = text::put_decimal(out, 0, at as u64);
+    let blank = text::put(out, place, b" ");
+    let end = put_reason(out, blank, reason);
+    put_end(out, end)
+}
+
 pub fn image(out: &mut [u8], bytes: &[u8]) -> usize
     ensures { λ r. ⌜ Counts r (now (out .exit)) ⌝ }
     ensures { λ r. ⌜ sheet (now (out .exit)) r ≡ atFront (now (out .entry)) (imageText (now (bytes .entry))) ⌝ }
@@ -197,19 +226,24 @@ fn put_sessions(out: &mut [u8], at: usize) -> usize
     )
 }
 
-// The words for packets and for reply buffers.
+// The words for packets, for reply buffers and for what was wrong in a packet.
 fn put_sends(out: &mut [u8], at: usize) -> usize
-    ensures { λ r. ⌜ sheet (now (out .exit)) r ≡ putAll (sheet (now (out .entry)) at) (take 2 (drop 9 helpText)) ⌝ }
+    ensures { λ r. ⌜ sheet (now (out .exit)) r ≡ putAll (sheet (now (out .entry)) at) (take 3 (drop 9 helpText)) ⌝ }
 {
     let a = text::put(
         out,
         at,
         b"send SS TT DATA   as occ: a packet of type TT, framed for you\n",
     );
-    text::put(
+    let b = text::put(
         out,
         a,
         b"buffer N          reply buffers of N bytes; alone: whole ones again\n",
+    );
+    text::put(
+        out,
+        b,
+        b"why               which data byte the last packet had wrong\n",
     )
 }
 

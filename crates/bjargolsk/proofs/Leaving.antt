@@ -23,11 +23,11 @@ left-by : (x : ℕ) (t : Told) (y : List ℕ) (q : Left) → x ≡ packed t → 
 left-by x t y q p e = (p ∙ ap (λ (l : Left). packed (l .told)) e, ap (λ (l : Left). l .image) e)
 
 module _ (b : List ℕ) (x : ℕ) (t : Told) (p : x ≡ packed t) where
-  pub fresh-kept : (length b ≡ imageLength → ⊥) → t ≡ record { answer = 1; beside = 0 } → Leaves x b (freshOn b)
+  pub fresh-kept : (length b ≡ imageLength → ⊥) → t ≡ record { answer = 1; small = 0; beside = 0 } → Leaves x b (freshOn b)
   unfolding freshOn
   fresh-kept z e = left-by x t b _ p ((λ i. record { told = e i; image = b; reply = [] }) ∙ if-ne (noImage b []) _ z refl)
 
-  pub fresh-left : length b ≡ imageLength → t ≡ record { answer = 0; beside = 0 } → (s : Session) (y : List ℕ) → s ≡ freshSession → y ≡ writtenTo b s → Leaves x y (freshOn b)
+  pub fresh-left : length b ≡ imageLength → t ≡ record { answer = 0; small = 0; beside = 0 } → (s : Session) (y : List ℕ) → s ≡ freshSession → y ≡ writtenTo b s → Leaves x y (freshOn b)
   unfolding freshOn
   fresh-left long e s y f w =
       let image = w ∙ written b s long ∙ ap imageOf f in

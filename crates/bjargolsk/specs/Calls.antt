@@ -14,17 +14,17 @@ use Rattle.occ_call.specs.Occ.{occOn}
 use Rattle.sbe_call.specs.Sbe.{sbeOn}
 use Rattle.undo_call.specs.Undo.{undoOn, redoOn}
 
--- the answer in the low 16 bits, what stands beside it in the high 16
+-- the answer in bits 0 to 7, the small number in bits 8 to 15, the other in bits 16 to 31
 unfoldable pub packed : Told → ℕ
-packed t = t .beside * 65536 + t .answer
+packed t = t .beside * 65536 + t .small * 256 + t .answer
 
 unfoldable pub answerIn : ℕ → ℕ
-answerIn result = result % 65536
+answerIn result = result % 256
 
 -- bytes made a fresh session
 unfoldable pub freshOn : List ℕ → Left
 freshOn b =
-    cond (not (eqb (length b) imageLength)) (noImage b []) (record { told = record { answer = 0; beside = 0 }; image = imageOf freshSession; reply = [] })
+    cond (not (eqb (length b) imageLength)) (noImage b []) (record { told = record { answer = 0; small = 0; beside = 0 }; image = imageOf freshSession; reply = [] })
 
 -- ---- what the contracts allow: the result, and the lent bytes and the reply buffer as they are left
 

@@ -1,5 +1,5 @@
-// The calls for C: those of `occ_call`, `sbe_call` and `undo_call` under C names. A result has the answer in its low 16 bits and what stands
-// beside it in the high 16.
+// The calls for C: those of `occ_call`, `sbe_call` and `undo_call` under C names. A result has the answer in bits 0 to 7, a small number beside
+// it in bits 8 to 15, and one of 16 bits above.
 ghost use mathlib.Core.Path.{_≡_};
 ghost use Rattle.bjargolsk.specs.Calls.{packed, FreshReturns, OccReturns, SbeReturns, UndoReturns, RedoReturns};
 use inplace::Told;
@@ -7,7 +7,7 @@ use inplace::Told;
 fn pack(t: Told) -> u32
     ensures { λ x. ⌜ x ≡ packed t ⌝ }
 {
-    (t.beside as u32) * 65536 + (t.answer as u32)
+    (t.beside as u32) * 65536 + (t.small as u32) * 256 + (t.answer as u32)
 }
 
 // The fresh session; bytes of another length than an image's are answered by 1 and kept.
@@ -22,7 +22,7 @@ pub extern "C" fn bjargolsk_fresh(lent: &mut [u8]) -> u32
     pack(inplace::answer_with(0, 0))
 }
 
-// A command buffer from a sender, answered; the high 16 bits are 0.
+// A command buffer from a sender, answered; bits 8 to 15 are the reason of a status 0x13, the high 16 the data byte that it is for.
 #[no_mangle]
 pub extern "C" fn bjargolsk_occ(
     lent: &mut [u8],

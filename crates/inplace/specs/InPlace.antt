@@ -40,4 +40,4 @@ pub record Left : Type 0 where
 
 -- bytes of another length than an image's are no session: answer 1, and all is kept
 abbrev pub noImage : List ℕ → List ℕ → Left
-noImage b d = record { told = record { answer = 1; beside = 0 }; image = b; reply = d }
+noImage b d = record { told = record { answer = 1; small = 0; beside = 0 }; image = b; reply = d }

@@ -15,17 +15,21 @@ use image::Head;
 use journal::End;
 use journal::Way;
 
-// A session answer, and the number beside it: the doorbell, the kind taken back, 0 where a call has none.
+// A session answer; beside it a small number, the reason of a status 0x13, and one of 16 bits: the place of that status, the doorbell, the kind
+// moved. 0 where a call has none.
 pub struct Told {
     pub answer: u8,
+    pub small: u8,
     pub beside: u16,
 }
 
+// The same without a small number.
 pub fn answer_with(answer: u8, beside: u16) -> Told
-    ensures { λ x. ⌜ x ≡ record { answer = answer; beside = beside } ⌝ }
+    ensures { λ x. ⌜ x ≡ record { answer = answer; small = 0; beside = beside } ⌝ }
 {
     Told {
         answer: answer,
+        small: 0,
         beside: beside,
     }
 }

@@ -147,7 +147,7 @@ fn caps_format(role: u8, d: &[u8]) -> Verdict
 }
 
 // 0 disables; else it must lie in minimum to maximum, and without caps received it may not be.
-fn user_allowed(got: u8, caps: Caps, user: u16) -> bool
+pub fn user_allowed(got: u8, caps: Caps, user: u16) -> bool
     ensures { λ x. ⌜ x ≡ userAllowed got caps user ⌝ }
 {
     if user == 0 {

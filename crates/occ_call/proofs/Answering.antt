@@ -19,9 +19,11 @@ use Rattle.change.specs.declared.Tables.{Tables}
 use Rattle.occ.specs.declared.Verdict.{Verdict}
 use Rattle.occ.specs.declared.Verdict.the-variants.{Refuse, Poll, Make}
 use Rattle.occ.specs.declared.Judged.{Judged}
+use Rattle.places.specs.declared.Found.{Found}
+use Rattle.places.specs.declared.Found.the-variants.{Nothing}
 use Rattle.session.specs.Session.{Carried, wellFormed, carriedOf}
 use Rattle.session.specs.declared.Session.{Session}
-use Rattle.occ_call.specs.Occ.{OccResult, answered, kept, says, knownSender, refusalOf, occRefusal, carriedSays, occMade, toldOf, verdictSays, judgedSays, askedFor, askedOf, occRead, occFrom, occCall, occLeft, occOn}
+use Rattle.occ_call.specs.Occ.{OccResult, answered, kept, says, knownSender, refusalOf, occRefusal, carriedSays, occMade, toldOf, verdictSays, judgedSays, askedFor, askedOf, occRead, occFrom, occCall, faultFor, whyRead, whyFrom, occWhy, besideOf, occLeft, occOn}
 use Rattle.wire.specs.Wire.{Bytes}
 use Rattle.image.specs.declared.Head.{Head}
 use Rattle.image.specs.Image.{imageLength, imageOf, headIn, sessionIn}
@@ -55,6 +57,13 @@ told s seq kind d t (Make ch) h = absurd (h refl)
 pub tells : (held : Record) (worked : Worked) (seq kind : ℕ) (d : List ℕ) {v w : Verdict} {y : List ℕ} → v ≡ w → y ≡ toldOf w held worked seq kind d → y ≡ toldOf v held worked seq kind d
 tells held worked seq kind d = said-of (λ (u : Verdict). toldOf u held worked seq kind d)
 
+-- what doesn't refuse has no fault beside it
+pub faultless : (v : Verdict) (held : Record) (kind : ℕ) (d : List ℕ) → (tagOf the-type v ≡ 0 → ⊥) → Nothing ≡ faultFor v held kind d
+unfolding faultFor
+faultless (Refuse status) held kind d h = absurd (h refl)
+faultless Poll held kind d h = refl
+faultless (Make ch) held kind d h = refl
+
 -- ---- a command that is due an answer: h is the head that stands in the lent bytes b
 
 module _ (h : Head) (b : List ℕ) (here : Stands h b) (sender : ℕ) (c d : List ℕ) where
@@ -62,19 +71,23 @@ module _ (h : Head) (b : List ℕ) (here : Stands h b) (sender : ℕ) (c d : Lis
   s = sessionIn h b
 
   abbrev Hears : Told → List ℕ → List ℕ → Type 0
-  Hears t y z = Parts t y z (occLeft (occRead s sender c d))
+  Hears t y z = Parts t y z (occLeft (occRead s sender c d) (whyRead s sender c))
+
+  abbrev faultBeside : Verdict → Found
+  faultBeside v = faultFor v (h .held) (getD c 1 0) (dataOf c)
 
   module _ (j : Judged) (asked : j ≡ askedOf (h .held) (h .worked) (h .next) sender c) where
-    by-verdict : (q : OccResult) → q ≡ verdictSays s (getD c 0 0) (getD c 1 0) d (j .tables) (j .verdict) → occLeft q ≡ occLeft (occRead s sender c d)
-    unfolding occRead judgedSays sessionIn
-    by-verdict q e = ap occLeft (e ∙ ap (judgedSays s (getD c 0 0) (getD c 1 0) d) asked)
+    by-verdict : (q : OccResult) (f : Found) → q ≡ verdictSays s (getD c 0 0) (getD c 1 0) d (j .tables) (j .verdict) → f ≡ faultBeside (j .verdict)
+        → occLeft q f ≡ occLeft (occRead s sender c d) (whyRead s sender c)
+    unfolding occRead whyRead judgedSays sessionIn
+    by-verdict q f e g = λ i. occLeft ((e ∙ ap (judgedSays s (getD c 0 0) (getD c 1 0) d) asked) i) ((g ∙ ap (λ (k : Judged). faultBeside (k .verdict)) asked) i)
 
-    pub told-in : (t : Told) (z : List ℕ) → t ≡ record { answer = 0; beside = 0 } → (tagOf the-type (j .verdict) ≡ 2 → ⊥)
+    pub told-in : (t : Told) (z : List ℕ) (f : Found) → t ≡ besideOf 0 f → f ≡ faultBeside (j .verdict) → (tagOf the-type (j .verdict) ≡ 2 → ⊥)
         → z ≡ toldOf (j .verdict) (h .held) (h .worked) (getD c 0 0) (getD c 1 0) d → Hears t b z
     unfolding occLeft says answered sessionIn
-    told-in t z p n q =
+    told-in t z f p g n q =
         parts t b z _ ((λ i. record { told = p i; image = here .image i; reply = q i })
-        ∙ by-verdict _ (told s (getD c 0 0) (getD c 1 0) d (j .tables) (j .verdict) n))
+        ∙ by-verdict _ f (told s (getD c 0 0) (getD c 1 0) d (j .tables) (j .verdict) n) g)
 
     -- a change: y are the lent bytes after it
     module _ (ch : Change) (v : j .verdict ≡ Make ch) (t : Told) (full : Bool) (y : List ℕ)
@@ -82,18 +95,18 @@ module _ (h : Head) (b : List ℕ) (here : Stands h b) (sender : ℕ) (c d : Lis
       abbrev after : Carried
       after = carriedOf s (record { change = ch; tables = j .tables })
 
-      by-carried : (q : OccResult) → q ≡ carriedSays after s (getD c 0 0) (getD c 1 0) d → occLeft q ≡ occLeft (occRead s sender c d)
-      unfolding verdictSays occMade
-      by-carried q e = by-verdict q (e ∙ sym (ap (verdictSays s (getD c 0 0) (getD c 1 0) d (j .tables)) v))
+      by-carried : (q : OccResult) → q ≡ carriedSays after s (getD c 0 0) (getD c 1 0) d → occLeft q Nothing ≡ occLeft (occRead s sender c d) (whyRead s sender c)
+      unfolding verdictSays occMade faultFor
+      by-carried q e = by-verdict q Nothing (e ∙ sym (ap (verdictSays s (getD c 0 0) (getD c 1 0) d (j .tables)) v)) (sym (ap faultBeside v))
 
-      pub full-in : t ≡ record { answer = 5; beside = 0 } → full ≡ true → Hears t y d
-      unfolding occLeft kept answered carriedSays carriedIn
+      pub full-in : t ≡ record { answer = 5; small = 0; beside = 0 } → full ≡ true → Hears t y d
+      unfolding occLeft besideOf kept answered carriedSays carriedIn
       full-in p g =
           let same = left ∙ sym (if-b b (imageOf (after .session)) (sym room ∙ g) refl) ∙ here .image in
           parts t y d _ ((λ i. record { told = p i; image = same i; reply = d }) ∙ by-carried (kept 5 s d) (if-b _ _ (sym room ∙ g) refl))
 
-      pub done-in : t ≡ record { answer = 0; beside = 0 } → full ≡ false → (z : List ℕ) → z ≡ replied (getD c 0 0) (getD c 1 0) 0x00 [] d → Hears t y z
-      unfolding occLeft says answered carriedSays carriedIn
+      pub done-in : t ≡ record { answer = 0; small = 0; beside = 0 } → full ≡ false → (z : List ℕ) → z ≡ replied (getD c 0 0) (getD c 1 0) 0x00 [] d → Hears t y z
+      unfolding occLeft besideOf says answered carriedSays carriedIn
       done-in p g z q =
           let image = left ∙ sym (else-b b (imageOf (after .session)) (sym room ∙ g) refl) in
           parts t y z _ ((λ i. record { told = p i; image = image i; reply = q i })
@@ -107,27 +120,30 @@ module _ (b : List ℕ) (long : length b ≡ imageLength) (h : Head) (read : h �
   pub met-in : n ≡ 0 → (wellFormed (sessionIn h b) ≡ true) × (4 ≤ length c)
   met-in none = met (sessionIn h b) f n sender (length c) (length d) formed is none
 
-  by-refusal : occLeft (occFrom n (sessionIn h b) sender c d) ≡ occOn b sender c d
-  unfolding occOn occCall occRefusal
+  by-refusal : occLeft (occFrom n (sessionIn h b) sender c d) (whyFrom n (sessionIn h b) sender c) ≡ occOn b sender c d
+  unfolding occOn occCall occWhy occRefusal
   by-refusal =
-      ap (λ (k : ℕ). occLeft (occFrom k (sessionIn h b) sender c d)) (is ∙ ap (λ (g : Bool). refusalOf g sender (length c) (length d)) formed)
-      ∙ ap (λ (x : Session). occLeft (occCall x sender c d)) (as-read b long h read)
+      ap (λ (k : ℕ). occLeft (occFrom k (sessionIn h b) sender c d) (whyFrom k (sessionIn h b) sender c)) (is ∙ ap (λ (g : Bool). refusalOf g sender (length c) (length d)) formed)
+      ∙ ap (λ (x : Session). occLeft (occCall x sender c d) (occWhy x sender c d)) (as-read b long h read)
       ∙ else-ne _ _ long refl
 
-  pub refused-in : Bytes b → (t : Told) → t ≡ record { answer = n; beside = 0 } → (n ≡ 0 → ⊥) → Parts t b d (occOn b sender c d)
-  unfolding occFrom occLeft kept answered
+  pub refused-in : Bytes b → (t : Told) → t ≡ record { answer = n; small = 0; beside = 0 } → (n ≡ 0 → ⊥) → Parts t b d (occOn b sender c d)
+  unfolding occFrom whyFrom occLeft besideOf kept answered
   refused-in bytes t p z =
       parts t b d _ ((λ i. record { told = p i; image = stands b long h read bytes .image i; reply = d })
-      ∙ ap occLeft (if-ne (kept n (sessionIn h b) d) (occRead (sessionIn h b) sender c d) z refl) ∙ by-refusal)
+      ∙ (λ i. occLeft (if-ne (kept n (sessionIn h b) d) (occRead (sessionIn h b) sender c d) z refl i) (if-ne Nothing (whyRead (sessionIn h b) sender c) z refl i))
+      ∙ by-refusal)
 
-  pub heard-in : n ≡ 0 → (t : Told) (y z : List ℕ) → Parts t y z (occLeft (occRead (sessionIn h b) sender c d)) → Parts t y z (occOn b sender c d)
-  unfolding occFrom
+  pub heard-in : n ≡ 0 → (t : Told) (y z : List ℕ) → Parts t y z (occLeft (occRead (sessionIn h b) sender c d) (whyRead (sessionIn h b) sender c))
+      → Parts t y z (occOn b sender c d)
+  unfolding occFrom whyFrom
   heard-in none t y z q =
       parts t y z _ ((λ i. record { told = q .0 i; image = q .1 .0 i; reply = q .1 .1 i })
-      ∙ ap occLeft (else-ne (kept n (sessionIn h b) d) (occRead (sessionIn h b) sender c d) none refl) ∙ by-refusal)
+      ∙ (λ i. occLeft (else-ne (kept n (sessionIn h b) d) (occRead (sessionIn h b) sender c d) none refl i) (else-ne Nothing (whyRead (sessionIn h b) sender c) none refl i))
+      ∙ by-refusal)
 
 -- bytes that are no image
-pub no-image : (b : List ℕ) → (length b ≡ imageLength → ⊥) → (sender : ℕ) (c d : List ℕ) (t : Told) → t ≡ record { answer = 1; beside = 0 } → Parts t b d (occOn b sender c d)
+pub no-image : (b : List ℕ) → (length b ≡ imageLength → ⊥) → (sender : ℕ) (c d : List ℕ) (t : Told) → t ≡ record { answer = 1; small = 0; beside = 0 } → Parts t b d (occOn b sender c d)
 unfolding occOn
 no-image b z sender c d t p = parts t b d _ (if-ne _ _ z (λ i. record { told = p i; image = b; reply = d }))
 

@@ -2,8 +2,9 @@
 ghost use mathlib.Core.Bool.{true};
 ghost use mathlib.Core.Path.{_≡_};
 ghost use Prim.Native.Nat.{_≤_};
-ghost use lib.ListN.{length};
-ghost use Rattle.occ_call.specs.Occ.{knownSender, refusalOf, askedOf, toldOf, occRead, occLeft, OccAllows};
+ghost use lib.ListN.{length, getD};
+ghost use Rattle.occ_call.specs.Occ.{knownSender, refusalOf, askedOf, toldOf, faultFor, whyRead, besideOf, occRead, occLeft, OccAllows};
+ghost use Rattle.packet.specs.Packet.{dataOf};
 ghost use Rattle.session.specs.Session.{wellFormed};
 ghost use Rattle.image.specs.Image.{sessionIn};
 ghost use Rattle.inplace.specs.InPlace.{Stands};
@@ -12,6 +13,7 @@ use image::Head;
 use inplace::Told;
 use occ::Judged;
 use occ::Verdict;
+use places::Found;
 use record::Record;
 use record::Worked;
 
@@ -68,12 +70,43 @@ fn tell(verdict: Verdict, held: Record, worked: Worked, seq: u8, kind: u8, reply
     }
 }
 
+// The first wrong byte of a 0x13; other statuses have none.
+fn why(verdict: Verdict, held: Record, command: &[u8]) -> Found
+    requires { ⌜ 4 ≤ length (now command) ⌝ }
+    ensures { λ x. ⌜ x ≡ faultFor verdict held (getD (now (command .entry)) 1 0) (dataOf (now (command .entry))) ⌝ }
+{
+    let Verdict::Refuse(status) = verdict else {
+        return Found::Nothing;
+    };
+    if status != 0x13 {
+        return Found::Nothing;
+    }
+    let kind = command[1];
+    places::find(held, kind, packet::data_part(command))
+}
+
+// Answer 0, and beside it reason and place.
+fn answer_why(found: Found) -> Told
+    ensures { λ x. ⌜ x ≡ besideOf 0 found ⌝ }
+{
+    let Found::Wrong(fault) = found else {
+        return inplace::answer_with(0, 0);
+    };
+    let reason = fault.reason;
+    let number = places::number(reason);
+    Told {
+        answer: 0,
+        small: number,
+        beside: fault.at,
+    }
+}
+
 // A command that is due an answer: judged, carried out if it asks for a change, and replied to.
 fn hear(lent: &mut [u8], h: Head, sender: u8, command: &[u8], reply: &mut [u8]) -> Told
     requires { ⌜ Stands h (now lent) × (wellFormed (sessionIn h (now lent)) ≡ true) × (4 ≤ length (now command)) ⌝ }
-    ensures { λ x. ⌜ x ≡ occLeft (occRead (sessionIn h (now (lent .entry))) sender (now (command .entry)) (now (reply .entry))) .told ⌝ }
-    ensures { λ _. ⌜ now (lent .exit) ≡ occLeft (occRead (sessionIn h (now (lent .entry))) sender (now (command .entry)) (now (reply .entry))) .image ⌝ }
-    ensures { λ _. ⌜ now (reply .exit) ≡ occLeft (occRead (sessionIn h (now (lent .entry))) sender (now (command .entry)) (now (reply .entry))) .reply ⌝ }
+    ensures { λ x. ⌜ x ≡ occLeft (occRead (sessionIn h (now (lent .entry))) sender (now (command .entry)) (now (reply .entry))) (whyRead (sessionIn h (now (lent .entry))) sender (now (command .entry))) .told ⌝ }
+    ensures { λ _. ⌜ now (lent .exit) ≡ occLeft (occRead (sessionIn h (now (lent .entry))) sender (now (command .entry)) (now (reply .entry))) (whyRead (sessionIn h (now (lent .entry))) sender (now (command .entry))) .image ⌝ }
+    ensures { λ _. ⌜ now (reply .exit) ≡ occLeft (occRead (sessionIn h (now (lent .entry))) sender (now (command .entry)) (now (reply .entry))) (whyRead (sessionIn h (now (lent .entry))) sender (now (command .entry))) .reply ⌝ }
 {
     let held = h.held;
     let worked = h.worked;
@@ -84,7 +117,7 @@ fn hear(lent: &mut [u8], h: Head, sender: u8, command: &[u8], reply: &mut [u8]) 
     let tables = asked.tables;
     let Verdict::Make(change) = verdict else {
         tell(verdict, held, worked, seq, kind, reply);
-        return inplace::answer_with(0, 0);
+        return answer_why(why(verdict, held, command));
     };
     let full = inplace::carry(
         lent,

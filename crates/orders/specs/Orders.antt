@@ -14,7 +14,7 @@ use Rattle.text.specs.Text.{ascii, inWord, leading, pastBlanks, sameText, HexRu
 use Rattle.text.specs.Numbers.{numberAt}
 use Rattle.orders.specs.declared.Call.{Call}
 use Rattle.orders.specs.declared.Call.the-variants.{Occ, Sbe, Send, Load, Undo, Redo, Fresh}
-use Rattle.orders.specs.declared.View.the-variants.{Image, Show, Journal, Help}
+use Rattle.orders.specs.declared.View.the-variants.{Image, Why, Show, Journal, Help}
 use Rattle.orders.specs.declared.Buffer.the-variants.{Whole, Bytes}
 use Rattle.orders.specs.declared.Wrong.{Wrong}
 use Rattle.orders.specs.declared.Wrong.the-variants.{LongLine, NoWord, MoreText, NoDigit, TooMany, NoImage, NoNumber, LongBuffer}
@@ -37,10 +37,11 @@ wrongAt what column = record { word = Fail what; count = 0; column = column }
 unfoldable pub viewOf : List ℕ → Word
 viewOf w =
     cond (sameText w (ascii "image")) (Look Image)
+    (cond (sameText w (ascii "why")) (Look Why)
     (cond (sameText w (ascii "show")) (Look Show)
     (cond (sameText w (ascii "journal")) (Look Journal)
     (cond (sameText w (ascii "help")) (Look Help)
-    (Fail NoWord))))
+    (Fail NoWord)))))
 
 unfoldable pub wordOf : List ℕ → Word
 wordOf w =

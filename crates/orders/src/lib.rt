@@ -35,6 +35,7 @@ pub enum Call {
 // What only looks.
 pub enum View {
     Image,
+    Why,
     Show,
     Journal,
     Help,
@@ -102,6 +103,9 @@ fn view_of(word: &[u8]) -> Word
 {
     if text::same(word, b"image") {
         return Word::Look(View::Image);
+    }
+    if text::same(word, b"why") {
+        return Word::Look(View::Why);
     }
     if text::same(word, b"show") {
         return Word::Look(View::Show);

@@ -28,7 +28,7 @@ beside undo x = x .kind
 beside redo x = x .kind
 
 unfoldable pub carriedOver : Call → Said → Lent
-carriedOver c x = record { result = packed (record { answer = x .answer; beside = beside c x }); image = imageOf (x .session); reply = x .reply }
+carriedOver c x = record { result = packed (record { answer = x .answer; small = 0; beside = beside c x }); image = imageOf (x .session); reply = x .reply }
 
 unfoldable pub lentRun : List ℕ → List Call → List ℕ
 lentRun b [] = b

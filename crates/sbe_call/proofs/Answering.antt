@@ -63,10 +63,10 @@ module _ (h : Head) (b : List ℕ) (here : Stands h b) (r d : List ℕ) where
     unfolding sbeRead
     by-verdict q e = ap sbeLeft (e ∙ ap (verdictSays s r d) judged)
 
-    pub told-in : (t : Told) (z : List ℕ) → t ≡ record { answer = 0; beside = bell } → (tagOf the-type v ≡ 1 → ⊥) → z ≡ toldOf v r d → Hears t b z
+    pub told-in : (t : Told) (z : List ℕ) → t ≡ record { answer = 0; small = 0; beside = bell } → (tagOf the-type v ≡ 1 → ⊥) → z ≡ toldOf v r d → Hears t b z
     unfolding sbeLeft rung
     told-in t z p n q =
-        let rung-as-asked = p ∙ (λ i. record { answer = 0; beside = rings i }) in
+        let rung-as-asked = p ∙ (λ i. record { answer = 0; small = 0; beside = rings i }) in
         parts t b z _ ((λ i. record { told = rung-as-asked i; image = here .image i; reply = q i }) ∙ by-verdict _ (told s r d v n))
 
     -- a change: y are the lent bytes after it
@@ -80,16 +80,16 @@ module _ (h : Head) (b : List ℕ) (here : Stands h b) (r d : List ℕ) where
       by-carried q e =
           by-verdict q (e ∙ ap (λ (u : Tables). carriedSays (carriedOf s (record { change = ch; tables = u })) s r d) none-beside ∙ sym (ap (verdictSays s r d) makes))
 
-      pub full-in : t ≡ record { answer = 5; beside = 0 } → full ≡ true → Hears t y d
+      pub full-in : t ≡ record { answer = 5; small = 0; beside = 0 } → full ≡ true → Hears t y d
       unfolding sbeLeft kept rung carriedSays carriedIn
       full-in p g =
           let same = left ∙ sym (if-b b (imageOf (after .session)) (sym room ∙ g) refl) ∙ here .image in
           parts t y d _ ((λ i. record { told = p i; image = same i; reply = d }) ∙ by-carried (kept 5 s d) (if-b _ _ (sym room ∙ g) refl))
 
-      pub done-in : t ≡ record { answer = 0; beside = bell } → full ≡ false → (z : List ℕ) → z ≡ pasted 0 (responseBytes 0x00 0x00 r) d → Hears t y z
+      pub done-in : t ≡ record { answer = 0; small = 0; beside = bell } → full ≡ false → (z : List ℕ) → z ≡ pasted 0 (responseBytes 0x00 0x00 r) d → Hears t y z
       unfolding sbeLeft responds rung carriedSays carriedIn
       done-in p g z q =
-          let rung-as-asked = p ∙ (λ i. record { answer = 0; beside = rings i }) in
+          let rung-as-asked = p ∙ (λ i. record { answer = 0; small = 0; beside = rings i }) in
           let image = left ∙ sym (else-b b (imageOf (after .session)) (sym room ∙ g) refl) in
           parts t y z _ ((λ i. record { told = rung-as-asked i; image = image i; reply = q i })
           ∙ by-carried (responds (after .session) 0x00 0x00 r d) (else-b _ _ (sym room ∙ g) refl))
@@ -109,7 +109,7 @@ module _ (b : List ℕ) (long : length b ≡ imageLength) (h : Head) (read : h �
       ∙ ap (λ (x : Session). sbeLeft (sbeCall x r d)) (as-read b long h read)
       ∙ else-ne _ _ long refl
 
-  pub refused-in : Bytes b → (t : Told) → t ≡ record { answer = n; beside = 0 } → (n ≡ 0 → ⊥) → Parts t b d (sbeOn b r d)
+  pub refused-in : Bytes b → (t : Told) → t ≡ record { answer = n; small = 0; beside = 0 } → (n ≡ 0 → ⊥) → Parts t b d (sbeOn b r d)
   unfolding sbeFrom sbeLeft kept rung
   refused-in bytes t p z =
       parts t b d _ ((λ i. record { told = p i; image = stands b long h read bytes .image i; reply = d })
@@ -122,6 +122,6 @@ module _ (b : List ℕ) (long : length b ≡ imageLength) (h : Head) (read : h �
       ∙ ap sbeLeft (else-ne (kept n (sessionIn h b) d) (sbeRead (sessionIn h b) r d) none refl) ∙ by-refusal)
 
 -- bytes that are no image
-pub no-image : (b : List ℕ) → (length b ≡ imageLength → ⊥) → (r d : List ℕ) (t : Told) → t ≡ record { answer = 1; beside = 0 } → Parts t b d (sbeOn b r d)
+pub no-image : (b : List ℕ) → (length b ≡ imageLength → ⊥) → (r d : List ℕ) (t : Told) → t ≡ record { answer = 1; small = 0; beside = 0 } → Parts t b d (sbeOn b r d)
 unfolding sbeOn
 no-image b z r d t p = parts t b d _ (if-ne _ _ z (λ i. record { told = p i; image = b; reply = d }))

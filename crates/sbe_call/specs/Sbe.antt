@@ -75,7 +75,7 @@ sbeCall s r d = sbeFrom (sbeRefusal s (length r) (length d)) s r d
 -- ---- on a session that is lent as its image's bytes: the doorbell stands beside the answer
 
 unfoldable pub sbeLeft : SbeResult → Left
-sbeLeft q = record { told = record { answer = q .outcome .answer; beside = q .outcome .bell }; image = imageOf (q .outcome .session); reply = q .reply }
+sbeLeft q = record { told = record { answer = q .outcome .answer; small = 0; beside = q .outcome .bell }; image = imageOf (q .outcome .session); reply = q .reply }
 
 unfoldable pub sbeOn : List ℕ → List ℕ → List ℕ → Left
 sbeOn b r d = cond (not (eqb (length b) imageLength)) (noImage b d) (sbeLeft (sbeCall (sessionOf b) r d))

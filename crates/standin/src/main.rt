@@ -22,10 +22,11 @@ fn tell(out: &[u8], n: usize)
 
 // ---- calls, on the session that is lent as its image's bytes
 
-fn occ(lent: &mut [u8], sender: u8, command: &[u8], reply: &mut [u8], out: &mut [u8]) {
+fn occ(lent: &mut [u8], sender: u8, command: &[u8], reply: &mut [u8], out: &mut [u8]) -> Told {
     let told = occ_call::occ(lent, sender, command, reply);
     let n = answers::reply(out, told.answer, reply);
     tell(out, n);
+    told
 }
 
 // Makes a packet of bytes whose type and data stand from 3 on: head and sum.
@@ -41,12 +42,12 @@ fn frame(p: &mut [u8], sequence: u8)
 }
 
 // The sender stands where the packet's length will.
-fn send(lent: &mut [u8], packet: &mut [u8], sequence: u8, reply: &mut [u8], out: &mut [u8])
+fn send(lent: &mut [u8], packet: &mut [u8], sequence: u8, reply: &mut [u8], out: &mut [u8]) -> Told
     requires { ⌜ 6 ≤ length (now packet) ⌝ }
 {
     let sender = packet[2];
     frame(packet, sequence);
-    occ(lent, sender, packet, reply, out);
+    occ(lent, sender, packet, reply, out)
 }
 
 // A response has 32 bytes; a longer buffer is kept past them.
@@ -101,26 +102,49 @@ fn fresh(lent: &mut [u8], out: &mut [u8]) {
     tell_ok(out);
 }
 
-// `sent` holds the bytes as `orders` puts them.
+// What is kept beside the session: the sequence of the last packet sent, the reply buffers that are lent, and what the last OCC call told.
+struct Bench {
+    sequence: u8,
+    buffer: Buffer,
+    last: Told,
+}
+
+// `sent` holds the bytes as `orders` puts them. What the last OCC call told is given back.
 fn carry_out(
     lent: &mut [u8],
     call: Call,
     count: usize,
-    sequence: u8,
+    b: Bench,
     sent: &mut [u8],
     reply: &mut [u8],
     out: &mut [u8],
-)
+) -> Told
     requires { ⌜ (length (now lent) ≡ imageLength) × (count ≤ 8192) × (8198 ≤ length (now sent)) ⌝ }
 {
+    let last = b.last;
     match call {
         Call::Occ => occ(lent, sent[0], &sent[1..count + 1], reply, out),
-        Call::Sbe => sbe(lent, &sent[..count], reply, out),
-        Call::Send => send(lent, &mut sent[..count + 6], sequence, reply, out),
-        Call::Load => load(lent, sent, out),
-        Call::Undo => undo(lent, out),
-        Call::Redo => redo(lent, out),
-        Call::Fresh => fresh(lent, out),
+        Call::Send => send(lent, &mut sent[..count + 6], b.sequence, reply, out),
+        Call::Sbe => {
+            sbe(lent, &sent[..count], reply, out);
+            last
+        }
+        Call::Load => {
+            load(lent, sent, out);
+            last
+        }
+        Call::Undo => {
+            undo(lent, out);
+            last
+        }
+        Call::Redo => {
+            redo(lent, out);
+            last
+        }
+        Call::Fresh => {
+            fresh(lent, out);
+            last
+        }
     }
 }
 
@@ -156,16 +180,16 @@ fn call_with(
     lent: &mut [u8],
     call: Call,
     count: usize,
-    sequence: u8,
-    buffer: Buffer,
+    b: Bench,
     sent: &mut [u8],
     out: &mut [u8],
-)
+) -> Told
     requires { ⌜ (length (now lent) ≡ imageLength) × (count ≤ 8192) × (8198 ≤ length (now sent)) ⌝ }
 {
     let mut reply = reply_buffer();
+    let buffer = b.buffer;
     let room = reply_len(buffer, call);
-    carry_out(lent, call, count, sequence, sent, &mut reply[..room], out);
+    carry_out(lent, call, count, b, sent, &mut reply[..room], out)
 }
 
 // ---- views
@@ -197,12 +221,13 @@ fn put_journal(lent: &[u8], out: &mut [u8]) -> usize
     answers::journal(out, &lent[239..2287], used)
 }
 
-fn look(lent: &[u8], view: View, out: &mut [u8]) -> usize
+fn look(lent: &[u8], view: View, last: Told, out: &mut [u8]) -> usize
     requires { ⌜ length (now lent) ≡ imageLength ⌝ }
     ensures { λ r. ⌜ Counts r (now (out .exit)) ⌝ }
 {
     match view {
         View::Image => answers::image(out, lent),
+        View::Why => answers::why(out, last.small, last.beside),
         View::Show => put_show(lent, out),
         View::Journal => put_journal(lent, out),
         View::Help => answers::help(out),
@@ -211,29 +236,29 @@ fn look(lent: &[u8], view: View, out: &mut [u8]) -> usize
 
 // ---- lines
 
-fn obey(
-    lent: &mut [u8],
-    order: Order,
-    sequence: u8,
-    buffer: Buffer,
-    sent: &mut [u8],
-    out: &mut [u8],
-)
+// What the last OCC call told is given back.
+fn obey(lent: &mut [u8], order: Order, b: Bench, sent: &mut [u8], out: &mut [u8]) -> Told
     requires { ⌜ (length (now lent) ≡ imageLength) × (order .count ≤ 8192) × (8198 ≤ length (now sent)) ⌝ }
 {
     let word = order.word;
+    let last = b.last;
     match word {
-        Word::Make(call) => call_with(lent, call, order.count, sequence, buffer, sent, out),
+        Word::Make(call) => call_with(lent, call, order.count, b, sent, out),
         Word::Look(view) => {
-            let n = look(lent, view, out);
+            let n = look(lent, view, last, out);
             tell(out, n);
+            last
         }
-        Word::Lend(_) => tell_ok(out),
+        Word::Lend(_) => {
+            tell_ok(out);
+            last
+        }
         Word::Fail(what) => {
             let n = answers::complaint(out, what, order.column);
             tell(out, n);
+            last
         }
-        Word::Skip => {}
+        Word::Skip => last,
     }
 }
 
@@ -255,12 +280,6 @@ fn next_buffer(word: Word, buffer: Buffer) -> Buffer {
     buffer
 }
 
-// What is kept beside the session: the sequence of the last packet sent, and the reply buffers that are lent.
-struct Bench {
-    sequence: u8,
-    buffer: Buffer,
-}
-
 fn answer(lent: &mut [u8], b: Bench, line: &[u8], sent: &mut [u8], out: &mut [u8]) -> Bench
     requires { ⌜ (length (now lent) ≡ imageLength) × (8198 ≤ length (now sent)) ⌝ }
 {
@@ -269,10 +288,17 @@ fn answer(lent: &mut [u8], b: Bench, line: &[u8], sent: &mut [u8], out: &mut [u8
     let sequence = next_sequence(word, b.sequence);
     let held = b.buffer;
     let buffer = next_buffer(word, held);
-    obey(lent, order, sequence, buffer, sent, out);
+    let before = b.last;
+    let ready = Bench {
+        sequence: sequence,
+        buffer: buffer,
+        last: before,
+    };
+    let last = obey(lent, order, ready, sent, out);
     Bench {
         sequence: sequence,
         buffer: buffer,
+        last: last,
     }
 }
 
@@ -352,6 +378,7 @@ fn serve(lent: &mut [u8], piece: &mut [u8], line: &mut [u8], sent: &mut [u8], ou
     let mut bench = Bench {
         sequence: 0,
         buffer: Buffer::Whole,
+        last: inplace::answer_with(0, 0),
     };
     let mut held = 0;
     let mut left = u64::MAX;

@@ -56,7 +56,7 @@ read-cut w s at = refl
 abbrev Tells : Told → List ℕ → Moved → Type 0
 Tells t y u = (t ≡ movedLeft u .told) × (y ≡ movedLeft u .image)
 
-tells : (u v : Moved) (t : Told) (y : List ℕ) → t ≡ record { answer = u .answer; beside = u .kind } → y ≡ imageOf (u .session) → u ≡ v → Tells t y v
+tells : (u v : Moved) (t : Told) (y : List ℕ) → t ≡ record { answer = u .answer; small = 0; beside = u .kind } → y ≡ imageOf (u .session) → u ≡ v → Tells t y v
 unfolding movedLeft
 tells u v t y p q e = (p ∙ ap (λ (x : Moved). movedLeft x .told) e, q ∙ ap (λ (x : Moved). movedLeft x .image) e)
 
@@ -195,7 +195,7 @@ module _ (w : Way) (h : Head) (b : List ℕ) (here : Stands h b) where
   s = sessionIn h b
 
   -- refused by the number n
-  by-number : (n : ℕ) (t : Told) (v : Moved) → t ≡ record { answer = n; beside = 0 } → notMoved n s ≡ v → Tells t b v
+  by-number : (n : ℕ) (t : Told) (v : Moved) → t ≡ record { answer = n; small = 0; beside = 0 } → notMoved n s ≡ v → Tells t b v
   unfolding notMoved
   by-number n t v p e = tells (notMoved n s) v t b p (here .image) e
 
@@ -206,21 +206,21 @@ module _ (w : Way) (h : Head) (b : List ℕ) (here : Stands h b) where
     unfolding movedWith sessionIn
     by-put x q = q ∙ ap (movedPut w s at e) is
 
-    pub put-refused : (t : Told) → t ≡ record { answer = 7; beside = 0 } → not (p .ok) ≡ true → Tells t b (movedWith w s at e)
+    pub put-refused : (t : Told) → t ≡ record { answer = 7; small = 0; beside = 0 } → not (p .ok) ≡ true → Tells t b (movedWith w s at e)
     unfolding movedPut
     put-refused t q failed = by-number 7 t _ q (by-put _ (if-b _ _ failed refl))
 
     module _ (fits : not (p .ok) ≡ false) (g : Bool) (judged : g ≡ recordOk (p .after) (h .next)) where
-      pub put-ill : (t : Told) → t ≡ record { answer = 7; beside = 0 } → not g ≡ true → Tells t b (movedWith w s at e)
+      pub put-ill : (t : Told) → t ≡ record { answer = 7; small = 0; beside = 0 } → not g ≡ true → Tells t b (movedWith w s at e)
       unfolding movedPut sessionIn
       put-ill t q ill = by-number 7 t _ q (by-put _ (else-b _ _ fits (if-b _ _ (sym (ap not judged) ∙ ill) refl)))
 
       -- y are the lent bytes after it
-      pub put-done : (k : ℕ) (y : List ℕ) (t : Told) → not g ≡ false → k ≡ kindOf (e .change) → t ≡ record { answer = 0; beside = k }
+      pub put-done : (k : ℕ) (y : List ℕ) (t : Told) → not g ≡ false → k ≡ kindOf (e .change) → t ≡ record { answer = 0; small = 0; beside = k }
           → y ≡ imageOf (sessionMoved w s at e (p .after)) → Tells t y (movedWith w s at e)
       unfolding movedPut moved sessionIn
       put-done k y t ok kp tp yp =
-          tells (moved w s at e p) _ t y (tp ∙ (λ i. record { answer = 0; beside = kp i })) yp
+          tells (moved w s at e p) _ t y (tp ∙ (λ i. record { answer = 0; small = 0; beside = kp i })) yp
           (by-put _ (else-b _ _ fits (else-b _ _ (sym (ap not judged) ∙ ok) refl)))
 
   -- ---- the entry at a place of its store
@@ -240,7 +240,7 @@ module _ (w : Way) (h : Head) (b : List ℕ) (here : Stands h b) where
       got-is : g ≡ gotOf w (take (usedOf w s - at) (drop at (storeOf w s)))
       got-is = is ∙ ap (gotOf w) newest-part
 
-      pub entry-bad : (t : Told) (r : Reading) (count : ℕ) → t ≡ record { answer = 1; beside = 0 } → g .found ≡ Bad → r ≡ Whole count at → Tells t b (movedRead w s r)
+      pub entry-bad : (t : Told) (r : Reading) (count : ℕ) → t ≡ record { answer = 1; small = 0; beside = 0 } → g .found ≡ Bad → r ≡ Whole count at → Tells t b (movedRead w s r)
       unfolding movedRead movedAt movedGot movedFound
       entry-bad t r count p bad whole =
           by-number 1 t _ p (sym (ap (movedFound w s at (g .tables)) bad) ∙ ap (movedGot w s at) got-is ∙ sym (ap (movedRead w s) whole))
@@ -273,9 +273,9 @@ module _ (w : Way) (h : Head) (b : List ℕ) (here : Stands h b) where
     pub count-fits : (n : ℕ) → n ≡ used → n ≤ 2048
     count-fits n counted = omega (arith, counted, used-fits)
 
-    pub none-held : (n : ℕ) → n ≡ used → (k : ℕ) (t : Told) → k ≡ noneLeft w → t ≡ record { answer = k; beside = 0 } → n ≡ 0 → Tells t b (movedNewest w s)
+    pub none-held : (n : ℕ) → n ≡ used → (k : ℕ) (t : Told) → k ≡ noneLeft w → t ≡ record { answer = k; small = 0; beside = 0 } → n ≡ 0 → Tells t b (movedNewest w s)
     unfolding movedNewest
-    none-held n counted k t kp p z = by-number (noneLeft w) t _ (p ∙ (λ i. record { answer = kp i; beside = 0 })) (if-eq _ _ (used-is w h b ∙ sym counted ∙ z) refl)
+    none-held n counted k t kp p z = by-number (noneLeft w) t _ (p ∙ (λ i. record { answer = kp i; small = 0; beside = 0 })) (if-eq _ _ (used-is w h b ∙ sym counted ∙ z) refl)
 
     module _ (m : ℕ) (there : m ≡ storeAt w) (n : ℕ) (counted : n ≡ used) where
       used-part : take (m + n - m) (drop m b) ≡ take (usedOf w s) (storeOf w s)
@@ -290,7 +290,7 @@ module _ (w : Way) (h : Head) (b : List ℕ) (here : Stands h b) where
         reading-is =
             else-eq (notMoved (noneLeft w) s) _ (λ z. some (counted ∙ sym (used-is w h b) ∙ z)) (ap (movedRead w s) (is ∙ ap (λ (l : List ℕ). readingOf (scan l)) used-part))
 
-        pub not-whole : (t : Told) → t ≡ record { answer = 1; beside = 0 } → (tagOf the-type r ≡ 0 → ⊥) → Tells t b (movedNewest w s)
+        pub not-whole : (t : Told) → t ≡ record { answer = 1; small = 0; beside = 0 } → (tagOf the-type r ≡ 0 → ⊥) → Tells t b (movedNewest w s)
         not-whole t p k = by-number 1 t _ p (no-entries r k ∙ reading-is)
           where
             no-entries : (x : Reading) → (tagOf the-type x ≡ 0 → ⊥) → notMoved 1 s ≡ movedRead w s x
@@ -309,7 +309,7 @@ module _ (w : Way) (h : Head) (b : List ℕ) (here : Stands h b) where
 
 -- ---- the whole call
 
-pub no-image : (w : Way) (b : List ℕ) → (length b ≡ imageLength → ⊥) → (t : Told) → t ≡ record { answer = 1; beside = 0 } → (t ≡ moveOn w b .told) × (b ≡ moveOn w b .image)
+pub no-image : (w : Way) (b : List ℕ) → (length b ≡ imageLength → ⊥) → (t : Told) → t ≡ record { answer = 1; small = 0; beside = 0 } → (t ≡ moveOn w b .told) × (b ≡ moveOn w b .image)
 unfolding moveOn
 no-image w b z t p =
     let e : _≡_ {A = Left} (noImage b []) (moveOn w b) = if-ne (noImage b []) (movedLeft (moveCall w (sessionOf b))) z refl in
@@ -320,7 +320,7 @@ module _ (w : Way) (b : List ℕ) (long : length b ≡ imageLength) (h : Head) (
   unfolding moveOn
   on-image u e = ap movedLeft (e ∙ ap (moveCall w) (as-read b long h read)) ∙ else-ne _ _ long refl
 
-  pub ill-formed : Bytes b → (t : Told) → t ≡ record { answer = 1; beside = 0 } → not g ≡ true → (t ≡ moveOn w b .told) × (b ≡ moveOn w b .image)
+  pub ill-formed : Bytes b → (t : Told) → t ≡ record { answer = 1; small = 0; beside = 0 } → not g ≡ true → (t ≡ moveOn w b .told) × (b ≡ moveOn w b .image)
   unfolding moveCall
   ill-formed bytes t p ill =
       let e = on-image (notMoved 1 (sessionIn h b)) (if-b _ _ (sym (ap not formed) ∙ ill) refl) in

@@ -124,7 +124,7 @@ redoCall s = moveCall After s
 -- ---- on a session that is lent as its image's bytes: the kind stands beside the answer
 
 unfoldable pub movedLeft : Moved → Left
-movedLeft u = record { told = record { answer = u .answer; beside = u .kind }; image = imageOf (u .session); reply = [] }
+movedLeft u = record { told = record { answer = u .answer; small = 0; beside = u .kind }; image = imageOf (u .session); reply = [] }
 
 unfoldable pub moveOn : Way → List ℕ → Left
 moveOn w b = cond (not (eqb (length b) imageLength)) (noImage b []) (movedLeft (moveCall w (sessionOf b)))

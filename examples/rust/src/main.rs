@@ -1,4 +1,4 @@
-//! A master OCC brought up and capped; changes taken back, one step too far, and one put in again.
+//! A master OCC brought up and capped; changes taken back, one step too far, and one put in again; a cap that is too high.
 
 #[path = "../../../include/bjargolsk.rs"]
 mod ffi;
@@ -59,9 +59,16 @@ impl Bench {
                 self.reply.len(),
             )
         };
-        let answer = result & 0xFFFF;
+        let (answer, reason, place) = (result & 0xFF, result >> 8 & 0xFF, result >> 16);
+        let wrong = match reason {
+            0 => String::new(),
+            _ => format!(" reason {reason} byte {place}"),
+        };
         let length = 7 + usize::from(u16::from_be_bytes([self.reply[3], self.reply[4]]));
-        println!("{name}: answer {answer}{}", self.shown(answer, length));
+        println!(
+            "{name}: answer {answer}{wrong}{}",
+            self.shown(answer, length)
+        );
     }
 
     fn sbe(&mut self, name: &str, request: &[u8]) {
@@ -75,7 +82,7 @@ impl Bench {
                 self.reply.len(),
             )
         };
-        let (answer, bell) = (result & 0xFFFF, result >> 16);
+        let (answer, bell) = (result & 0xFF, result >> 16);
         println!(
             "{name}: answer {answer} bell {bell:04X}{}",
             self.shown(answer, 32)
@@ -96,11 +103,7 @@ impl Bench {
 }
 
 fn show_kind(name: &str, result: u32) {
-    println!(
-        "{name}: answer {} kind {:02X}",
-        result & 0xFFFF,
-        result >> 16
-    );
+    println!("{name}: answer {} kind {:02X}", result & 0xFF, result >> 16);
 }
 
 fn main() {
@@ -136,5 +139,7 @@ fn main() {
     bench.undo();
     bench.redo();
     bench.occ("poll", BMC, 0x00, &[0x10]);
+    // Status 0x13; the result says which data byte is wrong, and why.
+    bench.occ("high cap", BMC, 0x22, &[0x07, 0xD0]);
     bench.occ("stranger", 0x30, 0x00, &[0x10]);
 }

@@ -156,6 +156,27 @@ pub fn off(random: &mut Random, session: &Session, about: About) -> Content {
     (kind, data)
 }
 
+/// The right length, and two to four bytes that may each be wrong: the first of them counts. The format and the count stay.
+pub fn several_off(random: &mut Random, session: &Session, about: About) -> Content {
+    let (kind, mut data) = right(random, session, about);
+    if about == About::Throttles {
+        let count = random.pick(&[2, 3, 16, 16, 17]);
+        data = throttle_data(random, &all_pairs_and_one()[..count]);
+    }
+    let set_length = if about == About::Throttles { 12 } else { 4 };
+    for _ in 0..random.between(2, 4) {
+        // The first three bytes, or one of the first three of a set.
+        let sets = data.len().saturating_sub(3).div_ceil(set_length);
+        let in_a_set = 3 + set_length * random.below(sets) + random.below(3);
+        let place = random.pick(&[0, 1, 2, in_a_set, in_a_set, in_a_set]);
+        let fixed = kind == occ::CONFIGURATION && (place == 0 || (place == 2 && data[0] >= FORMAT_THROTTLES));
+        if let Some(byte) = data.get_mut(place).filter(|_| !fixed) {
+            *byte = random.pick(&[0, 0, 1, 1, 2, 3, 4, 7, 8, 0x10, 0x11, 0xFE, 0xFF]);
+        }
+    }
+    (kind, data)
+}
+
 fn set_one(random: &mut Random, data: &mut [u8], choices: &[(usize, u8)]) {
     let (place, value) = random.pick(choices);
     data[place] = value;

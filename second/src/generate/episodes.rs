@@ -50,6 +50,7 @@ impl Generator {
         self.every_redo();
         self.every_fault();
         self.every_buffer();
+        self.every_wrong_byte();
         for length in [4090, 4091] {
             self.framed(0x10, 0xEE, &vec![0xFF; length]);
         }
@@ -75,6 +76,45 @@ impl Generator {
             self.occ(0x10, &packet);
             (0..6).for_each(|length| self.occ(0x10, &packet[..length]));
             self.occ(0x30, &packet[..3]);
+        }
+    }
+
+    /// Each command with each of its first bytes, or those of each set, set to values in and out of range.
+    fn every_wrong_byte(&mut self) {
+        self.line("fresh", &[]);
+        self.framed(0x10, 0x21, &[FORMAT_ROLE, 1]);
+        for about in commands::ALL {
+            let (kind, data) = commands::right(&mut self.random, &self.program.session, about);
+            let values = if self.small { &[0xFF][..] } else { &[0, 1, 2, 3, 8, 0x10, 0xFE, 0xFF] };
+            for place in 0..data.len().min(if self.small { 8 } else { 40 }) {
+                for value in values {
+                    let mut wrong = data.clone();
+                    wrong[place] = *value;
+                    self.framed(0x10, kind, &wrong);
+                }
+            }
+            (0..if self.small { 4 } else { 20 }).for_each(|_| {
+                let (kind, data) = commands::several_off(&mut self.random, &self.program.session, about);
+                self.framed(0x10, kind, &data);
+            });
+        }
+    }
+
+    /// Packets of sets most of all, with one or several bytes wrong.
+    fn wrong_packets(&mut self) {
+        if self.random.one_in(2) {
+            self.line("fresh", &[]);
+        }
+        for _ in 0..self.random.between(20, 60) {
+            let sets = [About::Throttles, About::Throttles, About::Thermal, About::Thermal];
+            let about = if self.random.one_in(4) { self.about() } else { self.random.pick(&sets) };
+            let (random, session) = (&mut self.random, &self.program.session);
+            let (kind, data) = if random.one_in(2) {
+                commands::off(random, session, about)
+            } else {
+                commands::several_off(random, session, about)
+            };
+            self.framed(0x10, kind, &data);
         }
     }
 
@@ -111,7 +151,7 @@ impl Generator {
     }
 
     pub fn episode(&mut self) {
-        let loads = if self.small { 32 } else { 120 };
+        let loads = if self.small { 34 } else { 128 };
         match self.random.below(loads) {
             0..=9 => self.bring_up(),
             10..=13 => self.walk_from_fresh(),
@@ -123,6 +163,7 @@ impl Generator {
             28 if self.small => self.ids_near_their_end(),
             29 if self.small => self.scene(),
             30 | 31 if self.small => self.every_redo(),
+            32 | 33 if self.small => self.wrong_packets(),
             28..=37 => self.ids_near_their_end(),
             38..=53 => self.scene(),
             54..=59 => {
@@ -145,6 +186,7 @@ impl Generator {
             113 | 114 => self.random_image(),
             115 | 116 => self.random_stores(),
             117 | 118 => self.every_redo(),
+            119..=126 => self.wrong_packets(),
             _ => self.bounds(),
         }
         if !self.small || self.random.one_in(4) {
@@ -196,7 +238,7 @@ impl Generator {
     /// Many undos, then many redos, again and again, with a change in between now and then.
     fn back_and_forth(&mut self, rounds: usize) {
         for _ in 0..rounds {
-            let most = self.random.pick(&[1, 2, 5, 40]);
+            let most = self.random.pick(&[1, 1, 2, 2, 3, 5, 5, 40]);
             self.undos(most);
             self.redos(most + 2);
             if self.random.one_in(3) {
@@ -218,7 +260,7 @@ impl Generator {
     fn back_and_forth_from_fresh(&mut self) {
         self.line("fresh", &[]);
         self.framed(0x10, 0x21, &[FORMAT_ROLE, 1]);
-        if self.random.one_in(6) {
+        if self.random.one_in(30) {
             // the longest chain there can be: entries of two bytes
             let entries = if self.small { 60 } else { 1100 };
             (0..entries).for_each(|_| self.framed(0x10, 0x20, &[0, 1, 0]));

@@ -59,26 +59,33 @@ impl Generator {
         &self.program.session
     }
 
-    /// Writes a line, unless all calls are made. A return at its end is the line end's.
+    /// Writes a line, unless all calls are made, and asks `why` after a call. A return at its end is the line end's.
     fn emit(&mut self, line: &[u8]) {
         if self.left == 0 {
             return;
         }
         self.text.extend(line);
-        if self.random.one_in(10) {
+        let was_call = if self.random.one_in(10) {
             self.text.push(b'\r');
-            self.take_in(line);
+            self.take_in(line)
         } else {
-            self.take_in(line.strip_suffix(b"\r").unwrap_or(line));
-        }
+            self.take_in(line.strip_suffix(b"\r").unwrap_or(line))
+        };
         self.text.push(b'\n');
+        if was_call {
+            self.text.extend(self.random.pick(&[&b"why\n"[..], b"why\n", b"why\n", b" why\t\n", b"why\r\n"]));
+        }
     }
 
-    fn take_in(&mut self, line: &[u8]) {
-        if let Some(Ok(order)) = parse(line) {
-            self.left -= u64::from(is_call(&order));
-            self.program.obey(order);
-        }
+    /// True for a call.
+    fn take_in(&mut self, line: &[u8]) -> bool {
+        let Some(Ok(order)) = parse(line) else {
+            return false;
+        };
+        let call = is_call(&order);
+        self.left -= u64::from(call);
+        self.program.obey(order);
+        call
     }
 
     /// The end of a file: the whole session once more, and a last line without a line feed.
@@ -125,8 +132,10 @@ impl Generator {
     fn nearly_right(&mut self) {
         let about = self.about();
         let (random, session) = (&mut self.random, &self.program.session);
-        let fault = random.below(10);
-        let (kind, mut data) = if fault < 6 {
+        let fault = random.below(11);
+        let (kind, mut data) = if fault == 10 {
+            commands::several_off(random, session, about)
+        } else if fault < 6 {
             commands::off(random, session, about)
         } else {
             commands::right(random, session, about)
@@ -135,7 +144,7 @@ impl Generator {
             commands::wrong_length(random, &mut data);
         }
         let sender = commands::sender(random, kind);
-        if fault < 8 {
+        if fault < 8 || fault == 10 {
             return self.framed(sender, kind, &data);
         }
         let mut packet = command_packet(self.random.byte(), kind, &data);
@@ -201,6 +210,7 @@ impl Generator {
             0 => "show",
             1 => "journal",
             2 if self.random.one_in(8) => "help",
+            3 if self.random.one_in(2) => "why",
             2 | 3 if self.small => "show",
             4 if self.small => "journal",
             _ => "image",

@@ -3,7 +3,7 @@
 use second::image::{self, IMAGE_LENGTH};
 use second::journal::Bytes;
 use second::occ::command_packet;
-use second::session::Session;
+use second::session::{OccAnswer, Session};
 use std::hint::black_box;
 use std::time::{Duration, Instant};
 
@@ -31,9 +31,15 @@ struct Work {
     calls: Vec<Call>,
 }
 
-/// Answer in the low 16 bits, doorbell or kind in the high 16, as the C interface has it.
+/// Answer in the low 8 bits, doorbell or kind in the high 16, as the C interface has it.
 fn packed(answer: u8, high: u16) -> u32 {
     u32::from(high) << 16 | u32::from(answer)
+}
+
+/// A packet's fault: the reason in bits 8 to 15, the data byte in the high 16.
+fn with_fault(told: OccAnswer) -> u32 {
+    let (reason, byte) = told.fault.map_or((0, 0), |fault| (fault.reason.number(), fault.byte as u16));
+    packed(told.answer, byte) | u32::from(reason) << 8
 }
 
 fn with_kind((answer, kind): (u8, u8)) -> u32 {
@@ -57,7 +63,7 @@ fn proved(session: &mut [u8], call: &Call, reply: &mut [u8]) -> u32 {
 
 fn on_value<B: Bytes>(session: &mut Session<B>, call: &Call, reply: &mut [u8]) -> u32 {
     match call {
-        Call::Occ(c) => packed(session.occ(HTMGT, c, reply).0, 0),
+        Call::Occ(c) => with_fault(session.occ(HTMGT, c, reply)),
         Call::Sbe(r) => {
             let (answer, bell) = session.sbe(r, &mut reply[..32]);
             packed(answer, bell)
@@ -99,6 +105,13 @@ fn throttle_sets() -> Vec<u8> {
     data
 }
 
+/// As many, the last one the first again.
+fn repeated_pair() -> Vec<u8> {
+    let mut data = throttle_sets();
+    data[183..185].fill(0);
+    data
+}
+
 /// From fresh, that many times set to standby: an entry of two bytes each.
 fn with_entries(count: usize) -> Session {
     let mut session = Session::fresh();
@@ -137,6 +150,7 @@ fn works() -> Vec<Work> {
         work("poll", &up, poll()),
         work("user cap and undo", &up, vec![occ(0x22, &[0x03, 0xE8]), Call::Undo]),
         work("16-pair throttle packet and undo", &up, vec![occ(0x21, &throttle_sets()), Call::Undo]),
+        work("the same, its last pair the first again (0x13)", &up, vec![occ(0x21, &repeated_pair())]),
         work("undo and redo of the throttles", &throttled, back()),
         work("4,096-byte packet (0x11)", &up, vec![occ(0x30, &[0xFF; 4090])]),
         work("SBE mask and undo", &up, vec![mask(), Call::Undo]),

@@ -17,6 +17,12 @@ slice-aggregate-put-2 c = search needs
 put-requires-2 : tie.Need-put-requires-2
 put-requires-2 c κs = search needs
 
+slice-aggregate-put-3 : tie.Need-slice-aggregate-put-3
+slice-aggregate-put-3 c = search needs
+
+put-requires-3 : tie.Need-put-requires-3
+put-requires-3 c κs = search needs
+
 same-length : tie.Need-same-length
 same-length c = search needs
 
@@ -32,5 +38,7 @@ put-sends-spec =
     put-requires
     slice-aggregate-put-2
     put-requires-2
+    slice-aggregate-put-3
+    put-requires-3
     same-length
     returns)

@@ -13,12 +13,31 @@ mul-result c = search needs
 cast-result-2 : tie.Need-cast-result-2
 cast-result-2 c = search needs
 
+mul-result-2 : tie.Need-mul-result-2
+mul-result-2 c = search needs
+
 add-result : tie.Need-add-result
 add-result c = search needs
+
+cast-result-3 : tie.Need-cast-result-3
+cast-result-3 c = search needs
+
+add-result-2 : tie.Need-add-result-2
+add-result-2 c = search needs
 
 returns : tie.Need-returns
 unfolding packed
 returns c = refl
 
 pub pack-spec : {M : Type 1} → statement M
-pack-spec = tie.close (tie.spec cast-result mul-result cast-result-2 add-result returns)
+pack-spec =
+    tie.close
+    (tie.spec
+    cast-result
+    mul-result
+    cast-result-2
+    mul-result-2
+    add-result
+    cast-result-3
+    add-result-2
+    returns)

@@ -3,6 +3,7 @@ use Prim.Native.Nat.{ℕ, _*_, _+_, _%_}
 use mathlib.Core.Bool.{not}
 use mathlib.Core.Path.{_≡_, refl, ap, _∙_}
 use mathlib.Core.List.{List, []}
+use native.Mathlib.Omega.{arith}
 use borrow.Author.Tests.{eqb-true, not-false}
 use lib.Arith.{digits-mod}
 use lib.Dec.{lit<, eqb}
@@ -24,9 +25,11 @@ use Rattle.undo_call.specs.laws.Came as undo
 use Rattle.bjargolsk.specs.Calls.{packed, answerIn}
 
 -- a call that answered 0 has answer 0 in its result
-answered-zero : (n high : ℕ) → n ≡ 0 → answerIn (packed (record { answer = n; beside = high })) ≡ 0
+answered-zero : (n m high : ℕ) → n ≡ 0 → answerIn (packed (record { answer = n; small = m; beside = high })) ≡ 0
 unfolding answerIn packed
-answered-zero n high e = ap (λ (k : ℕ). (high * 65536 + k) % 65536) e ∙ digits-mod high (lit< tt)
+answered-zero n m high e =
+    let above : high * 65536 + m * 256 + n ≡ (high * 256 + m) * 256 + 0 = omega (arith, e) in
+    ap (λ (k : ℕ). k % 256) above ∙ digits-mod (high * 256 + m) (lit< tt)
 
 module _ (b : List ℕ) (bytes : Bytes b) where
   -- the image of the session that was read is the bytes that it was read from
@@ -41,7 +44,7 @@ module _ (b : List ℕ) (bytes : Bytes b) where
   occ-refused sender c d =
       cond-cases (λ (q : Left). Kept q d) (not (eqb (length b) imageLength)) (λ e h. (refl, refl))
       (λ e h.
-      let k = occ.refusal-keeps (sessionOf b) sender c d _ (occ.came (sessionOf b) sender c d) (λ z. h (answered-zero _ 0 z)) in
+      let k = occ.refusal-keeps (sessionOf b) sender c d _ (occ.came (sessionOf b) sender c d) (λ z. h (answered-zero _ _ _ z)) in
       (same-image _ (eqb-true (length b) imageLength (not-false _ e)) (k .0), k .1))
 
   pub sbe-refused : (r d : List ℕ) → Kept (sbeOn b r d) d
@@ -49,7 +52,7 @@ module _ (b : List ℕ) (bytes : Bytes b) where
   sbe-refused r d =
       cond-cases (λ (q : Left). Kept q d) (not (eqb (length b) imageLength)) (λ e h. (refl, refl))
       (λ e h.
-      let k = sbe.refusal-keeps (sessionOf b) r d _ (sbe.came (sessionOf b) r d) (λ z. h (answered-zero _ _ z)) in
+      let k = sbe.refusal-keeps (sessionOf b) r d _ (sbe.came (sessionOf b) r d) (λ z. h (answered-zero _ _ _ z)) in
       (same-image _ (eqb-true (length b) imageLength (not-false _ e)) (k .0), k .1))
 
   move-refused : (w : Way) → Kept (moveOn w b) []
@@ -57,7 +60,7 @@ module _ (b : List ℕ) (bytes : Bytes b) where
   move-refused w =
       cond-cases (λ (q : Left). Kept q []) (not (eqb (length b) imageLength)) (λ e h. (refl, refl))
       (λ e h.
-      let k = undo.refusal-keeps w (sessionOf b) _ (undo.came w (sessionOf b)) (λ z. h (answered-zero _ _ z)) in
+      let k = undo.refusal-keeps w (sessionOf b) _ (undo.came w (sessionOf b)) (λ z. h (answered-zero _ _ _ z)) in
       (same-image _ (eqb-true (length b) imageLength (not-false _ e)) (k .0), refl))
 
   pub undo-refused : Kept (undoOn b) []

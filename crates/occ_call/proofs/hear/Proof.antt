@@ -20,26 +20,29 @@ enum-known-verdict c = search needs
 tell-requires : tie.Need-tell-requires
 tell-requires c κs = search needs
 
-answer-with-requires : tie.Need-answer-with-requires
-answer-with-requires c κs = search needs
+why-requires : tie.Need-why-requires
+why-requires c κs = c .before .before .before .before .before .before .before .before .before .before .before .before .before .before .pre .2
+
+answer-why-requires : tie.Need-answer-why-requires
+answer-why-requires c κs = search needs
 
 same-length : tie.Need-same-length
 same-length c = search needs
 
 returns : tie.Need-returns
-returns c = told-in _ (c .before .before .before .before .before .before .before .before .before .before .before .before .before .before .before .args .lent .now) (c .before .before .before .before .before .before .before .before .before .before .before .before .before .before .before .pre .0) _ (c .before .before .before .before .before .before .before .before .before .before .before .before .before .before .before .args .command .now) (c .before .before .before .before .before .before .before .before .before .before .before .before .before .before .before .args .reply .now) _ (c .before .before .before .before .before .before .before .ask .ensures) _ _ (c .answer-with .ensures) (λ z. ⊎-elim (λ e. omega arith) (λ e. omega arith) (c .before .before .before .before .before .match .keys2)) (c .before .before .before .tell .ensures)
+returns c = told-in _ (c .before .before .before .before .before .before .before .before .before .before .before .before .before .before .before .before .args .lent .now) (c .before .before .before .before .before .before .before .before .before .before .before .before .before .before .before .before .pre .0) _ (c .before .before .before .before .before .before .before .before .before .before .before .before .before .before .before .before .args .command .now) (c .before .before .before .before .before .before .before .before .before .before .before .before .before .before .before .before .args .reply .now) _ (c .before .before .before .before .before .before .before .before .ask .ensures) _ _ _ (c .answer-why .ensures) (c .before .why .ensures) (λ z. ⊎-elim (λ e. omega arith) (λ e. omega arith) (c .before .before .before .before .before .before .match .keys2)) (c .before .before .before .before .tell .ensures)
 
 carry-requires : tie.Need-carry-requires
 carry-requires c κs = (c .before .before .before .before .before .before .before .before .before .before .before .before .before .pre .0 .long, c .before .before .before .before .before .before .before .before .before .before .before .before .before .pre .1)
 
-answer-with-requires-2 : tie.Need-answer-with-requires-2
-answer-with-requires-2 c κs = search needs
+answer-with-requires : tie.Need-answer-with-requires
+answer-with-requires c κs = search needs
 
 same-length-2 : tie.Need-same-length-2
 same-length-2 c = search needs
 
 returns-2 : tie.Need-returns-2
-returns-2 c = full-in _ (c .before .before .before .before .before .before .before .before .before .before .before .before .before .before .before .before .before .before .args .lent .now) (c .before .before .before .before .before .before .before .before .before .before .before .before .before .before .before .before .before .before .pre .0) _ (c .before .before .before .before .before .before .before .before .before .before .before .before .before .before .before .before .before .before .args .command .now) (c .before .before .before .before .before .before .before .before .before .before .before .before .before .before .before .before .before .before .args .reply .now) _ (c .before .before .before .before .before .before .before .before .before .before .ask .ensures) _ (c .before .before .before .before .before .before .before .verdict .given .1) _ _ _ (c .before .before .before .before .carry .ensures .0) (c .before .before .before .before .carry .ensures .1) (c .answer-with2 .ensures) (c .before .if1 .taken)
+returns-2 c = full-in _ (c .before .before .before .before .before .before .before .before .before .before .before .before .before .before .before .before .before .before .args .lent .now) (c .before .before .before .before .before .before .before .before .before .before .before .before .before .before .before .before .before .before .pre .0) _ (c .before .before .before .before .before .before .before .before .before .before .before .before .before .before .before .before .before .before .args .command .now) (c .before .before .before .before .before .before .before .before .before .before .before .before .before .before .before .before .before .before .args .reply .now) _ (c .before .before .before .before .before .before .before .before .before .before .ask .ensures) _ (c .before .before .before .before .before .before .before .verdict .given .1) _ _ _ (c .before .before .before .before .carry .ensures .0) (c .before .before .before .before .carry .ensures .1) (c .answer-with .ensures) (c .before .if1 .taken)
 
 array-share-prefix-nothing : tie.Need-array-share-prefix-nothing
 array-share-prefix-nothing c = search needs
@@ -50,8 +53,8 @@ slice-aggregate-reply c = search needs
 reply-requires : tie.Need-reply-requires
 reply-requires c κs = search needs
 
-answer-with-requires-3 : tie.Need-answer-with-requires-3
-answer-with-requires-3 c κs = search needs
+answer-with-requires-2 : tie.Need-answer-with-requires-2
+answer-with-requires-2 c κs = search needs
 
 same-length-3 : tie.Need-same-length-3
 same-length-3 c = search needs
@@ -60,7 +63,7 @@ same-length-4 : tie.Need-same-length-4
 same-length-4 c = search needs
 
 returns-3 : tie.Need-returns-3
-returns-3 c = done-in _ (c .before .before .before .before .before .before .before .before .before .before .before .before .before .before .before .before .before .before .before .before .before .before .before .args .lent .now) (c .before .before .before .before .before .before .before .before .before .before .before .before .before .before .before .before .before .before .before .before .before .before .before .pre .0) _ (c .before .before .before .before .before .before .before .before .before .before .before .before .before .before .before .before .before .before .before .before .before .before .before .args .command .now) (c .before .before .before .before .before .before .before .before .before .before .before .before .before .before .before .before .before .before .before .before .before .before .before .args .reply .now) _ (c .before .before .before .before .before .before .before .before .before .before .before .before .before .before .before .ask .ensures) _ (c .before .before .before .before .before .before .before .before .before .before .before .before .verdict .given .1) _ _ _ (c .before .before .before .before .before .before .before .before .before .carry .ensures .0) (c .before .before .before .before .before .before .before .before .before .carry .ensures .1) (c .answer-with3 .ensures) (c .before .before .before .before .before .before .if1 .left) _ (c .before .before .before .reply2 .ensures)
+returns-3 c = done-in _ (c .before .before .before .before .before .before .before .before .before .before .before .before .before .before .before .before .before .before .before .before .before .before .before .args .lent .now) (c .before .before .before .before .before .before .before .before .before .before .before .before .before .before .before .before .before .before .before .before .before .before .before .pre .0) _ (c .before .before .before .before .before .before .before .before .before .before .before .before .before .before .before .before .before .before .before .before .before .before .before .args .command .now) (c .before .before .before .before .before .before .before .before .before .before .before .before .before .before .before .before .before .before .before .before .before .before .before .args .reply .now) _ (c .before .before .before .before .before .before .before .before .before .before .before .before .before .before .before .ask .ensures) _ (c .before .before .before .before .before .before .before .before .before .before .before .before .verdict .given .1) _ _ _ (c .before .before .before .before .before .before .before .before .before .carry .ensures .0) (c .before .before .before .before .before .before .before .before .before .carry .ensures .1) (c .answer-with2 .ensures) (c .before .before .before .before .before .before .if1 .left) _ (c .before .before .before .reply2 .ensures)
 
 pub hear-spec : {M : Type 1} → statement M
 hear-spec =
@@ -71,17 +74,18 @@ hear-spec =
     ask-requires
     enum-known-verdict
     tell-requires
-    answer-with-requires
+    why-requires
+    answer-why-requires
     same-length
     returns
     carry-requires
-    answer-with-requires-2
+    answer-with-requires
     same-length-2
     returns-2
     array-share-prefix-nothing
     slice-aggregate-reply
     reply-requires
-    answer-with-requires-3
+    answer-with-requires-2
     same-length-3
     same-length-4
     returns-3)

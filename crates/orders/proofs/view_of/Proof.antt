@@ -46,9 +46,19 @@ returns-4 : tie.Need-returns-4
 unfolding viewOf
 returns-4 c = else-b _ _ (sym (c .before .before .before .before .before .before .before .before .before .before .same .ensures) ∙ c .before .before .before .before .before .before .before .before .before .if1 .left) (else-b _ _ (sym (c .before .before .before .before .before .before .before .same2 .ensures) ∙ c .before .before .before .before .before .before .if2 .left) (else-b _ _ (sym (c .before .before .before .before .same3 .ensures) ∙ c .before .before .before .if3 .left) (if-b _ _ (sym (c .before .same4 .ensures) ∙ c .if4 .taken) refl)))
 
+slice-aggregate-same-5 : tie.Need-slice-aggregate-same-5
+slice-aggregate-same-5 c = search needs
+
+same-requires-5 : tie.Need-same-requires-5
+same-requires-5 c κs = search needs
+
 returns-5 : tie.Need-returns-5
 unfolding viewOf
-returns-5 c = else-b _ _ (sym (c .before .before .before .before .before .before .before .before .before .before .same .ensures) ∙ c .before .before .before .before .before .before .before .before .before .if1 .left) (else-b _ _ (sym (c .before .before .before .before .before .before .before .same2 .ensures) ∙ c .before .before .before .before .before .before .if2 .left) (else-b _ _ (sym (c .before .before .before .before .same3 .ensures) ∙ c .before .before .before .if3 .left) (else-b _ _ (sym (c .before .same4 .ensures) ∙ c .if4 .left) refl)))
+returns-5 c = else-b _ _ (sym (c .before .before .before .before .before .before .before .before .before .before .before .before .before .same .ensures) ∙ c .before .before .before .before .before .before .before .before .before .before .before .before .if1 .left) (else-b _ _ (sym (c .before .before .before .before .before .before .before .before .before .before .same2 .ensures) ∙ c .before .before .before .before .before .before .before .before .before .if2 .left) (else-b _ _ (sym (c .before .before .before .before .before .before .before .same3 .ensures) ∙ c .before .before .before .before .before .before .if3 .left) (else-b _ _ (sym (c .before .before .before .before .same4 .ensures) ∙ c .before .before .before .if4 .left) (if-b _ _ (sym (c .before .same5 .ensures) ∙ c .if5 .taken) refl))))
+
+returns-6 : tie.Need-returns-6
+unfolding viewOf
+returns-6 c = else-b _ _ (sym (c .before .before .before .before .before .before .before .before .before .before .before .before .before .same .ensures) ∙ c .before .before .before .before .before .before .before .before .before .before .before .before .if1 .left) (else-b _ _ (sym (c .before .before .before .before .before .before .before .before .before .before .same2 .ensures) ∙ c .before .before .before .before .before .before .before .before .before .if2 .left) (else-b _ _ (sym (c .before .before .before .before .before .before .before .same3 .ensures) ∙ c .before .before .before .before .before .before .if3 .left) (else-b _ _ (sym (c .before .before .before .before .same4 .ensures) ∙ c .before .before .before .if4 .left) (else-b _ _ (sym (c .before .same5 .ensures) ∙ c .if5 .left) (refl)))))
 
 pub view-of-spec : {M : Type 1} → statement M
 view-of-spec =
@@ -66,4 +76,7 @@ view-of-spec =
     slice-aggregate-same-4
     same-requires-4
     returns-4
-    returns-5)
+    slice-aggregate-same-5
+    same-requires-5
+    returns-5
+    returns-6)

@@ -30,18 +30,6 @@ occ-requires c κs = search needs
 enum-told-2 : tie.Need-enum-told-2
 enum-told-2 c = search needs
 
-slice-reshare-prefix-sbe : tie.Need-slice-reshare-prefix-sbe
-slice-reshare-prefix-sbe c = search needs
-
-slice-aggregate-sbe : tie.Need-slice-aggregate-sbe
-slice-aggregate-sbe c = sym (length-take-le _ _ (omega arith))
-
-sbe-requires : tie.Need-sbe-requires
-sbe-requires c κs = search needs
-
-enum-told-3 : tie.Need-enum-told-3
-enum-told-3 c = search needs
-
 add-send : tie.Need-add-send
 add-send c = search needs
 
@@ -53,6 +41,18 @@ slice-aggregate-send c = sym (length-take-le _ _ (omega arith))
 
 send-requires : tie.Need-send-requires
 send-requires c κs = simp length-take (omega arith)
+
+enum-told-3 : tie.Need-enum-told-3
+enum-told-3 c = search needs
+
+slice-reshare-prefix-sbe : tie.Need-slice-reshare-prefix-sbe
+slice-reshare-prefix-sbe c = search needs
+
+slice-aggregate-sbe : tie.Need-slice-aggregate-sbe
+slice-aggregate-sbe c = sym (length-take-le _ _ (omega arith))
+
+sbe-requires : tie.Need-sbe-requires
+sbe-requires c κs = search needs
 
 enum-told-4 : tie.Need-enum-told-4
 enum-told-4 c = search needs
@@ -174,14 +174,14 @@ carry-out-spec =
     part-occ-end
     occ-requires
     enum-told-2
-    slice-reshare-prefix-sbe
-    slice-aggregate-sbe
-    sbe-requires
-    enum-told-3
     add-send
     slice-relend-prefix-send
     slice-aggregate-send
     send-requires
+    enum-told-3
+    slice-reshare-prefix-sbe
+    slice-aggregate-sbe
+    sbe-requires
     enum-told-4
     load-requires
     enum-told-5

@@ -1,15 +1,18 @@
 -- `standin::serve` meets its contract: the lengths are kept; the turns left fall. Assumes nothing.
-use borrow.Author.Needs.{needs}
 use mathlib.Core.Path.{_≡_}
 use lib.ListN.{length}
 use Rattle.standin.proofs.serve.Statement.{statement}
 use Rattle.standin.proofs.serve.Tie as tie
+use borrow.Author.Needs.{needs}
 
 abbrev Inv-loop : tie.InvT-loop
 Inv-loop lent₀ piece₀ line₀ sent₀ out₀ bench₀ held₀ left₀ lent piece line sent out bench held left = (length lent ≡ length lent₀) × (length piece ≡ length piece₀) × (length line ≡ length line₀) × (length sent ≡ length sent₀) × (length out ≡ length out₀)
 
 abbrev μ-loop : tie.MeasureT-loop
 μ-loop lent₀ piece₀ line₀ sent₀ out₀ bench₀ held₀ left₀ lent piece line sent out bench held left = left
+
+answer-with-requires : tie.Need-answer-with-requires Inv-loop μ-loop
+answer-with-requires c κs = search needs
 
 loop-holds : tie.Need-loop-holds Inv-loop μ-loop
 loop-holds c = search needs
@@ -83,6 +86,7 @@ serve-spec =
     (tie.spec
     Inv-loop
     μ-loop
+    answer-with-requires
     loop-holds
     sub-left
     read-requires

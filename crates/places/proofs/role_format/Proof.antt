@@ -1,0 +1,28 @@
+use Rattle.wire.specs.laws.Cases.{if-ne, else-ne, if-lt, else-lt, if-le, else-le, if-b, else-b, if-not, else-not, if-eq, else-eq}
+use mathlib.Core.Path.{refl, sym, ap, _∙_}
+use Rattle.places.specs.Places.{roleFault}
+use borrow.Author.Needs.{needs}
+use Rattle.places.proofs.role_format.Statement.{statement}
+use Rattle.places.proofs.role_format.Tie as tie
+
+returns : tie.Need-returns
+unfolding roleFault
+returns c = if-ne _ _ (c .if1 .taken) refl
+
+shared-slice-read-if2 : tie.Need-shared-slice-read-if2
+shared-slice-read-if2 c = search needs
+
+found-at-requires : tie.Need-found-at-requires
+found-at-requires c κs = search needs
+
+returns-2 : tie.Need-returns-2
+unfolding roleFault
+returns-2 c = else-ne _ _ (c .before .before .before .if1 .left) (if-lt _ _ (c .before .if2 .taken) (c .found-at .ensures))
+
+returns-3 : tie.Need-returns-3
+unfolding roleFault
+returns-3 c = else-ne _ _ (c .before .before .if1 .left) (else-lt _ _ (c .if2 .left) refl)
+
+pub role-format-spec : {M : Type 1} → statement M
+role-format-spec =
+    tie.close (tie.spec returns shared-slice-read-if2 found-at-requires returns-2 returns-3)

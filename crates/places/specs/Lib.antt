@@ -1,0 +1,4 @@
+pub mod Reasons
+pub mod Places
+pub mod Faults
+pub mod laws

@@ -2,7 +2,9 @@
 use Prim.Native.Nat.{ℕ}
 use mathlib.Core.List.{List, [], _∷_}
 use Rattle.image.specs.Image.{imageOf}
-use Rattle.occ_call.specs.Occ.{occOn}
+use Rattle.session.specs.declared.Session.{Session}
+use Rattle.inplace.specs.declared.Told.{Told}
+use Rattle.occ_call.specs.Occ.{occOn, occWhy, besideOf}
 use Rattle.sbe_call.specs.Sbe.{sbeOn}
 use Rattle.undo_call.specs.Undo.{undoOn, redoOn}
 use Rattle.bjargolsk.specs.Calls.{packed}
@@ -20,15 +22,15 @@ lent b (sbe r d) = record { result = packed (sbeOn b r d .told); image = sbeOn b
 lent b undo = record { result = packed (undoOn b .told); image = undoOn b .image; reply = undoOn b .reply }
 lent b redo = record { result = packed (redoOn b .told); image = redoOn b .image; reply = redoOn b .reply }
 
--- the same of a call on a session: the answer below, doorbell or kind above, the session as its image
-unfoldable pub beside : Call → Said → ℕ
-beside (occ sender c d) x = 0
-beside (sbe r d) x = x .bell
-beside undo x = x .kind
-beside redo x = x .kind
+-- the same of a call on a session: beside the answer the byte that is wrong and why, a doorbell or a kind; the session as its image
+unfoldable pub toldFor : Session → Call → Said → Told
+toldFor s (occ sender c d) x = besideOf (x .answer) (occWhy s sender c d)
+toldFor s (sbe r d) x = record { answer = x .answer; small = 0; beside = x .bell }
+toldFor s undo x = record { answer = x .answer; small = 0; beside = x .kind }
+toldFor s redo x = record { answer = x .answer; small = 0; beside = x .kind }
 
-unfoldable pub carriedOver : Call → Said → Lent
-carriedOver c x = record { result = packed (record { answer = x .answer; small = 0; beside = beside c x }); image = imageOf (x .session); reply = x .reply }
+unfoldable pub carriedOver : Session → Call → Said → Lent
+carriedOver s c x = record { result = packed (toldFor s c x); image = imageOf (x .session); reply = x .reply }
 
 unfoldable pub lentRun : List ℕ → List Call → List ℕ
 lentRun b [] = b

@@ -282,7 +282,7 @@ no-id-twice cs b = ids-in-order freshRecord cs (start freshSession) b fresh-star
 -- ---- the same for C: an image made fresh, and any calls on it; it stays the image of the session, and each call's result and reply are the session's
 
 pub same-on-images : (b : List ℕ) → length b ≡ imageLength → (cs : List Call) → AllOfBytes cs
-    → (lentRun (freshOn b .image) cs ≡ imageOf (after cs .session)) × ((c : Call) → lent (imageOf (after cs .session)) c ≡ carriedOver c (said (after cs .session) c))
+    → (lentRun (freshOn b .image) cs ≡ imageOf (after cs .session)) × ((c : Call) → lent (imageOf (after cs .session)) c ≡ carriedOver (after cs .session) c (said (after cs .session) c))
 unfolding start
 same-on-images b long cs bs = (
   ap (λ (i : List ℕ). lentRun i cs) (fresh-image b long) ∙ lent-run freshRecord cs (start freshSession) bs fresh-start,

@@ -4,7 +4,7 @@ use mathlib.Core.Bool.{Bool, true, false, cond}
 use mathlib.Core.Path.{_≡_, refl, sym, ap, ap₂, subst, _∙_}
 use mathlib.Core.List.{List, [], _∷_, _++_}
 use lib.Dec.{eqb}
-use lib.ListN.{length, getD, drop, replicate}
+use lib.ListN.{length, getD, take, drop, replicate}
 use lib.Seq.{take-append-seam, drop-append-seam}
 use Rattle.wire.specs.Wire.{Bytes}
 use Rattle.wire.specs.laws.Wire.{bytes-take, bytes-drop}
@@ -19,10 +19,12 @@ use Rattle.session.specs.declared.Session.{Session}
 use Rattle.journal.specs.declared.Way.the-variants.{Before}
 use Rattle.image.specs.Image.{imageOf}
 use Rattle.image.specs.laws.Image.{Typed}
+use Rattle.places.specs.declared.Found.{Found}
+use Rattle.places.specs.declared.Found.the-variants.{Nothing, Wrong}
 use Rattle.occ_call.specs.Occ as occs
 use Rattle.sbe_call.specs.Sbe as sbes
 use Rattle.undo_call.specs.Undo.{undoOn, movedLeft}
-use Rattle.playing.specs.Playing.{Heard, heardWith, occHeard, sbeHeard, undoHeard, heard, line, imageAfter, stopLine, piecesOf}
+use Rattle.playing.specs.Playing.{Heard, ifWritten, heardWith, occHeard, sbeHeard, undoHeard, heard, line, imageAfter, stopLine, piecesOf}
 use Rattle.playing.specs.Steps.{oldestFirst, imageFrom, linesFrom}
 use Rattle.playing.specs.laws.Steps.{image-by-steps, lines-by-steps, pieces-of-whole, entries-of-whole}
 use Rattle.promises.specs.Calls.{Call, occ, sbe, undo, said}
@@ -34,6 +36,19 @@ use Rattle.promises.specs.laws.Lent.{occ-on, sbe-on, move-on, run-typed}
 
 -- ---- an entry played on the image of a session is its call on the session
 
+-- which byte is wrong stands beside the answer, and isn't heard
+answer-beside : (n : ℕ) (why : Found) → occs.besideOf n why .answer ≡ n
+unfolding occs.besideOf
+answer-beside n Nothing = refl
+answer-beside n (Wrong x) = refl
+
+abbrev heardAs : occs.OccResult → ℕ → Heard
+heardAs q n = record { answer = n; image = imageOf (q .outcome .session); status = ifWritten n (take 1 (drop 2 (q .reply))) }
+
+occ-heard : (q : occs.OccResult) (why : Found) → occHeard (occs.occLeft q why) ≡ heardAs q (q .outcome .answer)
+unfolding heardWith occs.occLeft
+occ-heard q why = ap (heardAs q) (answer-beside (q .outcome .answer) why)
+
 module _ (s : Session) (t : Typed s) (r r′ c c′ : List ℕ) (sender : ℕ) where
   abbrev b : List ℕ
   b = imageOf s
@@ -43,10 +58,10 @@ module _ (s : Session) (t : Typed s) (r r′ c c′ : List ℕ) (sender : ℕ) w
 
   one-heard : (x y : Bool)
       → cond x (sbeHeard (sbes.sbeOn b r r′)) (cond y (undoHeard (undoOn b)) (occHeard (occs.occOn b sender c c′))) ≡ heardOf (called x y) (said s (called x y))
-  unfolding heardOf said statusOf heardWith occs.occLeft sbes.sbeLeft movedLeft
+  unfolding heardOf said statusOf heardWith sbes.sbeLeft movedLeft
   one-heard true y = ap sbeHeard (sbe-on s t r r′)
   one-heard false true = ap undoHeard (move-on s t Before)
-  one-heard false false = ap occHeard (occ-on s t sender c c′)
+  one-heard false false = ap occHeard (occ-on s t sender c c′) ∙ occ-heard (occs.occCall s sender c c′) (occs.occWhy s sender c c′)
 
 heard-said : (s : Session) → Typed s → (e : Entry) → heard (imageOf s) e ≡ heardOf (callOf e) (said s (callOf e))
 unfolding heard callOf

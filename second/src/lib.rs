@@ -1,4 +1,4 @@
-//! An independent second implementation of the bench stand-in, written from 01-scope.md and READING.md.
+//! An independent second implementation of the bench stand-in, written from 01-scope.md, 02-change-requests.md and READING.md.
 #![forbid(unsafe_code)]
 
 pub mod bytes;
@@ -12,3 +12,4 @@ pub mod record;
 pub mod sbe;
 pub mod session;
 pub mod show;
+pub mod trace;

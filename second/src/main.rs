@@ -1,4 +1,4 @@
-//! `second`: the line protocol on standard input and output; or the generator; or the coverage count.
+//! `second`: the line protocol on standard input and output; or traces; or the generators; or the coverage count.
 #![forbid(unsafe_code)]
 
 use std::io::{stdin, stdout, BufReader, BufWriter, Write};
@@ -7,7 +7,10 @@ use std::process::ExitCode;
 const USAGE: &str = "usage: second
        second generate COUNT SEED [--small]
        second coverage < LINES
-       second answered N < LINES";
+       second answered N < LINES
+       second replay < TRACE
+       second trace < LINES > TRACE
+       second generate-trace SEED [ENTRIES] > TRACE";
 
 fn generate(count: &str, seed: &str, small: bool) -> std::io::Result<()> {
     let (Ok(count), Ok(seed)) = (count.parse(), seed.parse()) else {
@@ -27,6 +30,36 @@ fn answered(number: &str) -> std::io::Result<()> {
     stdout().lock().write_all(text.as_bytes())
 }
 
+/// Nothing is written for lines that are no trace: the complaint goes to standard error.
+fn trace() -> std::io::Result<ExitCode> {
+    match second::trace::from_lines(stdin().lock())? {
+        Ok(trace) => {
+            let mut output = stdout().lock();
+            output.write_all(&trace)?;
+            output.flush()?;
+            Ok(ExitCode::SUCCESS)
+        }
+        Err(complaint) => {
+            eprintln!("{complaint}");
+            Ok(ExitCode::FAILURE)
+        }
+    }
+}
+
+/// A trace of any sort, or a right one of that many entries.
+fn generate_trace(seed: &str, entries: Option<&str>) -> std::io::Result<()> {
+    let (Ok(seed), Ok(entries)) = (seed.parse(), entries.map(str::parse).transpose()) else {
+        return Err(std::io::Error::other(USAGE));
+    };
+    let trace = match entries {
+        None => second::generate::traces::any(seed),
+        Some(entries) => second::generate::traces::right(seed, entries),
+    };
+    let mut output = stdout().lock();
+    output.write_all(&trace)?;
+    output.flush()
+}
+
 fn run(arguments: &[&str]) -> std::io::Result<()> {
     match arguments {
         [] => second::protocol::serve(stdin().lock(), BufWriter::new(stdout().lock())),
@@ -37,6 +70,9 @@ fn run(arguments: &[&str]) -> std::io::Result<()> {
             stdout().lock().write_all(text.as_bytes())
         }
         ["answered", number] => answered(number),
+        ["replay"] => second::trace::replay(stdin().lock(), BufWriter::new(stdout().lock())),
+        ["generate-trace", seed] => generate_trace(seed, None),
+        ["generate-trace", seed, entries] => generate_trace(seed, Some(entries)),
         _ => Err(std::io::Error::other(USAGE)),
     }
 }
@@ -45,8 +81,12 @@ fn main() -> ExitCode {
     let arguments: Vec<String> =
         std::env::args_os().skip(1).map(|argument| argument.to_string_lossy().into_owned()).collect();
     let arguments: Vec<&str> = arguments.iter().map(String::as_str).collect();
-    match run(&arguments) {
-        Ok(()) => ExitCode::SUCCESS,
+    let ended = match arguments.as_slice() {
+        ["trace"] => trace(),
+        _ => run(&arguments).map(|()| ExitCode::SUCCESS),
+    };
+    match ended {
+        Ok(code) => code,
         // A reader that went away isn't a fault of ours.
         Err(error) if error.kind() == std::io::ErrorKind::BrokenPipe => ExitCode::SUCCESS,
         Err(error) => {

@@ -1,4 +1,4 @@
--- What each turn of `read` keeps, and what it finds where it stops. Assumes nothing.
+-- What each turn of a loop that reads by a table keeps, and what it finds where it stops; and the journal's kinds. Assumes nothing.
 use Prim.Native.Nat.{ℕ, suc, _+_, _-_, _≤_, _<_}
 use mathlib.Core.Bool.{Bool, true, false}
 use mathlib.Core.Path.{_≡_, refl, sym, ap, _∙_}
@@ -9,9 +9,12 @@ use borrow.Author.Tests.{leb-true, leb-false}
 use lib.Dec.{leb}
 use lib.ListN.{length, getD, List·getD-eq-default}
 use Rattle.entries.specs.declared.Reading.the-variants.{Whole, Unknown, Cut}
-use Rattle.entries.specs.Entries.{Entry, bodyLengths, bodyLen, scan, newestAt, readingOf}
-use Rattle.entries.specs.laws.Entries.{count-written, newest-written}
-use Rattle.entries.specs.laws.Places.{Place, first-place, place-written, scan-end, scan-unknown, scan-cut, entryAt, next-place}
+use Rattle.entries.specs.Entries.{Entry, Table, bodyLengths, bodyLen, journalTable, Scan, scanBy, entriesOf, newestAt, readingOf}
+use Rattle.entries.specs.laws.ByTable.{count-written, newest-written}
+use Rattle.entries.specs.laws.Entries.{known-kind}
+use Rattle.entries.specs.laws.Placed.{Placed, first-place, place-written, scan-end, scan-unknown, scan-cut, entryAt, next-place}
+
+-- ---- the journal's kinds
 
 past-the-table : (k : ℕ) → 12 ≤ k → 0 ≡ bodyLen k
 unfolding bodyLen
@@ -38,21 +41,34 @@ no-other-kind k n1 n2 n3 n4 n5 n6 n7 n8 n9 n10 n11 = go (leb 12 k) refl
     go true h = past-the-table k (leb-true 12 k h)
     go false h = kind-zero k (lt-one k (none (leb-false 12 k h)))
 
+-- a known kind, by its body's length
+pub whole-kind : (n k : ℕ) → n ≡ bodyLen k → (n ≡ 0 → ⊥) → n + 1 ≡ journalTable k
+whole-kind n k e z = add-one n ∙ known-kind n k e z
+
+pub some : (n : ℕ) → n + 1 ≡ 0 → ⊥
+some n z = omega arith
+
+-- ---- a turn, by any table
+
 -- `at` is a place, after `count` entries, the newest of them at `newest`
-pub record Passed (j : List ℕ) (at count newest : ℕ) : Type 0 where
+pub record Passed (t : Table) (j : List ℕ) (at count newest : ℕ) : Type 0 where
   pub entries : List Entry
-  pub place : Place j at entries
+  pub place : Placed t j at entries
   pub counted : count ≡ length entries
   pub placed : newest ≡ newestAt entries
 
-pub passed-none : (j : List ℕ) → Passed j 0 0 0
+pub passed-none : (t : Table) (j : List ℕ) → Passed t j 0 0 0
 unfolding newestAt
-passed-none j = record { entries = []; place = first-place j; counted = refl; placed = refl }
+passed-none t j = record { entries = []; place = first-place t j; counted = refl; placed = refl }
 
-module _ {j : List ℕ} {at count newest : ℕ} (p : Passed j at count newest) where
-  pub passed-all : length j ≤ at → Whole count newest ≡ readingOf (scan j)
+module _ {t : Table} {j : List ℕ} {at count newest : ℕ} (p : Passed t j at count newest) where
+  pub passed-all : length j ≤ at → Whole count newest ≡ readingOf (scanBy t j)
   unfolding readingOf
   passed-all h = rw (scan-end (p .place) h, p .counted, p .placed)
+
+  pub counted-all : length j ≤ at → count ≡ length (entriesOf (scanBy t j))
+  unfolding entriesOf
+  counted-all h = p .counted ∙ sym (ap (λ (s : Scan). length (entriesOf s)) (scan-end (p .place) h))
 
   pub count-fits : count ≤ at
   count-fits = omega (arith, count-written (p .entries), place-written (p .place))
@@ -60,20 +76,33 @@ module _ {j : List ℕ} {at count newest : ℕ} (p : Passed j at count newest) w
   pub newest-fits : newest ≤ at
   newest-fits = omega (arith, newest-written (p .entries), place-written (p .place))
 
-  module _ {n : ℕ} (size : n ≡ bodyLen (getD j at 0)) (more : at < length j) where
-    pub passed-unknown : n ≡ 0 → Unknown at ≡ readingOf (scan j)
-    unfolding readingOf
-    passed-unknown z = ap Unknown (place-written (p .place)) ∙ sym (ap readingOf (scan-unknown (p .place) size more z))
+  module _ (more : at < length j) where
+    pub counted-unknown : 0 ≡ t (getD j at 0) → count ≡ length (entriesOf (scanBy t j))
+    unfolding entriesOf
+    counted-unknown none = p .counted ∙ sym (ap (λ (s : Scan). length (entriesOf s)) (scan-unknown (p .place) more none))
 
-    pub passed-cut : (n ≡ 0 → ⊥) → length j - at ≤ n → Cut at ≡ readingOf (scan j)
+    pub passed-unknown : 0 ≡ t (getD j at 0) → Unknown at ≡ readingOf (scanBy t j)
     unfolding readingOf
-    passed-cut z h = ap Cut (place-written (p .place)) ∙ sym (ap readingOf (scan-cut (p .place) size more z h))
+    passed-unknown none = ap Unknown (place-written (p .place)) ∙ sym (ap readingOf (scan-unknown (p .place) more none))
 
-    pub passed-next : (n ≡ 0 → ⊥) → n < length j - at → Passed j (at + (n + 1)) (count + 1) at
-    unfolding newestAt
-    passed-next z h = record {
-      entries = entryAt j at n ∷ p .entries;
-      place = next-place (p .place) size more z h;
-      counted = add-one count ∙ ap suc (p .counted);
-      placed = place-written (p .place);
-    }
+    -- a kind whose entries have n bytes
+    module _ {n : ℕ} (size : n ≡ t (getD j at 0)) (known : n ≡ 0 → ⊥) where
+      with-body : suc (n - 1) ≡ t (getD j at 0)
+      with-body = omega arith
+
+      pub counted-cut : length j - at < n → count ≡ length (entriesOf (scanBy t j))
+      unfolding entriesOf
+      counted-cut h = p .counted ∙ sym (ap (λ (s : Scan). length (entriesOf s)) (scan-cut (p .place) more with-body (omega arith)))
+
+      pub passed-cut : length j - at < n → Cut at ≡ readingOf (scanBy t j)
+      unfolding readingOf
+      passed-cut h = ap Cut (place-written (p .place)) ∙ sym (ap readingOf (scan-cut (p .place) more with-body (omega arith)))
+
+      pub passed-next : n ≤ length j - at → Passed t j (at + n) (count + 1) at
+      unfolding newestAt
+      passed-next h = record {
+        entries = entryAt j at (n - 1) ∷ p .entries;
+        place = next-place (p .place) more with-body (omega arith) (omega arith);
+        counted = add-one count ∙ ap suc (p .counted);
+        placed = place-written (p .place);
+      }

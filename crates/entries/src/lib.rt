@@ -1,7 +1,7 @@
-// The journal as entries: kinds and lengths, on any lent bytes. Values are judged elsewhere.
+// The journal as entries: kinds and lengths, on any lent bytes. Values are judged elsewhere. Other rows of entries are read alike, by their own lengths.
 ghost use mathlib.Core.Path.{_≡_};
 ghost use lib.ListN.{length};
-ghost use Rattle.entries.specs.Entries.{bodyLen, scan, readingOf, readingFits};
+ghost use Rattle.entries.specs.Entries.{bodyLen, scan, readingOf, readingFits, nextFor};
 
 // What lent bytes read as: whole entries, how many and where the newest starts (0 where there is none), or the place of
 // the entry that breaks them.
@@ -9,6 +9,27 @@ pub enum Reading {
     Whole { count: usize, newest: usize },
     Unknown(usize),
     Cut(usize),
+}
+
+// What stands at the front of bytes: a whole entry, with its length; no kind that there is; an entry that is cut; or nothing, at the end.
+pub enum Next {
+    Stands(usize),
+    NoKind,
+    CutShort,
+    End,
+}
+
+// At a kind whose entries have `len` bytes, 0 where there is no such kind, and so many there are.
+pub fn next_for(len: usize, have: usize) -> Next
+    ensures { λ r. ⌜ r ≡ nextFor len have ⌝ }
+{
+    if len == 0 {
+        return Next::NoKind;
+    }
+    if have < len {
+        return Next::CutShort;
+    }
+    Next::Stands(len)
 }
 
 // Document 01, "The journal": the length of each kind's body; 0 where there is no such kind. A `match`, because a table in a constant

@@ -9,7 +9,7 @@ use native.Mathlib.Omega.{arith}
 use borrow.Author.Tests.{not-true, not-false}
 use lib.ListN.{length, getD, take, drop, take-append-drop}
 use Rattle.wire.specs.laws.Cases.{if-b, else-b, cond-elim}
-use Rattle.entries.specs.Entries.{Entry, bodyLen, Scan, between, within, unknown, opened, eat, scanFrom, scan}
+use Rattle.entries.specs.Entries.{Entry, bodyLen, journalTable, Scan, between, within, unknown, opened, eat, scanFrom, scan}
 use Rattle.entries.specs.laws.Entries.{scan-append}
 use Rattle.entries.specs.laws.Places.{Place, first-place, next-place, scan-end, scan-unknown, scan-cut, entryAt, length-body}
 use Rattle.journal.specs.declared.Way.{Way}
@@ -22,22 +22,27 @@ fine w (between es) = allOk w es
 fine w (within es k b n) = allOk w es
 fine w (unknown es) = false
 
+bad-more : (w : Way) (e : Entry) (es : List Entry) → allOk w es ≡ false → allOk w (e ∷ es) ≡ false
+unfolding allOk
+bad-more w e es h = cond-elim (λ (t : Bool). t ≡ false) (entryOk w e) h refl
+
 bad-opened : (w : Way) (es : List Entry) (k n : ℕ) → allOk w es ≡ false → fine w (opened es k n) ≡ false
 unfolding fine opened
 bad-opened w es k zero h = refl
-bad-opened w es k (suc n) h = h
+bad-opened w es k (suc zero) h = bad-more w (record { kind = k; body = [] }) es h
+bad-opened w es k (suc (suc n)) h = h
 
-bad-eat : (w : Way) (s : Scan) (x : ℕ) → fine w s ≡ false → fine w (eat s x) ≡ false
-unfolding fine eat allOk
-bad-eat w (between es) x h = bad-opened w es x (bodyLen x) h
-bad-eat w (within es k b zero) x h = cond-elim (λ (t : Bool). t ≡ false) (entryOk w (record { kind = k; body = b ++ (x ∷ []) })) h refl
+bad-eat : (w : Way) (s : Scan) (x : ℕ) → fine w s ≡ false → fine w (eat journalTable s x) ≡ false
+unfolding fine eat
+bad-eat w (between es) x h = bad-opened w es x (journalTable x) h
+bad-eat w (within es k b zero) x h = bad-more w (record { kind = k; body = b ++ (x ∷ []) }) es h
 bad-eat w (within es k b (suc n)) x h = h
 bad-eat w (unknown es) x h = refl
 
-bad-from : (w : Way) (s : Scan) (xs : List ℕ) → fine w s ≡ false → fine w (scanFrom s xs) ≡ false
+bad-from : (w : Way) (s : Scan) (xs : List ℕ) → fine w s ≡ false → fine w (scanFrom journalTable s xs) ≡ false
 unfolding scanFrom
 bad-from w s [] h = h
-bad-from w s (x ∷ xs) h = bad-from w (eat s x) xs (bad-eat w s x h)
+bad-from w s (x ∷ xs) h = bad-from w (eat journalTable s x) xs (bad-eat w s x h)
 
 bad-scan : (w : Way) (s : Scan) → fine w s ≡ false → false ≡ scanOk w s
 unfolding fine scanOk
@@ -92,7 +97,7 @@ module _ {w : Way} {j : List ℕ} {at : ℕ} (p : Judged w j at) where
         unfolding fine allOk
         spoilt h = sym (else-b _ _ (sym value ∙ h) refl)
 
-        whole-scan : scan j ≡ scanFrom (scan (take (at + 1 + n) j)) (drop (at + 1 + n) j)
+        whole-scan : scan j ≡ scanFrom journalTable (scan (take (at + 1 + n) j)) (drop (at + 1 + n) j)
         whole-scan = ap scan (sym (take-append-drop (at + 1 + n) j)) ∙ scan-append (take (at + 1 + n) j) (drop (at + 1 + n) j)
 
         pub judged-bad : not x ≡ true → false ≡ entriesOk w j

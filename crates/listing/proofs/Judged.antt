@@ -11,11 +11,11 @@ use Rattle.wire.specs.laws.Wire.{length-pasted}
 use Rattle.wire.specs.laws.Cases.{if-lt, else-lt}
 use Rattle.entries.specs.declared.Reading.{Reading}
 use Rattle.entries.specs.declared.Reading.the-variants.{Whole, Unknown, Cut}
-use Rattle.entries.specs.Entries.{Entry, Scan, between, within, unknown, scan, readingOf}
+use Rattle.entries.specs.Entries.{Entry, Scan, between, within, unknown, scan, entriesOf, readingOf}
 use Rattle.io.specs.Counts.{Counts}
 use Rattle.text.specs.Text.{Sheet, sheet, putAll, joined}
 use Rattle.text.specs.laws.Pieces.{all-fit}
-use Rattle.listing.specs.Listing.{tooLong, whole, damagedAt, listingOf, piecesOf, listing, longest, listed, listedLength, entriesOf}
+use Rattle.listing.specs.Listing.{tooLong, whole, damagedAt, listingOf, piecesOf, listing, longest, listed, listedLength}
 use Rattle.listing.specs.laws.Lengths.{length-listing}
 
 -- ---- what a reading says of the bytes

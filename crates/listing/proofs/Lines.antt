@@ -6,11 +6,11 @@ use native.Mathlib.Numerals.{add-one}
 use native.Mathlib.Nat.{add-sub-cancel-left}
 use native.Mathlib.Omega.{arith}
 use lib.ListN.{length, take, drop, getD}
-use Rattle.entries.specs.Entries.{Entry, bodyLen, Scan, between, scan}
+use Rattle.entries.specs.Entries.{Entry, bodyLen, Scan, between, scan, entriesOf}
 use Rattle.entries.specs.laws.Places.{Place, first-place, scan-end, whole-fits, entryAt, next-place}
 use Rattle.text.specs.Text.{sheet, putAll}
 use Rattle.text.specs.laws.Pieces.{pieces}
-use Rattle.listing.specs.Listing.{line, linesOf, entriesOf}
+use Rattle.listing.specs.Listing.{line, linesOf}
 
 pub record Lined (j : List ℕ) (at : ℕ) (d d′ : List ℕ) (end i : ℕ) : Type 0 where
   pub entries : List Entry

@@ -55,9 +55,3 @@ listed j d = cond (ltb (length d) longest) d (pasted 0 (listing j) d)
 
 unfoldable pub listedLength : List ℕ → List ℕ → ℕ
 listedLength j d = cond (ltb (length d) longest) 0 (length (listing j))
-
--- the entries before the end, or before the damage
-unfoldable pub entriesOf : Scan → List Entry
-entriesOf (between es) = es
-entriesOf (within es k b n) = es
-entriesOf (unknown es) = es

@@ -2,9 +2,9 @@
 use entries::Reading;
 ghost use mathlib.Core.Path.{_≡_};
 ghost use Rattle.io.specs.Counts.{Counts};
-ghost use Rattle.entries.specs.Entries.{between, scan};
+ghost use Rattle.entries.specs.Entries.{between, scan, entriesOf};
 ghost use Rattle.text.specs.Text.{sheet, putAll};
-ghost use Rattle.listing.specs.Listing.{line, linesOf, whole, damagedAt, listed, listedLength, entriesOf};
+ghost use Rattle.listing.specs.Listing.{line, linesOf, whole, damagedAt, listed, listedLength};
 
 // The longest listing is 6,157 bytes: 13 of `journal N`, and at most 3 for each of 2,048 bytes.
 pub const LONGEST: usize = 6157;

@@ -11,5 +11,6 @@ pub mod Marks
 pub mod Later
 pub mod Shifted
 pub mod Lent
+pub mod Replays
 pub mod Examples
 pub mod laws

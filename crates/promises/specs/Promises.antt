@@ -4,7 +4,7 @@ use Prim.Native.Nat.{ℕ, _+_, _≤_, _<_}
 use mathlib.Core.Bool.{true}
 use mathlib.Core.Logic.{_↔_, _⊎_}
 use mathlib.Core.Path.{_≡_, ap, _∙_}
-use mathlib.Core.List.{List, []}
+use mathlib.Core.List.{List, [], _++_}
 use native.Mathlib.Omega.{arith}
 use lib.ListN.{length, getD}
 use Rattle.wire.specs.Wire.{Bytes, pasted}
@@ -12,7 +12,7 @@ use Rattle.record.specs.Record.{freshRecord, workedOf}
 use Rattle.wire.specs.Conditions.{_and_}
 use Rattle.change.specs.Change.{putOf}
 use Rattle.change.specs.declared.Edit.{Edit}
-use Rattle.entries.specs.Entries.{bytesOf}
+use Rattle.entries.specs.Entries.{Entry, bytesOf, entriesOf, readingOf}
 use Rattle.journal.specs.Ways.{other}
 use Rattle.journal.specs.declared.Way.{Way}
 use Rattle.journal.specs.declared.Way.the-variants.{Before, After}
@@ -31,6 +31,11 @@ use Rattle.sbe_call.specs.Sbe.{sbeCall, SbeAllows}
 use Rattle.sbe_call.specs.laws.Came as sbe-came
 use Rattle.undo_call.specs.Undo.{usedOf, moveCall, undoCall, redoCall, UndoAllows, RedoAllows}
 use Rattle.undo_call.specs.laws.Came as undo-came
+use Rattle.trace.specs.Trace.{traceScan}
+use Rattle.playing.specs.declared.Played.{Played}
+use Rattle.playing.specs.Playing.{StepAllows, PlayAllows, imageAfter, linesOf, stopLine, piecesOf}
+use Rattle.playing.specs.Steps.{oldestFirst, imageFrom, linesFrom}
+use Rattle.playing.specs.laws.Steps.{image-by-steps, lines-by-steps}
 use Rattle.promises.specs.Calls.{Call, occ, sbe, redo, said}
 use Rattle.promises.specs.Demand1.{OccAnswer, SbeAnswer, UndoAnswer, RedoAnswer, OccDue, SbeDue, OccStatus, occError, sbeError}
 use Rattle.promises.specs.Demand2.{atFront, NotPoll, successReply, OccSucceeds, OccAccepted, SbeSucceeds, SbeAccepted, Newest, UndoAccepted, RedoAccepted}
@@ -58,6 +63,8 @@ use Rattle.image.specs.Image.{imageLength, imageOf}
 use Rattle.bjargolsk.specs.Calls.{freshOn, FreshReturns, OccReturns, SbeReturns, UndoReturns, RedoReturns}
 use Rattle.promises.specs.laws.Lent.{fresh-image, lent-run, lent-next}
 use Rattle.promises.specs.Lent.{lent, carriedOver, lentRun}
+use Rattle.promises.specs.Replays.{callsIn, wholePart, linesBy}
+use Rattle.promises.specs.laws.Replays.{trace-bytes, replay-run, replay-lines, broken-lines, broken-image}
 use Rattle.promises.specs.Examples.{All, holds, table}
 use Rattle.promises.specs.laws.Examples.{examples}
 
@@ -169,6 +176,12 @@ one-outcome-of-undo-for-c b = one-pair _ _
 
 pub one-outcome-of-redo-for-c : (b : List ℕ) → OneOutcome (λ (o : ℕ × List ℕ). RedoReturns b (o .0) (o .1))
 one-outcome-of-redo-for-c b = one-pair _ _
+
+pub one-outcome-of-step : (b : List ℕ) (number : ℕ) (e d : List ℕ) → OneOutcome (λ (o : ℕ × List ℕ × List ℕ). StepAllows b number e d (o .0) (o .1) (o .2))
+one-outcome-of-step b number e d = one-triple _ _ _
+
+pub one-outcome-of-play : (b t d : List ℕ) → OneOutcome (λ (o : Played × List ℕ × List ℕ). PlayAllows b t d (o .0) (o .1) (o .2))
+one-outcome-of-play b t d = one-triple _ _ _
 
 -- ---- well-formed in, well-formed out, on every session of the type; and what is worked out is the record's
 
@@ -289,6 +302,26 @@ same-on-images b long cs bs = (
   ap (λ (i : List ℕ). lentRun i cs) (fresh-image b long) ∙ lent-run freshRecord cs (start freshSession) bs fresh-start,
   lent-next freshRecord (after cs) (invariant freshRecord cs (start freshSession) bs fresh-start),
 )
+
+-- ---- document 02, a: a trace of bytes, played from a fresh session (Replays.antt)
+
+-- the session at the end is the one that its calls give one by one, so demand 3 holds of it; the lines are those of the calls, and last the stop line
+pub replay-is-its-calls : (t : List ℕ) → Bytes t
+    → (imageAfter (entriesOf (traceScan t)) ≡ imageOf (after (callsIn t) .session)) and (piecesOf t ≡ linesBy (start freshSession) 1 (callsIn t) ++ stopLine (readingOf (traceScan t)))
+replay-is-its-calls t bytes = (replay-run t bytes, replay-lines t bytes)
+
+pub replay-meets-demand-3 : (t : List ℕ) → Bytes t → Demand3 freshRecord (run (start freshSession) (callsIn t))
+replay-meets-demand-3 t bytes = undo-over-any-calls (callsIn t) (trace-bytes t bytes)
+
+-- a broken trace plays exactly as its whole entries do, and then stops
+pub broken-plays-as-whole : (t : List ℕ)
+    → (imageAfter (entriesOf (traceScan t)) ≡ imageAfter (entriesOf (traceScan (wholePart t)))) and (piecesOf t ≡ piecesOf (wholePart t) ++ stopLine (readingOf (traceScan t)))
+broken-plays-as-whole t = (broken-image t, broken-lines t)
+
+-- played entry by entry, each session handed on, a trace of any length gives the same (Steps.antt of `replay`)
+pub steps-are-the-whole : (es : List Entry)
+    → (imageFrom (imageOf freshSession) (oldestFirst es) ≡ imageAfter es) and (linesFrom (imageOf freshSession) 1 (oldestFirst es) ≡ linesOf es)
+steps-are-the-whole es = (image-by-steps es, lines-by-steps es)
 
 -- ---- the ten worked examples of document 01, at the bytes
 

@@ -9,6 +9,7 @@ pub mod Demand3
 pub mod Aside
 pub mod NoTrace
 pub mod Lent
+pub mod Replays
 pub mod Shifted
 pub mod Judgements
 pub mod Heard

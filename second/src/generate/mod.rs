@@ -8,6 +8,7 @@ mod random;
 mod requests;
 mod scene;
 mod spelling;
+pub mod traces;
 
 use crate::image;
 use crate::occ::{self, command_packet};

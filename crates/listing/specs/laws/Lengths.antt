@@ -1,47 +1,19 @@
 -- Laws of the listing: how long each part is, and that no listing is longer than a buffer must be. Assumes nothing.
-use Prim.Native.Nat.{ℕ, zero, suc, _+_, _*_, _≤_}
-use mathlib.Core.Path.{_≡_, refl, ap}
+use Prim.Native.Nat.{ℕ, _+_, _*_, _≤_}
+use mathlib.Core.Path.{_≡_, refl, ap, subst}
 use mathlib.Core.List.{List, [], _∷_, _++_}
 use native.Mathlib.Omega.{arith}
 use lib.Dec.{ltb, lit≤}
 use lib.ListN.{length, length-append}
 use borrow.Author.Tests.{ltb-false}
 use Rattle.wire.specs.laws.Cases.{cond-cases}
-use Rattle.entries.specs.Entries.{Entry, bodyLen, Scan, between, within, unknown, opened, eat, scanFrom, scan, written}
+use Rattle.entries.specs.Entries.{Entry, journalTable, Scan, between, within, unknown, scan, entriesOf, written}
+use Rattle.entries.specs.laws.ByTable.{whole-length}
 use Rattle.entries.specs.laws.Entries.{Proper, scan-written, scan-proper, length-written, count-written}
 use Rattle.text.specs.Text.{lineEnd, hexOf, hexes, decimal, joined}
 use Rattle.text.specs.laws.Decimal.{length-decimal}
 use Rattle.text.specs.laws.Pieces.{joined-append, length-hexes}
 use Rattle.listing.specs.Listing.{line, linesOf, whole, damagedAt, listingOf, piecesOf, listing, longest}
-
--- ---- the bytes of the entries that were read, and of the one that is being read
-
-abbrev held : Scan → ℕ
-held (between es) = length (written es)
-held (within es k b n) = length (written es) + suc (length b)
-held (unknown es) = length (written es)
-
-held-opened : (es : List Entry) (k n : ℕ) → held (opened es k n) ≤ suc (length (written es))
-unfolding opened
-held-opened es k zero = omega arith
-held-opened es k (suc n) = omega arith
-
-held-eat : (s : Scan) (x : ℕ) → held (eat s x) ≤ suc (held s)
-unfolding eat
-held-eat (between es) x = held-opened es x (bodyLen x)
-held-eat (within es k b zero) x =
-    omega (arith, length-written (record { kind = k; body = b ++ (x ∷ []) }) es, length-append b (x ∷ []))
-held-eat (within es k b (suc n)) x = omega (arith, length-append b (x ∷ []))
-held-eat (unknown es) x = omega arith
-
-held-from : (s : Scan) (xs : List ℕ) → held (scanFrom s xs) ≤ held s + length xs
-unfolding scanFrom
-held-from s [] = omega arith
-held-from s (x ∷ xs) = omega (arith, held-from (eat s x) xs, held-eat s x)
-
-held-scan : (j : List ℕ) → held (scan j) ≤ length j
-unfolding scan written
-held-scan j = omega (arith, held-from (between []) j)
 
 -- ---- lengths
 
@@ -73,8 +45,11 @@ length-damaged : (n : ℕ) → n ≤ 2048 → length (joined (damagedAt n)) ≤ 
 unfolding damagedAt joined
 length-damaged n h = omega (arith, length-append (decimal n) lineEnd, length-number n h)
 
+damage-fits : (j : List ℕ) (s : Scan) → scan j ≡ s → length (written (entriesOf s)) ≤ length j
+damage-fits j s e = subst (λ (x : Scan). length (written (entriesOf x)) ≤ length j) e (whole-length journalTable j)
+
 length-listingOf : (j : List ℕ) (s : Scan) → length j ≤ 2048 → scan j ≡ s → length (joined (listingOf s)) ≤ longest
-unfolding listingOf whole joined
+unfolding listingOf whole joined entriesOf
 length-listingOf j (between es) h e =
     omega (
       arith,
@@ -83,8 +58,8 @@ length-listingOf j (between es) h e =
       length-lines es (scan-proper j es e),
       ap length (scan-written j es e),
     )
-length-listingOf j (within es k b n) h e = length-damaged (length (written es)) (omega (arith, held-scan j, ap held e))
-length-listingOf j (unknown es) h e = length-damaged (length (written es)) (omega (arith, held-scan j, ap held e))
+length-listingOf j (within es k b n) h e = length-damaged (length (written es)) (omega (arith, damage-fits j (within es k b n) e))
+length-listingOf j (unknown es) h e = length-damaged (length (written es)) (omega (arith, damage-fits j (unknown es) e))
 
 -- no listing is longer than a buffer must be
 pub length-listing : (j : List ℕ) → length (listing j) ≤ longest

@@ -11,7 +11,7 @@ use Rattle.wire.specs.Wire.{allAre, pasted}
 use Rattle.wire.specs.laws.Wire.{all-replicate}
 use Rattle.wire.specs.laws.Cases.{if-b, else-lt}
 use Rattle.change.specs.declared.Edit.{Edit}
-use Rattle.entries.specs.Entries.{Entry, written, Scan, between, within, unknown, scanFrom, scan, newestAt}
+use Rattle.entries.specs.Entries.{Entry, written, Scan, between, within, unknown, scanFrom, scanBy, scan, newestAt}
 use Rattle.entries.specs.laws.Entries.{scan-written, scan-older, take-newest, length-written}
 use Rattle.journal.specs.Bytes.{entryFor, entryBytes}
 use Rattle.journal.specs.Read.{entryOk, allOk, scanOk, entriesOk}
@@ -59,7 +59,7 @@ all-parts w x es h = go (entryOk w x) refl h
 -- ---- nothing in it
 
 pub none-used : (w : Way) (n : ℕ) → Store w (replicate n 0) 0
-unfolding entriesOk scanOk scan scanFrom allOk
+unfolding entriesOk scanOk scanBy scanFrom allOk
 none-used w n = record { fits = omega arith; reads = refl; unused = all-replicate 0 n }
 
 -- ---- one entry more

@@ -50,15 +50,15 @@ module _ (s : Session) (t : Typed s) where
   back : sessionOf b ≡ s
   back = session-image s t
 
-  occ-on : (sender : ℕ) (c d : List ℕ) → occs.occOn b sender c d ≡ occs.occLeft (occs.occCall s sender c d) (occs.occWhy s sender c d)
+  pub occ-on : (sender : ℕ) (c d : List ℕ) → occs.occOn b sender c d ≡ occs.occLeft (occs.occCall s sender c d) (occs.occWhy s sender c d)
   unfolding occs.occOn
   occ-on sender c d = sym (else-ne _ _ long refl) ∙ ap (λ (x : Session). occs.occLeft (occs.occCall x sender c d) (occs.occWhy x sender c d)) back
 
-  sbe-on : (r d : List ℕ) → sbes.sbeOn b r d ≡ sbes.sbeLeft (sbes.sbeCall s r d)
+  pub sbe-on : (r d : List ℕ) → sbes.sbeOn b r d ≡ sbes.sbeLeft (sbes.sbeCall s r d)
   unfolding sbes.sbeOn
   sbe-on r d = sym (else-ne _ _ long refl) ∙ ap (λ (x : Session). sbes.sbeLeft (sbes.sbeCall x r d)) back
 
-  move-on : (w : Way) → moveOn w b ≡ movedLeft (moveCall w s)
+  pub move-on : (w : Way) → moveOn w b ≡ movedLeft (moveCall w s)
   unfolding moveOn
   move-on w = sym (else-ne _ _ long refl) ∙ ap (λ (x : Session). movedLeft (moveCall w x)) back
 
@@ -99,7 +99,7 @@ module _ (base : Record) where
         limit = limit-fits (r .role) (r .received .caps) (r .user) (r .caps) (g .typed .caps) (g .typed .user);
       }
 
-  run-typed : (p : Run) → Inv base p → Typed (p .session)
+  pub run-typed : (p : Run) → Inv base p → Typed (p .session)
   run-typed p v = subst Typed (sym (v .is)) (history-typed (left (p .marks)) (logsMade (p .marks)) (ahead base p) (v .sane))
 
   pub lent-run : (cs : List Call) (p : Run) → AllOfBytes cs → Inv base p → lentRun (imageOf (p .session)) cs ≡ imageOf (run p cs .session)

@@ -10,7 +10,7 @@ use Rattle.wire.specs.Wire.{allAre, pasted}
 use Rattle.wire.specs.laws.Wire.{all-replicate}
 use Rattle.wire.specs.laws.Cases.{if-b, else-lt}
 use Rattle.change.specs.declared.Edit.{Edit}
-use Rattle.entries.specs.Entries.{Entry, bytesOf, written, between, scanFrom, scan, newestAt, readingOf}
+use Rattle.entries.specs.Entries.{Entry, bytesOf, written, between, scanFrom, scanBy, scan, newestAt, readingOf}
 use Rattle.entries.specs.declared.Reading.the-variants.{Whole}
 use Rattle.entries.specs.laws.Entries.{read-append}
 use Rattle.journal.specs.Bytes.{entryFor, entryBytes}
@@ -92,7 +92,7 @@ pile [] = []
 pile (b ∷ bs) = entryFor b ∷ pile bs
 
 pub pile-reads : (w : Way) (bs : List Edit) → AllStored w bs → scan (flat bs) ≡ between (pile bs)
-unfolding flat pile scan scanFrom entryBytes entryFor
+unfolding flat pile scanBy scanFrom entryBytes entryFor
 pile-reads w [] a = refl
 pile-reads w (b ∷ bs) a =
     let s = length-body w (b .tables) (b .change) (a .0 .writable) in

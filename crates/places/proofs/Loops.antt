@@ -1,21 +1,15 @@
 -- The sets one after the other: where they stand, and what each turn of the two loops shows. Assumes nothing.
-use Prim.Native.Nat.{ℕ, zero, suc, _+_, _*_, _<_, _≤_}
-use mathlib.Core.Bool.{Bool, true, false, cond}
-use mathlib.Core.Path.{_≡_, refl, sym, ap, _∙_}
+use Prim.Native.Nat.{ℕ, _+_, _*_, _<_, _≤_}
+use mathlib.Core.Bool.{cond}
+use mathlib.Core.Path.{_≡_}
 use mathlib.Core.List.{List}
-use native.Mathlib.Nat.{not-suc-le-zero}
-use native.Mathlib.Numerals.{add-one}
 use native.Mathlib.Omega.{arith}
-use borrow.Author.Tests.{leb-true, leb-false}
-use lib.Dec.{ltb, leb}
+use lib.Dec.{ltb}
 use lib.ListN.{getD}
-use Rattle.places.specs.declared.Fault.{Fault}
-use Rattle.places.specs.declared.Found.{Found}
-use Rattle.places.specs.declared.Found.the-variants.{Nothing, Wrong}
 use Rattle.places.specs.declared.Table.{Table}
 use Rattle.places.specs.declared.Table.the-variants.{Throttles, Thermal}
 use Rattle.places.specs.declared.Reason.the-variants.{OutOfRange, Repeated}
-use Rattle.places.specs.Places.{wrong, widthOf, mostOf, startOf, anyBelow, seenBefore, restFault, setFault, orElse, firstBelow}
+use Rattle.places.specs.Places.{wrong, widthOf, mostOf, startOf, seenBefore, restFault, setFault}
 
 -- ---- where sets stand
 

@@ -14,7 +14,6 @@ use Rattle.formed.specs.Formed.{inOrder}
 use Rattle.occ.specs.Commands.{userAllowed}
 use Rattle.places.specs.declared.Reason.{Reason}
 use Rattle.places.specs.declared.Reason.the-variants.{BadVersion, BadCount, OutOfRange, Repeated, Clash, NotPending}
-use Rattle.places.specs.declared.Fault.{Fault}
 use Rattle.places.specs.declared.Found.{Found}
 use Rattle.places.specs.declared.Found.the-variants.{Nothing, Wrong}
 use Rattle.places.specs.declared.Table.{Table}

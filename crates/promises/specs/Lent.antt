@@ -8,7 +8,7 @@ use Rattle.occ_call.specs.Occ.{occOn, occWhy, besideOf}
 use Rattle.sbe_call.specs.Sbe.{sbeOn}
 use Rattle.undo_call.specs.Undo.{undoOn, redoOn}
 use Rattle.bjargolsk.specs.Calls.{packed}
-use Rattle.promises.specs.Calls.{Call, occ, sbe, undo, redo, Said}
+use Rattle.promises.specs.Calls.{Call, occ, sbe, undo, redo, said}
 
 pub record Lent : Type 0 where
   pub result : ℕ
@@ -22,15 +22,15 @@ lent b (sbe r d) = record { result = packed (sbeOn b r d .told); image = sbeOn b
 lent b undo = record { result = packed (undoOn b .told); image = undoOn b .image; reply = undoOn b .reply }
 lent b redo = record { result = packed (redoOn b .told); image = redoOn b .image; reply = redoOn b .reply }
 
--- the same of a call on a session: beside the answer the byte that is wrong and why, a doorbell or a kind; the session as its image
-unfoldable pub toldFor : Session → Call → Said → Told
-toldFor s (occ sender c d) x = besideOf (x .answer) (occWhy s sender c d)
-toldFor s (sbe r d) x = record { answer = x .answer; small = 0; beside = x .bell }
-toldFor s undo x = record { answer = x .answer; small = 0; beside = x .kind }
-toldFor s redo x = record { answer = x .answer; small = 0; beside = x .kind }
+-- the same of a call on a session: the answer lowest, above it reason and byte, doorbell or kind; the session as its image
+unfoldable pub told : Session → Call → Told
+told s (occ sender c d) = besideOf (said s (occ sender c d) .answer) (occWhy s sender c d)
+told s (sbe r d) = record { answer = said s (sbe r d) .answer; small = 0; beside = said s (sbe r d) .bell }
+told s undo = record { answer = said s undo .answer; small = 0; beside = said s undo .kind }
+told s redo = record { answer = said s redo .answer; small = 0; beside = said s redo .kind }
 
-unfoldable pub carriedOver : Session → Call → Said → Lent
-carriedOver s c x = record { result = packed (toldFor s c x); image = imageOf (x .session); reply = x .reply }
+unfoldable pub carriedOver : Session → Call → Lent
+carriedOver s c = record { result = packed (told s c); image = imageOf (said s c .session); reply = said s c .reply }
 
 unfoldable pub lentRun : List ℕ → List Call → List ℕ
 lentRun b [] = b

@@ -22,7 +22,10 @@ use Rattle.sbe.specs.Statuses.{Status, RequestStatus}
 use Rattle.session.specs.Session.{freshSession, wellFormed, madeOf}
 use Rattle.session.specs.declared.Session.{Session}
 use Rattle.inplace.specs.declared.Told.{Told}
-use Rattle.occ_call.specs.Occ.{occCall, OccAllows}
+use Rattle.places.specs.Faults.{CommandFaults, NotAfter}
+use Rattle.places.specs.declared.Fault.{Fault}
+use Rattle.places.specs.declared.Found.the-variants.{Wrong}
+use Rattle.occ_call.specs.Occ.{occCall, occWhy, OccAllows}
 use Rattle.occ_call.specs.laws.Came as occ-came
 use Rattle.sbe_call.specs.Sbe.{sbeCall, SbeAllows}
 use Rattle.sbe_call.specs.laws.Came as sbe-came
@@ -38,6 +41,7 @@ use Rattle.promises.specs.Demand1.{OccAnswer, SbeAnswer, UndoAnswer, Red
 use Rattle.promises.specs.Demand2.{atFront, NotPoll, successReply, OccSucceeds, OccAccepted, SbeSucceeds, SbeAccepted, Newest, UndoAccepted, RedoAccepted}
 use Rattle.promises.specs.Effects.{OccEffect, SbeEffect, entryBack, UndoEffect, RedoEffect}
 use Rattle.promises.specs.laws.OccDemands.{occ-answers, occ-statuses, occ-reply, occ-accepted}
+use Rattle.promises.specs.laws.Why.{byte-told, byte-least}
 use Rattle.promises.specs.laws.SbeDemands.{sbe-answers, sbe-statuses, sbe-reply, sbe-accepted}
 use Rattle.promises.specs.laws.UndoDemands.{undo-answers, redo-answers, undo-accepted, redo-accepted}
 use Rattle.promises.specs.laws.Moves.{move-effect, room-left}
@@ -90,6 +94,16 @@ status-of-occ = occ-statuses
 pub status-of-sbe : (s : Session) → TypedSession s → (r d : List ℕ) → SbeDue s r d → (p q : ℕ) → p < 65536 → q < 65536
     → (sbeCall s r d ≡ sbeError s r d (p, q)) ↔ RequestStatus r (p, q)
 status-of-sbe = sbe-statuses
+
+-- document 02, c: a data byte is told exactly where the status is 0x13; it is wrong, and no other that is wrong comes before it, by number
+-- and then by reason. All that can be wrong: places/specs/Faults.antt
+pub wrong-byte-exactly-when : (s : Session) → TypedSession s → (sender : ℕ) (c d : List ℕ)
+    → ((x : Fault) × (occWhy s sender c d ≡ Wrong x)) ↔ (OccDue s sender c d and (occCall s sender c d ≡ occError s c d 0x13))
+wrong-byte-exactly-when = byte-told
+
+pub wrong-byte-is-the-least : (s : Session) → TypedSession s → (sender : ℕ) (c d : List ℕ) (x : Fault) → occWhy s sender c d ≡ Wrong x
+    → CommandFaults (s .held) (getD c 1 0) (dataOf c) x and ((y : Fault) → CommandFaults (s .held) (getD c 1 0) (dataOf c) y → NotAfter x y)
+wrong-byte-is-the-least = byte-least
 
 -- answer 0: a reply, good or error, is written, and stands at the front of the buffer
 pub reply-of-occ : (s : Session) → TypedSession s → (sender : ℕ) (c d : List ℕ) → occCall s sender c d .outcome .answer ≡ 0
@@ -282,7 +296,7 @@ no-id-twice cs b = ids-in-order freshRecord cs (start freshSession) b fresh-star
 -- ---- the same for C: an image made fresh, and any calls on it; it stays the image of the session, and each call's result and reply are the session's
 
 pub same-on-images : (b : List ℕ) → length b ≡ imageLength → (cs : List Call) → AllOfBytes cs
-    → (lentRun (freshOn b .image) cs ≡ imageOf (after cs .session)) × ((c : Call) → lent (imageOf (after cs .session)) c ≡ carriedOver (after cs .session) c (said (after cs .session) c))
+    → (lentRun (freshOn b .image) cs ≡ imageOf (after cs .session)) × ((c : Call) → lent (imageOf (after cs .session)) c ≡ carriedOver (after cs .session) c)
 unfolding start
 same-on-images b long cs bs = (
   ap (λ (i : List ℕ). lentRun i cs) (fresh-image b long) ∙ lent-run freshRecord cs (start freshSession) bs fresh-start,

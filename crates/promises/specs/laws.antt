@@ -28,6 +28,7 @@ pub mod FormedStores
 pub mod Room
 pub mod Replies
 pub mod OccDemands
+pub mod Why
 pub mod SbeDemands
 pub mod UndoDemands
 pub mod Moves

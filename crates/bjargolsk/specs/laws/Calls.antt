@@ -16,8 +16,10 @@ use Rattle.session.specs.declared.Session.{Session}
 use Rattle.image.specs.Image.{imageLength, imageOf, sessionOf}
 use Rattle.image.specs.laws.Image.{image-session}
 use Rattle.inplace.specs.InPlace.{Left}
+use Rattle.inplace.specs.declared.Told.{Told}
 use Rattle.occ_call.specs.Occ.{occLeft, occOn}
 use Rattle.occ_call.specs.laws.Came as occ
+use Rattle.occ_call.specs.laws.Why.{answer-beside}
 use Rattle.sbe_call.specs.Sbe.{sbeLeft, sbeOn}
 use Rattle.sbe_call.specs.laws.Came as sbe
 use Rattle.undo_call.specs.Undo.{movedLeft, moveOn, undoOn, redoOn}
@@ -25,11 +27,11 @@ use Rattle.undo_call.specs.laws.Came as undo
 use Rattle.bjargolsk.specs.Calls.{packed, answerIn}
 
 -- a call that answered 0 has answer 0 in its result
-answered-zero : (n m high : ℕ) → n ≡ 0 → answerIn (packed (record { answer = n; small = m; beside = high })) ≡ 0
+answered-zero : (t : Told) → t .answer ≡ 0 → answerIn (packed t) ≡ 0
 unfolding answerIn packed
-answered-zero n m high e =
-    let above : high * 65536 + m * 256 + n ≡ (high * 256 + m) * 256 + 0 = omega (arith, e) in
-    ap (λ (k : ℕ). k % 256) above ∙ digits-mod (high * 256 + m) (lit< tt)
+answered-zero t e =
+    let above : t .beside * 65536 + t .small * 256 + t .answer ≡ (t .beside * 256 + t .small) * 256 + 0 = omega (arith, e) in
+    ap (λ (k : ℕ). k % 256) above ∙ digits-mod (t .beside * 256 + t .small) (lit< tt)
 
 module _ (b : List ℕ) (bytes : Bytes b) where
   -- the image of the session that was read is the bytes that it was read from
@@ -44,7 +46,7 @@ module _ (b : List ℕ) (bytes : Bytes b) where
   occ-refused sender c d =
       cond-cases (λ (q : Left). Kept q d) (not (eqb (length b) imageLength)) (λ e h. (refl, refl))
       (λ e h.
-      let k = occ.refusal-keeps (sessionOf b) sender c d _ (occ.came (sessionOf b) sender c d) (λ z. h (answered-zero _ _ _ z)) in
+      let k = occ.refusal-keeps (sessionOf b) sender c d _ (occ.came (sessionOf b) sender c d) (λ z. h (answered-zero _ (answer-beside _ _ ∙ z))) in
       (same-image _ (eqb-true (length b) imageLength (not-false _ e)) (k .0), k .1))
 
   pub sbe-refused : (r d : List ℕ) → Kept (sbeOn b r d) d
@@ -52,7 +54,7 @@ module _ (b : List ℕ) (bytes : Bytes b) where
   sbe-refused r d =
       cond-cases (λ (q : Left). Kept q d) (not (eqb (length b) imageLength)) (λ e h. (refl, refl))
       (λ e h.
-      let k = sbe.refusal-keeps (sessionOf b) r d _ (sbe.came (sessionOf b) r d) (λ z. h (answered-zero _ _ _ z)) in
+      let k = sbe.refusal-keeps (sessionOf b) r d _ (sbe.came (sessionOf b) r d) (λ z. h (answered-zero _ z)) in
       (same-image _ (eqb-true (length b) imageLength (not-false _ e)) (k .0), k .1))
 
   move-refused : (w : Way) → Kept (moveOn w b) []
@@ -60,7 +62,7 @@ module _ (b : List ℕ) (bytes : Bytes b) where
   move-refused w =
       cond-cases (λ (q : Left). Kept q []) (not (eqb (length b) imageLength)) (λ e h. (refl, refl))
       (λ e h.
-      let k = undo.refusal-keeps w (sessionOf b) _ (undo.came w (sessionOf b)) (λ z. h (answered-zero _ _ _ z)) in
+      let k = undo.refusal-keeps w (sessionOf b) _ (undo.came w (sessionOf b)) (λ z. h (answered-zero _ z)) in
       (same-image _ (eqb-true (length b) imageLength (not-false _ e)) (k .0), refl))
 
   pub undo-refused : Kept (undoOn b) []

@@ -1,5 +1,5 @@
-use Rattle.wire.specs.laws.Cases.{if-ne, else-ne, if-lt, else-lt, if-not, else-not}
-use mathlib.Core.Path.{_≡_, refl, sym, ap, _∙_}
+use Rattle.wire.specs.laws.Cases.{if-ne, else-ne, if-lt, else-lt}
+use mathlib.Core.Path.{refl, _∙_}
 use mathlib.Core.Bool.{cond}
 use lib.Dec.{ltb}
 use Rattle.places.specs.declared.Reason.the-variants.{Clash}

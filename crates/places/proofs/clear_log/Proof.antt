@@ -1,5 +1,5 @@
-use Rattle.wire.specs.laws.Cases.{if-ne, else-ne, if-lt, else-lt, if-le, else-le, if-b, else-b, if-not, else-not, if-eq, else-eq}
-use mathlib.Core.Path.{refl, sym, ap, _∙_}
+use Rattle.wire.specs.laws.Cases.{if-ne, else-ne, if-le, else-le}
+use mathlib.Core.Path.{refl, ap, _∙_}
 use Prim.Native.Nat.{ℕ}
 use mathlib.Core.Bool.{cond}
 use lib.Dec.{leb}

@@ -1,8 +1,8 @@
-use mathlib.Core.Path.{_≡_, refl, sym, ap, _∙_}
-use Prim.Native.Nat.{ℕ, _-_, _≤_, _<_}
+use mathlib.Core.Path.{_≡_, sym, ap, _∙_}
+use Prim.Native.Nat.{_-_, _≤_}
 use native.Mathlib.Omega.{arith}
 use Rattle.places.specs.declared.Found.the-variants.{Nothing}
-use Rattle.places.specs.Places.{widthOf, startOf, setFault, firstBelow, firstSet}
+use Rattle.places.specs.Places.{setFault, firstBelow, firstSet}
 use Rattle.places.specs.laws.Below.{first-none, first-more, first-found}
 use Rattle.places.proofs.Loops.{starts-apart}
 use Rattle.places.proofs.first_set.Statement.{statement}

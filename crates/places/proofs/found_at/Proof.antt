@@ -1,4 +1,4 @@
-use mathlib.Core.Path.{refl, sym, ap, _∙_}
+use mathlib.Core.Path.{refl}
 use Rattle.places.specs.Places.{wrong}
 use borrow.Author.Needs.{needs}
 use Rattle.places.proofs.found_at.Statement.{statement}

@@ -1,5 +1,4 @@
 use mathlib.Core.Path.{sym, ap}
-use Prim.Native.Nat.{ℕ}
 use Rattle.places.specs.declared.Reason.{Reason}
 use Rattle.places.specs.Reasons.{named}
 use borrow.Author.Needs.{needs}

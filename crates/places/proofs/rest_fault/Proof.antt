@@ -1,9 +1,8 @@
-use Rattle.wire.specs.laws.Cases.{if-ne, else-ne, if-lt, else-lt, if-not, else-not}
-use mathlib.Core.Path.{_≡_, refl, sym, ap, _∙_}
-use Prim.Native.Nat.{ℕ}
+use Rattle.wire.specs.laws.Cases.{if-lt, else-lt, if-not, else-not}
+use mathlib.Core.Path.{refl, sym, ap, _∙_}
 use native.Mathlib.Omega.{arith}
 use Rattle.places.specs.declared.Table.{Table}
-use Rattle.places.specs.Places.{widthOf, restFault}
+use Rattle.places.specs.Places.{restFault}
 use Rattle.places.proofs.Loops.{width-bounds}
 use borrow.Author.Needs.{needs}
 use Rattle.places.proofs.rest_fault.Statement.{statement}

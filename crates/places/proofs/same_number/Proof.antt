@@ -1,5 +1,5 @@
-use Rattle.wire.specs.laws.Cases.{if-ne, else-ne, if-lt, else-lt, if-not, else-not}
-use mathlib.Core.Path.{_≡_, refl, sym, ap, _∙_}
+use Rattle.wire.specs.laws.Cases.{if-ne, else-ne}
+use mathlib.Core.Path.{refl, sym, ap}
 use Rattle.places.specs.declared.Table.{Table}
 use Rattle.places.specs.Places.{sameSecond, sameNumber}
 use borrow.Author.Needs.{needs}

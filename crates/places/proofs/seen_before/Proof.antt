@@ -1,8 +1,8 @@
-use mathlib.Core.Path.{_≡_, refl, sym, ap, _∙_}
+use mathlib.Core.Path.{_≡_, sym, ap, _∙_}
 use Prim.Native.Nat.{ℕ, _-_, _≤_}
 use mathlib.Core.Bool.{false}
 use native.Mathlib.Omega.{arith}
-use Rattle.places.specs.Places.{widthOf, startOf, sameNumber, anyBelow, seenBefore}
+use Rattle.places.specs.Places.{startOf, sameNumber, anyBelow, seenBefore}
 use Rattle.places.specs.laws.Below.{any-none, any-more, any-exactly}
 use Rattle.places.proofs.Loops.{width-bounds, starts-apart}
 use Rattle.places.proofs.seen_before.Statement.{statement}

@@ -1,13 +1,10 @@
-use mathlib.Core.Path.{_≡_, refl, sym, ap, _∙_}
+use mathlib.Core.Path.{sym, _∙_}
 use Rattle.wire.specs.laws.Cases.{if-b, else-b, if-lt, else-lt}
-use Prim.Native.Nat.{ℕ, _+_}
+use Prim.Native.Nat.{_+_}
 use mathlib.Core.Bool.{cond}
 use native.Mathlib.Omega.{arith}
-use lib.ListN.{getD}
-use lib.Dec.{ltb}
-use Rattle.places.specs.declared.Found.{Found}
 use Rattle.places.specs.declared.Reason.the-variants.{OutOfRange, Repeated}
-use Rattle.places.specs.Places.{widthOf, startOf, mostOf, wrong, seenBefore, restFault, setFault}
+use Rattle.places.specs.Places.{wrong, seenBefore, restFault, setFault}
 use Rattle.places.proofs.Loops.{width-bounds, start-small, at-start}
 use borrow.Author.Needs.{needs}
 use Rattle.places.proofs.set_fault.Statement.{statement}

@@ -1,9 +1,9 @@
 use mathlib.Core.Path.{refl, sym, ap, _∙_}
 use Rattle.wire.specs.laws.Cases.{if-lt, else-lt, if-ne, else-ne, if-eq, else-eq}
-use Prim.Native.Nat.{ℕ, _-_, _*_, _<_}
+use Prim.Native.Nat.{ℕ, _-_, _*_}
 use native.Mathlib.Omega.{arith}
-use lib.ListN.{length, getD}
-use Rattle.places.specs.Places.{widthOf, setsFault, countFault}
+use lib.ListN.{getD}
+use Rattle.places.specs.Places.{setsFault, countFault}
 use Rattle.places.proofs.Loops.{start-small}
 use borrow.Author.Needs.{needs}
 use Rattle.places.proofs.sets_format.Statement.{statement}

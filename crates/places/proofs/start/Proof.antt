@@ -1,7 +1,6 @@
 use Prim.Native.Nat.{ℕ, _+_, _*_}
 use mathlib.Core.Path.{ap}
 use native.Mathlib.Omega.{arith}
-use Rattle.places.specs.Places.{widthOf}
 use Rattle.places.proofs.Loops.{start-small}
 use borrow.Author.Needs.{needs}
 use Rattle.places.proofs.start.Statement.{statement}

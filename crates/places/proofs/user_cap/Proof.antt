@@ -1,5 +1,5 @@
-use Rattle.wire.specs.laws.Cases.{if-ne, else-ne, if-lt, else-lt, if-not, else-not}
-use mathlib.Core.Path.{_≡_, refl, sym, ap, _∙_}
+use Rattle.wire.specs.laws.Cases.{if-ne, else-ne, if-not, else-not}
+use mathlib.Core.Path.{refl, ap, _∙_}
 use Prim.Native.Nat.{ℕ}
 use mathlib.Core.Bool.{cond, not}
 use Rattle.occ.specs.Commands.{userAllowed}

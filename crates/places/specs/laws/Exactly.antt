@@ -6,11 +6,9 @@ use mathlib.Core.List.{List}
 use mathlib.Core.Logic.{_↔_, inl, inr, ⊎-elim}
 use native.Mathlib.Nat.{lt-of-not-le}
 use native.Mathlib.Omega.{arith}
-use borrow.Author.Tests.{not-true, not-false}
 use lib.Dec.{ltb, leb, eqb}
 use lib.ListN.{length, getD, take, drop}
 use lib.Seq.{getD-take, getD-drop}
-use Rattle.wire.specs.Conditions.{_and_}
 use Rattle.wire.specs.Wire.{beNat}
 use Rattle.record.specs.declared.Caps.{Caps}
 use Rattle.record.specs.declared.Log.{Log}
@@ -22,7 +20,7 @@ use Rattle.change.specs.declared.Tables.{Tables}
 use Rattle.formed.specs.Formed.{inOrder}
 use Rattle.formed.specs.laws.Thresholds.{out-of-order}
 use Rattle.sets.specs.Sets.{emptySets, setsOf, emptyFrus, frusOf}
-use Rattle.sets.specs.Conditions.{setAt, InPairs, pairOf, InFrus, fruOf, SetsOk, FrusOk}
+use Rattle.sets.specs.Conditions.{setAt, InPairs, InFrus, SetsOk, FrusOk}
 use Rattle.sets.specs.laws.Exactly.{sets-exactly, frus-exactly}
 use Rattle.occ.specs.declared.Verdict.{Verdict}
 use Rattle.occ.specs.declared.Verdict.the-variants.{Refuse, Poll, Make}
@@ -35,7 +33,7 @@ use Rattle.places.specs.declared.Fault.{Fault}
 use Rattle.places.specs.declared.Found.{Found}
 use Rattle.places.specs.declared.Found.the-variants.{Nothing, Wrong}
 use Rattle.places.specs.declared.Table.the-variants.{Throttles, Thermal}
-use Rattle.places.specs.Places.{wrong, pollFault, clearFault, stateFault, roleFault, capsFault, userFault, resetFault, widthOf, setFault, firstSet, countFault, setsFault, formatFault, configureFault, faultOf}
+use Rattle.places.specs.Places.{wrong, pollFault, clearFault, stateFault, roleFault, capsFault, userFault, resetFault, widthOf, firstSet, countFault, setsFault, formatFault, configureFault, faultOf}
 use Rattle.places.specs.Faults.{Faults, ThrottleFaults, ThermalFaults, eachOf, Least, no-fault, least}
 use Rattle.places.specs.laws.Least.{throttles-least, thermals-least}
 
@@ -45,11 +43,11 @@ pub record Alike (v : Verdict) (found : Found) : Type 0 where
   pub exactly : (v ≡ Refuse 0x13) ↔ ((x : Fault) × (found ≡ Wrong x))
 
 -- whether a fault is found, and the status where one refuses
-isWrong : Found → ℕ
+abbrev pub isWrong : Found → ℕ
 isWrong Nothing = 0
 isWrong (Wrong x) = 1
 
-statusOf : Verdict → ℕ
+abbrev pub statusOf : Verdict → ℕ
 statusOf (Refuse n) = n
 statusOf Poll = 0
 statusOf (Make ch) = 0
@@ -59,19 +57,15 @@ unfolding wrong
 wrongs reason at = record { exactly = (λ e. (record { reason = reason; at = at }, refl), λ e. refl) }
 
 other : (v : Verdict) → (statusOf v ≡ 0x13 → ⊥) → Alike v Nothing
-unfolding statusOf isWrong
 other v n = record { exactly = (λ e. absurd (n (ap statusOf e)), λ e. let z : _≡_ {A = ℕ} 0 1 = ap isWrong (e .1) in absurd (omega arith)) }
 
 short : Alike (Refuse 0x12) Nothing
-unfolding statusOf
 short = other (Refuse 0x12) (λ e. omega (arith, e))
 
 state : Alike (Refuse 0x16) Nothing
-unfolding statusOf
 state = other (Refuse 0x16) (λ e. omega (arith, e))
 
 made : (ch : Change) → Alike (Make ch) Nothing
-unfolding statusOf
 made ch = other (Make ch) (λ e. omega (arith, e))
 
 -- a test that both make, and one that the judge of statuses alone makes
@@ -90,7 +84,7 @@ sized : (d : List ℕ) (n : ℕ) {v : Verdict} {a : Found} → Alike v a → Ali
 sized d n p = both (not (eqb (length d) n)) short p
 
 poll-alike : (d : List ℕ) → Alike (pollVerdict d) (pollFault d)
-unfolding pollVerdict pollFault statusOf
+unfolding pollVerdict pollFault
 poll-alike d = sized d 1 (both (not (eqb (getD d 0 0) 0x10)) (wrongs BadVersion 1) (other Poll (λ e. omega (arith, e))))
 
 clear-alike : (logs : List Log) (d : List ℕ) → Alike (clearVerdict logs d) (clearFault logs d)
@@ -132,7 +126,7 @@ user-alike role got caps d = sized d 2 (both (not (userAllowed got caps (beNat (
 
 -- a log that isn't due or has no room
 log-alike : (role : ℕ) (logs : List Log) (next reason : ℕ) → Alike (resetFor role logs next reason) Nothing
-unfolding resetFor statusOf
+unfolding resetFor
 log-alike role logs next reason =
     let full = other (Refuse 0x15) (λ e. omega (arith, e)) in
     alone (not (logDue role reason)) (made _) (alone (leb 4 (pendingOf logs)) full (alone (leb 256 next) full (made _)))
@@ -228,7 +222,6 @@ module _ (d : List ℕ) where
 
 -- nothing is found exactly where there is nothing to find
 none-found : {F : Faults} {found : Found} → Least F found → (found ≡ Nothing) ↔ ((x : Fault) → F x → ⊥)
-unfolding isWrong
 none-found (no-fault h) = (λ e. h, λ e. refl)
 none-found (least x h low) = (λ e. let z : _≡_ {A = ℕ} 1 0 = ap isWrong e in absurd (omega arith), λ k. absurd (k x h))
 
@@ -255,7 +248,6 @@ plain p = record { alike = p }
 -- the sets were read, or one of them was wrong
 read-alike : (ok : Bool) (found : Found) → (ok ≡ true) ↔ (found ≡ Nothing) → (ch : Change) (t : Tables)
     → Judges (cond (not ok) (plainly (Refuse 0x13)) (record { verdict = Make ch; tables = t })) found
-unfolding isWrong
 read-alike true Nothing e ch t = record { alike = made ch }
 read-alike false (Wrong x) e ch t = plain (record { exactly = (λ h. (x, refl), λ h. refl) })
 read-alike true (Wrong x) e ch t = let z : _≡_ {A = ℕ} 1 0 = ap isWrong (e .0 refl) in absurd (omega arith)
@@ -303,7 +295,7 @@ configure-alike held role d =
     (plain (wrongs OutOfRange 1))))))
 
 type-alike : (r : Record) (w : Worked) (next kind : ℕ) (d : List ℕ) → Judges (typeJudged kind r w next d) (faultOf r kind d)
-unfolding typeJudged faultOf statusOf
+unfolding typeJudged faultOf
 type-alike r w next kind d =
     judged-both (eqb kind 0x00) (plain (poll-alike d))
     (judged-both (eqb kind 0x12) (plain (clear-alike (r .logs) d))

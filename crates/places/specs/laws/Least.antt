@@ -1,14 +1,14 @@
 -- Document 02, c: the fault that is found is the least of all of them, by place and then by reason, and none is found only where there is
 -- none. Assumes nothing.
 use Prim.Native.Nat.{ℕ, zero, suc, _+_, _-_, _*_, _<_, _≤_}
-use mathlib.Core.Bool.{Bool, true, false, cond, not, false≢true, true≢false}
+use mathlib.Core.Bool.{Bool, true, false, cond, not, true≢false}
 use mathlib.Core.Path.{_≡_, refl, sym, ap, subst, _∙_}
 use mathlib.Core.List.{List}
 use mathlib.Core.Logic.{_↔_, Iff·trans, _⊎_, inl, inr, ⊎-elim}
 use native.Mathlib.Nat.{not-suc-le-zero}
 use native.Mathlib.Omega.{arith}
-use borrow.Author.Tests.{ltb-true, ltb-false, eqb-true, eqb-false, not-true, not-false, leb-true, leb-false}
-use lib.Dec.{ltb, leb, eqb}
+use borrow.Author.Tests.{ltb-true, ltb-false, not-true}
+use lib.Dec.{ltb, eqb}
 use lib.ListN.{length, getD}
 use Rattle.wire.specs.Conditions.{_and_, none, Rows, here, later}
 use Rattle.wire.specs.laws.Cases.{cond-cases}
@@ -23,12 +23,12 @@ use Rattle.places.specs.declared.Reason.{Reason}
 use Rattle.places.specs.declared.Reason.the-variants.{BadVersion, BadCount, OutOfRange, Repeated, Clash, NotPending}
 use Rattle.places.specs.declared.Fault.{Fault}
 use Rattle.places.specs.declared.Found.{Found}
-use Rattle.places.specs.declared.Found.the-variants.{Nothing, Wrong}
+use Rattle.places.specs.declared.Found.the-variants.{Nothing}
 use Rattle.places.specs.declared.Table.{Table}
 use Rattle.places.specs.declared.Table.the-variants.{Throttles, Thermal}
 use Rattle.places.specs.Reasons.{named}
 use Rattle.places.specs.laws.Below.{by-order, any-exactly}
-use Rattle.places.specs.Places.{wrong, pollFault, clearFault, stateFault, roleFault, capsFault, userFault, resetFault, widthOf, mostOf, startOf, sameSecond, sameNumber, anyBelow, seenBefore, restFault, setFault, orElse, firstBelow, firstSet, countFault, setsFault, formatFault, configureFault, faultOf}
+use Rattle.places.specs.Places.{wrong, pollFault, clearFault, stateFault, roleFault, capsFault, userFault, resetFault, widthOf, mostOf, startOf, sameSecond, sameNumber, seenBefore, restFault, setFault, orElse, firstBelow, firstSet, countFault, setsFault, formatFault, configureFault, faultOf}
 use Rattle.places.specs.Faults.{Faults, byte, _or_, eachOf, ofLength, PollFaults, ClearFaults, StateFaults, RoleFaults, CapsFaults, ThrottleFaults, ThermalFaults, SetsFaults, ConfigureFaults, UserFaults, ResetFaults, CommandFaults, NotAfter, Least, no-fault, least}
 
 -- ---- the least of some faults

@@ -23,13 +23,13 @@ use Rattle.image.specs.Image.{imageLength, imageOf, sessionOf}
 use Rattle.image.specs.laws.Image.{Typed, session-image, length-image}
 use Rattle.inplace.specs.InPlace.{Left}
 use Rattle.bjargolsk.specs.Calls.{packed, freshOn}
-use Rattle.promises.specs.Calls.{Call, occ, sbe, undo, redo, Said, said}
+use Rattle.promises.specs.Calls.{Call, occ, sbe, undo, redo, said}
 use Rattle.promises.specs.Marks.{left, logsMade}
 use Rattle.promises.specs.History.{replay, Run, did, next-run, run, AllOfBytes}
 use Rattle.promises.specs.laws.Stores.{length-padded, flat}
 use Rattle.promises.specs.laws.ByHistory.{standing, journalOf, byHistory, Sane}
 use Rattle.promises.specs.laws.Demand3.{ahead, Inv, next-inv}
-use Rattle.promises.specs.Lent.{Lent, lent, toldFor, carriedOver, lentRun}
+use Rattle.promises.specs.Lent.{Lent, lent, told, carriedOver, lentRun}
 
 -- ---- a call on an image
 
@@ -65,8 +65,8 @@ module _ (s : Session) (t : Typed s) where
   abbrev as-lent : Left → Lent
   as-lent q = record { result = packed (q .told); image = q .image; reply = q .reply }
 
-  pub lent-said : (c : Call) → lent b c ≡ carriedOver s c (said s c)
-  unfolding lent carriedOver toldFor said occs.occLeft sbes.sbeLeft movedLeft
+  pub lent-said : (c : Call) → lent b c ≡ carriedOver s c
+  unfolding lent carriedOver told said occs.occLeft sbes.sbeLeft movedLeft
   lent-said (occ sender c d) = ap as-lent (occ-on sender c d)
   lent-said (sbe r d) = ap as-lent (sbe-on r d)
   lent-said undo = ap as-lent (move-on Before)
@@ -102,17 +102,13 @@ module _ (base : Record) where
   pub run-typed : (p : Run) → Inv base p → Typed (p .session)
   run-typed p v = subst Typed (sym (v .is)) (history-typed (left (p .marks)) (logsMade (p .marks)) (ahead base p) (v .sane))
 
-  image-after : (s : Session) (c : Call) (x : Said) → carriedOver s c x .image ≡ imageOf (x .session)
-  unfolding carriedOver
-  image-after s c x = refl
-
   pub lent-run : (cs : List Call) (p : Run) → AllOfBytes cs → Inv base p → lentRun (imageOf (p .session)) cs ≡ imageOf (run p cs .session)
-  unfolding lentRun run next-run did
+  unfolding lentRun carriedOver run next-run did
   lent-run [] p b v = refl
   lent-run (c ∷ cs) p b v =
-      let step = ap (λ (x : Lent). x .image) (lent-said (p .session) (run-typed p v) c) ∙ image-after (p .session) c (said (p .session) c) in
+      let step = ap (λ (x : Lent). x .image) (lent-said (p .session) (run-typed p v) c) in
       ap (λ (i : List ℕ). lentRun i cs) step ∙ lent-run cs (next-run p c) (b .1) (next-inv base p v c (b .0))
 
   -- and what the next call says there is what it says of the session
-  pub lent-next : (p : Run) → Inv base p → (c : Call) → lent (imageOf (p .session)) c ≡ carriedOver (p .session) c (said (p .session) c)
+  pub lent-next : (p : Run) → Inv base p → (c : Call) → lent (imageOf (p .session)) c ≡ carriedOver (p .session) c
   lent-next p v = lent-said (p .session) (run-typed p v)

@@ -1,13 +1,13 @@
 -- Demands 1 and 2 of the call `occ`, read off its ways. Assumes nothing.
 use Prim.Native.Nat.{ℕ, _+_, _≤_}
 use mathlib.Core.Bool.{true, false, false≢true}
-use mathlib.Core.Logic.{_↔_, _⊎_, inl, inr, ⊎-elim}
+use mathlib.Core.Logic.{_↔_, _⊎_, inl, inr, ⊎-elim, Iff·trans}
 use mathlib.Core.Path.{_≡_, refl, sym, ap, subst, _∙_}
 use mathlib.Core.List.{List, []}
 use native.Mathlib.Omega.{arith}
 use native.Mathlib.Nat.{not-le-of-lt}
 use lib.ListN.{length, getD}
-use Rattle.wire.specs.Conditions.{_and_, is, row}
+use Rattle.wire.specs.Conditions.{_and_, is, row, here, later}
 use Rattle.wire.specs.laws.Cases.{else-eq}
 use Rattle.wire.specs.laws.Tables.{ByTable, by-is, hit, miss}
 use Rattle.record.specs.Record.{workedOf}
@@ -210,6 +210,19 @@ module _ (s : Session) (typed : TypedSession s) (sender : ℕ) (c d : List ℕ) 
     no-status z a h =
         past-packet z (record { exactly = λ n. (λ g. absurd (h n g), λ r. absurd (false≢true (sym (ap accepts (command-rows n .1 r)) ∙ a))) })
 
+    -- 0x13 is a command's, not a packet's
+    pub wrong-exactly : OccStatus s sender c 0x13 ↔ ((packetStatus c ≡ 0) and (verdict ≡ Refuse 0x13))
+    unfolding OccStatus
+    wrong-exactly = (
+      go,
+      λ h. let g = good-exactly c .0 (h .0) in later (fits-whole (g .0)) (later (λ k. k (g .1)) (command-rows 0x13 .0 (h .1))),
+    )
+      where
+        go : OccStatus s sender c 0x13 → (packetStatus c ≡ 0) and (verdict ≡ Refuse 0x13)
+        go (here o e) = absurd (omega (arith, e))
+        go (later o (here k e)) = absurd (omega (arith, e))
+        go (later o (later k r)) = (by-row c (λ z. absurd (o z)) (λ f z. status-summed c f z) (λ f z. absurd (k z)), command-rows 0x13 .1 r)
+
     heard-status : (q : OccResult) (e : Deed) → Heard s sender c d q e → ByTable Told q (OccStatus s sender c)
     unfolding OccStatus accepts says kept answered
     heard-status q e (ill-read z) =
@@ -257,6 +270,10 @@ module _ (s : Session) (typed : TypedSession s) (sender : ℕ) (c d : List ℕ) 
 
   pub occ-statuses : OccDue s sender c d → (n : ℕ) → (occCall s sender c d ≡ occError s c d n) ↔ OccStatus s sender c n
   occ-statuses p = status-table p _ _ (called s sender c d) .exactly
+
+  -- the status 0x13: the packet is good, and its command was judged so
+  pub status-13 : OccDue s sender c d → (occCall s sender c d ≡ occError s c d 0x13) ↔ ((packetStatus c ≡ 0) and (verdict ≡ Refuse 0x13))
+  status-13 p = Iff·trans (occ-statuses p 0x13) (wrong-exactly p)
 
   pub occ-accepted : wellFormed s ≡ true → OccSucceeds s sender c d ↔ OccAccepted s sender c d
   unfolding OccSucceeds OccAccepted

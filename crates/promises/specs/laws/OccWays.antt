@@ -26,7 +26,7 @@ use Rattle.promises.specs.Demand2.{KnownSender}
 use Rattle.promises.specs.History.{Deed, keeps, adds, adding, occVerdict, occJudgement, deed}
 use Rattle.promises.specs.laws.Demand3.{by-both}
 
-known-exactly : (sender : ℕ) → (knownSender sender ≡ true) ↔ KnownSender sender
+pub known-exactly : (sender : ℕ) → (knownSender sender ≡ true) ↔ KnownSender sender
 unfolding knownSender
 known-exactly sender = or-else holds {x = true} refl (eq-holds sender 0x10) (eq-holds sender 0x20)
 

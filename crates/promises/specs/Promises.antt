@@ -318,7 +318,7 @@ pub broken-plays-as-whole : (t : List ℕ)
     → (imageAfter (entriesOf (traceScan t)) ≡ imageAfter (entriesOf (traceScan (wholePart t)))) and (piecesOf t ≡ piecesOf (wholePart t) ++ stopLine (readingOf (traceScan t)))
 broken-plays-as-whole t = (broken-image t, broken-lines t)
 
--- played entry by entry, each session handed on, a trace of any length gives the same (Steps.antt of `replay`)
+-- played entry by entry, each session handed on, a trace of any length gives the same (Steps.antt of `playing`)
 pub steps-are-the-whole : (es : List Entry)
     → (imageFrom (imageOf freshSession) (oldestFirst es) ≡ imageAfter es) and (linesFrom (imageOf freshSession) 1 (oldestFirst es) ≡ linesOf es)
 steps-are-the-whole es = (image-by-steps es, lines-by-steps es)

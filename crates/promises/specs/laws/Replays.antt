@@ -20,8 +20,8 @@ use Rattle.journal.specs.declared.Way.the-variants.{Before}
 use Rattle.image.specs.Image.{imageOf}
 use Rattle.image.specs.laws.Image.{Typed}
 use Rattle.places.specs.declared.Found.{Found}
-use Rattle.places.specs.declared.Found.the-variants.{Nothing, Wrong}
 use Rattle.occ_call.specs.Occ as occs
+use Rattle.occ_call.specs.laws.Why.{answer-beside}
 use Rattle.sbe_call.specs.Sbe as sbes
 use Rattle.undo_call.specs.Undo.{undoOn, movedLeft}
 use Rattle.playing.specs.Playing.{Heard, ifWritten, heardWith, occHeard, sbeHeard, undoHeard, heard, line, imageAfter, stopLine, piecesOf}
@@ -37,11 +37,6 @@ use Rattle.promises.specs.laws.Lent.{occ-on, sbe-on, move-on, run-typed}
 -- ---- an entry played on the image of a session is its call on the session
 
 -- which byte is wrong stands beside the answer, and isn't heard
-answer-beside : (n : ℕ) (why : Found) → occs.besideOf n why .answer ≡ n
-unfolding occs.besideOf
-answer-beside n Nothing = refl
-answer-beside n (Wrong x) = refl
-
 abbrev heardAs : occs.OccResult → ℕ → Heard
 heardAs q n = record { answer = n; image = imageOf (q .outcome .session); status = ifWritten n (take 1 (drop 2 (q .reply))) }
 

@@ -1,6 +1,9 @@
 use Prim.Native.Nat.{_≤_}
-use mathlib.Core.Path.{_≡_}
+use mathlib.Core.Path.{_≡_, sym}
+use native.Mathlib.Omega.{arith}
 use lib.ListN.{length}
+use lib.Seq.{length-take-le}
+use Rattle.replay.proofs.Parts.{within}
 use Rattle.replay.proofs.serve.Statement.{statement}
 use Rattle.replay.proofs.serve.Tie as tie
 use borrow.Author.Needs.{needs}
@@ -42,7 +45,7 @@ slice-reshare-prefix-play-front : tie.Need-slice-reshare-prefix-play-front Inv-l
 slice-reshare-prefix-play-front c = search needs
 
 slice-aggregate-play-front : tie.Need-slice-aggregate-play-front Inv-loop μ-loop
-slice-aggregate-play-front c = search needs
+slice-aggregate-play-front c = sym (length-take-le _ _ (omega arith))
 
 play-front-requires : tie.Need-play-front-requires Inv-loop μ-loop
 play-front-requires c κs = search needs
@@ -51,10 +54,10 @@ wrapping-add-usize-requires : tie.Need-wrapping-add-usize-requires Inv-loop μ-l
 wrapping-add-usize-requires c κs = search needs
 
 sub-is-unknown : tie.Need-sub-is-unknown Inv-loop μ-loop
-sub-is-unknown c = search needs
+sub-is-unknown c = within _ _ (c .before .before .before .before .before .play-front .ensures)
 
 part-is-unknown-start : tie.Need-part-is-unknown-start Inv-loop μ-loop
-part-is-unknown-start c = search needs
+part-is-unknown-start c = within _ _ (c .before .before .before .before .before .before .play-front .ensures)
 
 part-is-unknown-end : tie.Need-part-is-unknown-end Inv-loop μ-loop
 part-is-unknown-end c = search needs
@@ -78,7 +81,7 @@ returns-2 : tie.Need-returns-2 Inv-loop μ-loop
 returns-2 c = search needs
 
 keep-requires : tie.Need-keep-requires Inv-loop μ-loop
-keep-requires c κs = search needs
+keep-requires c κs = (within _ _ (c .before .before .before .before .before .before .before .before .before .before .play-front .ensures), omega arith)
 
 loop-less : tie.Need-loop-less Inv-loop μ-loop
 loop-less c = search needs

@@ -12,5 +12,6 @@ pub mod Later
 pub mod Shifted
 pub mod Lent
 pub mod Replays
+pub mod Partings
 pub mod Examples
 pub mod laws

@@ -12,7 +12,7 @@ use Rattle.record.specs.Record.{freshRecord, workedOf}
 use Rattle.wire.specs.Conditions.{_and_}
 use Rattle.change.specs.Change.{putOf}
 use Rattle.change.specs.declared.Edit.{Edit}
-use Rattle.entries.specs.Entries.{Entry, bytesOf, entriesOf, readingOf}
+use Rattle.entries.specs.Entries.{Entry, bytesOf, between, entriesOf, readingOf}
 use Rattle.journal.specs.Ways.{other}
 use Rattle.journal.specs.declared.Way.{Way}
 use Rattle.journal.specs.declared.Way.the-variants.{Before, After}
@@ -32,6 +32,8 @@ use Rattle.sbe_call.specs.laws.Came as sbe-came
 use Rattle.undo_call.specs.Undo.{usedOf, moveCall, undoCall, redoCall, UndoAllows, RedoAllows}
 use Rattle.undo_call.specs.laws.Came as undo-came
 use Rattle.trace.specs.Trace.{traceScan}
+use Rattle.parting.specs.Parting.{Longest, sharedPart, partingOf}
+use Rattle.parting.specs.laws.Parting.{part-longest, longest-is-one, equal-share-all, first-empty, second-empty}
 use Rattle.playing.specs.declared.Played.{Played}
 use Rattle.playing.specs.Playing.{StepAllows, PlayAllows, imageAfter, linesOf, stopLine, piecesOf}
 use Rattle.playing.specs.Steps.{oldestFirst, imageFrom, linesFrom}
@@ -65,6 +67,8 @@ use Rattle.promises.specs.laws.Lent.{fresh-image, lent-run, lent-next}
 use Rattle.promises.specs.Lent.{lent, carriedOver, lentRun}
 use Rattle.promises.specs.Replays.{callsIn, wholePart, linesBy}
 use Rattle.promises.specs.laws.Replays.{trace-bytes, replay-run, replay-lines, broken-lines, broken-image}
+use Rattle.promises.specs.Partings.{PlaysAsFirst}
+use Rattle.promises.specs.laws.Partings.{part-plays-as-first, part-plays-as-second}
 use Rattle.promises.specs.Examples.{All, holds, table}
 use Rattle.promises.specs.laws.Examples.{examples}
 
@@ -322,6 +326,24 @@ broken-plays-as-whole t = (broken-image t, broken-lines t)
 pub steps-are-the-whole : (es : List Entry)
     → (imageFrom (imageOf freshSession) (oldestFirst es) ≡ imageAfter es) and (linesFrom (imageOf freshSession) 1 (oldestFirst es) ≡ linesOf es)
 steps-are-the-whole es = (image-by-steps es, lines-by-steps es)
+
+-- ---- document 02, f: where the traces t and u part (Partings.antt, and Parting.antt of `parting`)
+
+-- the part is the longest run of whole entries with which both begin, and there is no other
+pub parting-is-longest : (t u : List ℕ) → Longest t u (sharedPart t u) and ((p : List ℕ) → Longest t u p → p ≡ sharedPart t u)
+parting-is-longest t u = (part-longest t u, λ p l. longest-is-one t u p (sharedPart t u) l (part-longest t u))
+
+-- it ends in the session, and in the lines, of as many first entries of either trace
+pub parting-plays-alike : (t u : List ℕ)
+    → PlaysAsFirst (sharedPart t u) (partingOf t u .entries) t and PlaysAsFirst (sharedPart t u) (partingOf t u .entries) u
+parting-plays-alike t u = (part-plays-as-first t u, part-plays-as-second t u)
+
+-- "Equal traces that read to the end give all of the first; an empty trace shares nothing"
+pub equal-traces-share-all : (t : List ℕ) (es : List Entry) → traceScan t ≡ between es → sharedPart t t ≡ t
+equal-traces-share-all = equal-share-all
+
+pub empty-shares-nothing : (t : List ℕ) → (sharedPart [] t ≡ []) and (sharedPart t [] ≡ [])
+empty-shares-nothing t = (first-empty t, second-empty t)
 
 -- ---- the ten worked examples of document 01, at the bytes
 

@@ -10,6 +10,7 @@ pub mod Aside
 pub mod NoTrace
 pub mod Lent
 pub mod Replays
+pub mod Partings
 pub mod Shifted
 pub mod Judgements
 pub mod Heard

@@ -32,7 +32,7 @@ lines-last b n (x ∷ es) e =
     ∙ sym (append-assoc (line n (heard b x)) (linesFrom (heard b x .image) (suc n) es) (line (suc n + length es) (heard (imageFrom (heard b x .image) es) e)))
     ∙ ap (λ (m : ℕ). (line n (heard b x) ++ linesFrom (heard b x .image) (suc n) es) ++ line m (heard (imageFrom (heard b x .image) es) e)) next
 
-length-oldest : (es : List Entry) → length (oldestFirst es) ≡ length es
+pub length-oldest : (es : List Entry) → length (oldestFirst es) ≡ length es
 unfolding oldestFirst
 length-oldest [] = refl
 length-oldest (e ∷ es) = omega (arith, length-append (oldestFirst es) (e ∷ []), length-oldest es)

@@ -1,0 +1,84 @@
+// Tells where two recorded traces part: two files, named as arguments. Room for one byte more than a trace may have, so that a longer one is seen.
+ghost use Rattle.io.specs.Counts.{Counts};
+use libc::STDERR_FILENO;
+use libc::STDOUT_FILENO;
+
+// 1 MiB.
+const MOST: usize = 1048576;
+
+fn print(s: &[u8]) {
+    io::write_all(STDOUT_FILENO, s);
+}
+
+fn room() -> [u8; 1048577] {
+    [0; 1048577]
+}
+
+// Says why a file isn't taken, and answers a length that no trace has.
+fn refuse(name: &[u8], why: &[u8], space: &mut [u8]) -> usize
+    ensures { λ r. ⌜ Counts r (now (space .exit)) ⌝ }
+{
+    print(name);
+    print(why);
+    space.len()
+}
+
+// What an open file holds. A short count is the file's end only where nothing more is read.
+fn read_open(fd: i32, name: &[u8], space: &mut [u8]) -> usize
+    ensures { λ r. ⌜ Counts r (now (space .exit)) ⌝ }
+{
+    let got = io::read_full(fd, space);
+    if MOST < got {
+        return refuse(name, b": over 1048576 bytes\n", space);
+    }
+    let mut more = [0u8; 1];
+    if libc::read(fd, &mut more) != 0 {
+        return refuse(name, b": cannot be read\n", space);
+    }
+    got
+}
+
+fn read_named(name: &[u8], space: &mut [u8]) -> usize
+    ensures { λ r. ⌜ Counts r (now (space .exit)) ⌝ }
+{
+    let fd = os::open_read(name);
+    if fd < 0 {
+        return refuse(name, b": cannot be opened\n", space);
+    }
+    let got = read_open(fd, name, space);
+    libc::close(fd);
+    got
+}
+
+// The trace that an argument names.
+fn read_arg(i: usize, space: &mut [u8]) -> usize
+    ensures { λ r. ⌜ Counts r (now (space .exit)) ⌝ }
+{
+    let mut name = io::large_buffer();
+    let n = os::arg(i, &mut name);
+    read_named(&name[..n], space)
+}
+
+fn tell(first: &[u8], second: &[u8]) {
+    let mut text = [0u8; parting::LONGEST];
+    let n = parting::tell(first, second, &mut text);
+    print(&text[..n]);
+}
+
+fn main() {
+    if os::arg_count() != 3 {
+        io::write_all(STDERR_FILENO, b"usage: part FIRST SECOND\n");
+        return;
+    }
+    let mut first = room();
+    let n = read_arg(1, &mut first);
+    if MOST < n {
+        return;
+    }
+    let mut second = room();
+    let m = read_arg(2, &mut second);
+    if MOST < m {
+        return;
+    }
+    tell(&first[..n], &second[..m]);
+}

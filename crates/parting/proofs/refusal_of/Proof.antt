@@ -1,0 +1,24 @@
+use Rattle.parting.specs.Parting.{refusalOf}
+use borrow.Author.Needs.{needs}
+use Rattle.parting.proofs.refusal_of.Statement.{statement}
+use Rattle.parting.proofs.refusal_of.Tie as tie
+
+next-requires : tie.Need-next-requires
+next-requires c κs = search needs
+
+refused-requires : tie.Need-refused-requires
+refused-requires c κs = search needs
+
+next-requires-2 : tie.Need-next-requires-2
+next-requires-2 c κs = search needs
+
+refused-requires-2 : tie.Need-refused-requires-2
+refused-requires-2 c κs = search needs
+
+returns : tie.Need-returns
+unfolding refusalOf
+returns c = cc
+
+pub refusal-of-spec : {M : Type 1} → statement M
+refusal-of-spec =
+    tie.close (tie.spec next-requires refused-requires next-requires-2 refused-requires-2 returns)

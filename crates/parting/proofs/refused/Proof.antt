@@ -1,0 +1,38 @@
+use mathlib.Core.Path.{sym, ap}
+use Rattle.parting.specs.Parting.{refusedFor}
+use borrow.Author.Needs.{needs}
+use Rattle.parting.proofs.refused.Statement.{statement}
+use Rattle.parting.proofs.refused.Tie as tie
+
+enum-told : tie.Need-enum-told
+enum-told c = search needs
+
+enum-told-2 : tie.Need-enum-told-2
+enum-told-2 c = search needs
+
+enum-told-3 : tie.Need-enum-told-3
+enum-told-3 c = search needs
+
+enum-told-4 : tie.Need-enum-told-4
+enum-told-4 c = search needs
+
+returns : tie.Need-returns
+unfolding refusedFor
+returns c = search needs
+
+returns-2 : tie.Need-returns-2
+unfolding refusedFor
+returns-2 c = search needs
+
+returns-3 : tie.Need-returns-3
+unfolding refusedFor
+returns-3 c = search needs
+
+returns-4 : tie.Need-returns-4
+unfolding refusedFor
+returns-4 c = search needs
+
+pub refused-spec : {M : Type 1} → statement M
+refused-spec =
+    tie.close
+    (tie.spec enum-told enum-told-2 enum-told-3 enum-told-4 returns returns-2 returns-3 returns-4)

@@ -7,6 +7,7 @@ pub mod generate;
 pub mod image;
 pub mod journal;
 pub mod occ;
+pub mod part;
 pub mod protocol;
 pub mod record;
 pub mod sbe;

@@ -10,7 +10,9 @@ const USAGE: &str = "usage: second
        second answered N < LINES
        second replay < TRACE
        second trace < LINES > TRACE
-       second generate-trace SEED [ENTRIES] > TRACE";
+       second part TRACE TRACE
+       second generate-trace SEED [ENTRIES] > TRACE
+       second generate-pair SEED TRACE TRACE";
 
 fn generate(count: &str, seed: &str, small: bool) -> std::io::Result<()> {
     let (Ok(count), Ok(seed)) = (count.parse(), seed.parse()) else {
@@ -46,6 +48,26 @@ fn trace() -> std::io::Result<ExitCode> {
     }
 }
 
+/// Where two files part; a file that can't be taken is told instead, the first before the second.
+fn part(first: &str, second: &str) -> std::io::Result<ExitCode> {
+    let read = second::part::read_file(first).and_then(|one| Ok((one, second::part::read_file(second)?)));
+    let (text, code) = match read {
+        Ok((one, two)) => (second::part::shared(&one, &two).text(), ExitCode::SUCCESS),
+        Err(line) => (line, ExitCode::FAILURE),
+    };
+    stdout().lock().write_all(text.as_bytes())?;
+    Ok(code)
+}
+
+fn generate_pair(seed: &str, first: &str, second: &str) -> std::io::Result<()> {
+    let Ok(seed) = seed.parse() else {
+        return Err(std::io::Error::other(USAGE));
+    };
+    let (one, two) = second::generate::traces::pair(seed);
+    std::fs::write(first, one)?;
+    std::fs::write(second, two)
+}
+
 /// A trace of any sort, or a right one of that many entries.
 fn generate_trace(seed: &str, entries: Option<&str>) -> std::io::Result<()> {
     let (Ok(seed), Ok(entries)) = (seed.parse(), entries.map(str::parse).transpose()) else {
@@ -73,6 +95,7 @@ fn run(arguments: &[&str]) -> std::io::Result<()> {
         ["replay"] => second::trace::replay(stdin().lock(), BufWriter::new(stdout().lock())),
         ["generate-trace", seed] => generate_trace(seed, None),
         ["generate-trace", seed, entries] => generate_trace(seed, Some(entries)),
+        ["generate-pair", seed, first, second] => generate_pair(seed, first, second),
         _ => Err(std::io::Error::other(USAGE)),
     }
 }
@@ -83,6 +106,7 @@ fn main() -> ExitCode {
     let arguments: Vec<&str> = arguments.iter().map(String::as_str).collect();
     let ended = match arguments.as_slice() {
         ["trace"] => trace(),
+        ["part", first, second] => part(first, second),
         _ => run(&arguments).map(|()| ExitCode::SUCCESS),
     };
     match ended {

@@ -1,8 +1,9 @@
-//! Random traces: right ones of any length, and such as end in a cut entry or an unknown kind.
+//! Random traces: right ones of any length, and such as end in a cut entry or an unknown kind; and pairs of them.
 
 use super::commands::{self, About};
 use super::{random::Random, requests};
 use crate::occ::{self, command_packet};
+use crate::part::LONGEST;
 use crate::session::Session;
 use crate::trace::{self, LONG, LONG_COMMAND, SHORT_COMMAND, UNDO};
 
@@ -169,5 +170,74 @@ impl Maker {
             }
             _ => {}
         }
+    }
+}
+
+/// The offsets at which the entries that read start, and the end of the last.
+pub fn starts(trace: &[u8]) -> Vec<usize> {
+    let mut starts = vec![0];
+    let mut at = 0;
+    while let Some(length) = trace.get(at).and_then(|kind| trace::body_length(*kind)) {
+        at += 1 + length;
+        if at > trace.len() {
+            break;
+        }
+        starts.push(at);
+    }
+    starts
+}
+
+/// Two traces for that seed that share a start, or don't.
+pub fn pair(seed: u64) -> (Vec<u8>, Vec<u8>) {
+    let mut random = Random::new(!seed);
+    let mut first = any(seed);
+    first.truncate(LONGEST);
+    let mut second = first.clone();
+    let starts = starts(&first);
+    let boundary = random.pick(&starts);
+    match random.below(10) {
+        0 => {}
+        1 => second.truncate(boundary),
+        2 => change_byte(&mut random, &mut second, boundary),
+        3 => {
+            let within = random.between(0, second.len());
+            change_byte(&mut random, &mut second, within);
+        }
+        4 => second.truncate(random.between(0, first.len())),
+        5 => {
+            // another way on from there
+            second.truncate(boundary);
+            second.extend(any(seed ^ 1));
+            second.truncate(LONGEST);
+        }
+        6 => second.clear(),
+        7 => second = any(seed ^ 2),
+        8 => {
+            // a first entry that won't read, in one or in both
+            let kind = random.pick(&[0, 5, 1, 2, 3]);
+            second = vec![kind; random.between(1, 30)];
+            if random.one_in(3) {
+                first = vec![random.pick(&[0, 2, 3, 0xFF]); random.between(0, 30)];
+            }
+        }
+        _ => {
+            // both cut in the same entry, at different bytes
+            let kept = (boundary + random.below(40)).min(first.len());
+            first.truncate((boundary + random.below(40)).min(first.len()));
+            second.truncate(kept);
+        }
+    }
+    second.truncate(LONGEST);
+    if random.one_in(2) {
+        (second, first)
+    } else {
+        (first, second)
+    }
+}
+
+/// To another kind, or by one bit.
+fn change_byte(random: &mut Random, trace: &mut [u8], at: usize) {
+    if let Some(byte) = trace.get_mut(at) {
+        *byte = random.pick(&[*byte ^ 1, *byte ^ 2, *byte ^ 0x80, byte.wrapping_add(1), 0]);
     }
 }

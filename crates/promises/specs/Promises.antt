@@ -29,7 +29,9 @@ use Rattle.sbe_call.specs.laws.Came as sbe-came
 use Rattle.undo_call.specs.Undo.{usedOf, moveCall, undoCall, redoCall, UndoAllows, RedoAllows}
 use Rattle.undo_call.specs.laws.Came as undo-came
 use Rattle.trace.specs.Trace.{traceScan}
-use Rattle.parting.specs.Parting.{Longest, sharedPart, partingOf}
+use Rattle.parting.specs.Parting.{Longest, sharedPart, refusalOf, PlayersRefusal, partingOf}
+use Rattle.parting.specs.declared.Refusal.the-variants.{Nothing}
+use Rattle.parting.specs.laws.Refusals.{refusal-is-the-players, refused-shares-nothing}
 use Rattle.parting.specs.laws.Parting.{part-longest, longest-is-one, equal-share-all, first-empty, second-empty}
 use Rattle.replay.specs.declared.Played.{Played}
 use Rattle.replay.specs.Replay.{StepAllows, PlayAllows, imageAfter, linesOf, stopLine, piecesOf}
@@ -330,6 +332,13 @@ equal-traces-share-all = equal-share-all
 
 pub empty-shares-nothing : (t : List ℕ) → (sharedPart [] t ≡ []) and (sharedPart t [] ≡ [])
 empty-shares-nothing t = (first-empty t, second-empty t)
+
+-- "a trace whose first entry won't read shares nothing, and the player's refusal for it stands beside the answer, the first trace's before the second's"
+pub parting-refused-as-played : (t u : List ℕ) → PlayersRefusal (readingOf (traceScan t)) (readingOf (traceScan u)) (refusalOf t u)
+parting-refused-as-played = refusal-is-the-players
+
+pub refused-traces-share-nothing : (t u : List ℕ) → (refusalOf t u ≡ Nothing → ⊥) → sharedPart t u ≡ []
+refused-traces-share-nothing = refused-shares-nothing
 
 -- ---- the ten worked examples of document 01, at the bytes
 

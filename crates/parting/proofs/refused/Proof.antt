@@ -1,4 +1,3 @@
-use mathlib.Core.Path.{sym, ap}
 use Rattle.parting.specs.Parting.{refusedFor}
 use borrow.Author.Needs.{needs}
 use Rattle.parting.proofs.refused.Statement.{statement}

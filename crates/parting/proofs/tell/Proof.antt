@@ -1,4 +1,3 @@
-use native.Mathlib.Omega.{arith}
 use Rattle.parting.proofs.Told.{told-none, told-put}
 use borrow.Author.Needs.{needs}
 use Rattle.parting.proofs.tell.Statement.{statement}

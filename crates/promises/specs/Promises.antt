@@ -65,8 +65,8 @@ use Rattle.promises.specs.laws.Lent.{fresh-image, lent-run, lent-next}
 use Rattle.promises.specs.Lent.{lent, carriedOver, lentRun}
 use Rattle.promises.specs.Replays.{callsIn, wholePart, linesBy}
 use Rattle.promises.specs.laws.Replays.{trace-bytes, replay-run, replay-lines, broken-lines, broken-image}
-use Rattle.promises.specs.Partings.{PlaysAsFirst}
-use Rattle.promises.specs.laws.Partings.{part-plays-as-first, part-plays-as-second}
+use Rattle.promises.specs.Partings.{firstEntries, PlaysAsFirst}
+use Rattle.promises.specs.laws.Partings.{same-first, part-plays-as-first, part-plays-as-second}
 use Rattle.promises.specs.Examples.{All, holds, table}
 use Rattle.promises.specs.laws.Examples.{examples}
 
@@ -321,7 +321,11 @@ steps-are-the-whole es = (image-by-steps es, lines-by-steps es)
 pub parting-is-longest : (t u : List ℕ) → Longest t u (sharedPart t u) and ((p : List ℕ) → Longest t u p → p ≡ sharedPart t u)
 parting-is-longest t u = (part-longest t u, λ p l. longest-is-one t u p (sharedPart t u) l (part-longest t u))
 
--- it ends in the session, and in the lines, of as many first entries of either trace
+-- so many first entries of both are the same
+pub parting-same-entries : (t u : List ℕ) → firstEntries (partingOf t u .entries) t ≡ firstEntries (partingOf t u .entries) u
+parting-same-entries = same-first
+
+-- the part ends in the session, and in the lines, of as many first entries of either trace
 pub parting-plays-alike : (t u : List ℕ)
     → PlaysAsFirst (sharedPart t u) (partingOf t u .entries) t and PlaysAsFirst (sharedPart t u) (partingOf t u .entries) u
 parting-plays-alike t u = (part-plays-as-first t u, part-plays-as-second t u)

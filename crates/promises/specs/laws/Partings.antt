@@ -30,6 +30,10 @@ first-of {es = es} n =
     ∙ take-append-seam (oldestFirst es) (oldestFirst (n .0))
 
 module _ (t u : List ℕ) where
+  pub same-first : firstEntries (partingOf t u .entries) t ≡ firstEntries (partingOf t u .entries) u
+  unfolding partingOf
+  same-first = first-of (newer-first t u) ∙ sym (first-of (newer-second t u))
+
   plays-as : (v : List ℕ) → Newer (entriesOf (traceScan v)) (sharedEntries t u) → PlaysAsFirst (sharedPart t u) (partingOf t u .entries) v
   unfolding sharedPart partingOf
   plays-as v n =

@@ -10,8 +10,8 @@ fn print(s: &[u8]) {
     io::write_all(STDOUT_FILENO, s);
 }
 
-fn room() -> [u8; 1048577] {
-    [0; 1048577]
+fn room() -> [u8; MOST + 1] {
+    [0; MOST + 1]
 }
 
 // Says why a file isn't taken, and answers a length that no trace has.

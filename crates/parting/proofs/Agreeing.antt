@@ -4,7 +4,7 @@ use mathlib.Core.Path.{_≡_, refl, sym, ap, ap₂, _∙_}
 use mathlib.Core.List.{List, [], _∷_}
 use native.Mathlib.Numerals.{add-one}
 use native.Mathlib.Omega.{arith}
-use lib.ListN.{length, take, drop, getD, drop-of-length-le}
+use lib.ListN.{length, drop, getD, drop-of-length-le}
 use lib.Seq.{drop-cons, length-take-le}
 use Rattle.io.specs.Counts.{Counts}
 use Rattle.wire.specs.laws.Cases.{if-eq, else-eq}
@@ -14,7 +14,7 @@ use Rattle.entries.specs.Entries.{written, Scan, between, within, unknown, entr
 use Rattle.entries.specs.laws.ByTable.{scan-written, whole-length}
 use Rattle.trace.specs.Trace.{traceTable, traceScan}
 use Rattle.parting.specs.Parting.{front}
-use Rattle.parting.specs.laws.Front.{begins-fits, begins-take, front-first, front-none}
+use Rattle.parting.specs.laws.Front.{front-none}
 
 counts : (n : ℕ) (l : List ℕ) → n ≤ length l → Counts n l
 counts n l h = (h, sym (length-take-le n l h))

@@ -6,7 +6,10 @@ use mathlib.Core.Path.{_≡_}
 use mathlib.Core.List.{List, [], _∷_, _++_}
 use lib.Dec.{eqb}
 use lib.ListN.{length}
+use Rattle.wire.specs.Conditions.{row, is}
 use Rattle.entries.specs.Entries.{Entry, written, between, entriesOf, nextBy}
+use Rattle.entries.specs.declared.Reading.{Reading}
+use Rattle.entries.specs.declared.Reading.the-variants.{Unknown, Cut}
 use Rattle.entries.specs.declared.Next.{Next}
 use Rattle.entries.specs.declared.Next.the-variants.{Stands, NoKind, CutShort, End}
 use Rattle.trace.specs.Trace.{traceTable, traceScan}
@@ -61,6 +64,15 @@ unfoldable pub refusalOf : List ℕ → List ℕ → Refusal
 refusalOf t u =
     refusedFor (nextBy traceTable t) UnknownInFirst CutInFirst
     (refusedFor (nextBy traceTable u) UnknownInSecond CutInSecond Nothing)
+
+-- the same by how the player reads the traces, in order: the first row that holds
+abbrev pub PlayersRefusal : Reading → Reading → Refusal → Type 0
+PlayersRefusal r s =
+    row UnknownInFirst (r ≡ Unknown 0)
+    (row CutInFirst (r ≡ Cut 0)
+    (row UnknownInSecond (s ≡ Unknown 0)
+    (row CutInSecond (s ≡ Cut 0)
+    (is Nothing))))
 
 -- "with the number of the entry after it": entries are numbered from 1
 unfoldable pub partingOf : List ℕ → List ℕ → Parting

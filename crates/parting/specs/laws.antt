@@ -1,3 +1,4 @@
 pub mod Front
 pub mod Parting
 pub mod Lengths
+pub mod Refusals

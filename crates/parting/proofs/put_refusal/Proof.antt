@@ -1,3 +1,4 @@
+-- `parting::put_refusal` meets its contract: each arm puts the definition's line. Assumes nothing.
 use mathlib.Core.Path.{refl}
 use Rattle.text.specs.Text.{putAll, sheet, ascii}
 use Rattle.parting.specs.declared.Refusal.the-variants.{UnknownInFirst, CutInFirst, UnknownInSecond, CutInSecond}

@@ -1,3 +1,4 @@
+-- `parting::put_shared` meets its contract: its seven pieces are put one after the other. Assumes nothing.
 use native.Mathlib.Omega.{arith}
 use Rattle.text.specs.Text.{sheet}
 use Rattle.parting.specs.laws.Lengths.{length-shared}

@@ -1,3 +1,4 @@
+-- `parting::refusal_of` meets its contract: the first trace's before the second's. Assumes nothing.
 use Rattle.parting.specs.Parting.{refusalOf}
 use borrow.Author.Needs.{needs}
 use Rattle.parting.proofs.refusal_of.Statement.{statement}

@@ -1,4 +1,4 @@
-use mathlib.Core.Path.{sym, ap}
+-- `parting::refused` meets its contract: its arms are the definition's. Assumes nothing.
 use Rattle.parting.specs.Parting.{refusedFor}
 use borrow.Author.Needs.{needs}
 use Rattle.parting.proofs.refused.Statement.{statement}

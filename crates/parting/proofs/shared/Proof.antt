@@ -1,3 +1,4 @@
+-- `parting::shared` meets its contract: the whole entries of the bytes that both begin with. Assumes nothing.
 use Rattle.parting.proofs.Told.{part-taken, part-size}
 use borrow.Author.Needs.{needs}
 use Rattle.parting.proofs.shared.Statement.{statement}

@@ -1,4 +1,4 @@
-use native.Mathlib.Omega.{arith}
+-- `parting::tell` meets its contract: the first line, then the refusal. Assumes nothing.
 use Rattle.parting.proofs.Told.{told-none, told-put}
 use borrow.Author.Needs.{needs}
 use Rattle.parting.proofs.tell.Statement.{statement}

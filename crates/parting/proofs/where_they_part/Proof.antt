@@ -1,3 +1,4 @@
+-- `parting::where_they_part` meets its contract: counted in the bytes that both begin with. Assumes nothing.
 use native.Mathlib.Omega.{arith}
 use Rattle.parting.proofs.Told.{count-fits, parting-is}
 use borrow.Author.Needs.{needs}

@@ -1,3 +1,4 @@
+-- `parting::whole_len` meets its contract: the reading tells where the whole entries end. Assumes nothing.
 use Rattle.parting.proofs.Agreeing.{whole-as}
 use borrow.Author.Needs.{needs}
 use Rattle.parting.proofs.whole_len.Statement.{statement}

@@ -1,20 +1,13 @@
 -- The shared part is the longest common start of whole entries, and the only one. Assumes nothing.
-use Prim.Native.Nat.{ℕ, zero, suc, _+_, _≤_}
-use mathlib.Core.Path.{_≡_, refl, sym, ap, subst, _∙_}
+use Prim.Native.Nat.{ℕ, zero, suc, _≤_}
+use mathlib.Core.Path.{_≡_, refl, sym, ap, _∙_}
 use mathlib.Core.List.{List, [], _∷_, _++_, append-assoc}
 use native.Mathlib.Omega.{arith}
 use lib.ListN.{length, take, drop, take-append-drop}
-use Rattle.entries.specs.Entries.{Entry, Table, written, Scan, between, within, unknown, opened, eat, scanFrom, scanBy, entriesOf, readingOf, nextBy}
-use Rattle.entries.specs.declared.Reading.the-variants.{Unknown, Cut}
-use Rattle.entries.specs.declared.Next.{Next}
-use Rattle.entries.specs.declared.Next.the-variants.{Stands, NoKind, CutShort, End}
+use Rattle.entries.specs.Entries.{Entry, Table, written, Scan, between, within, unknown, opened, eat, scanFrom, scanBy, entriesOf}
 use Rattle.entries.specs.laws.ByTable.{length-written, scan-append, scan-written, whole-front, whole-reads}
-use Rattle.entries.specs.laws.Placed.{first-place}
-use Rattle.entries.specs.laws.Next.{Leads, leads-on}
 use Rattle.trace.specs.Trace.{traceTable, traceScan}
-use Rattle.parting.specs.declared.Refusal.{Refusal}
-use Rattle.parting.specs.declared.Refusal.the-variants.{Nothing, UnknownInFirst, CutInFirst, UnknownInSecond, CutInSecond}
-use Rattle.parting.specs.Parting.{Begins, CommonStart, Longest, front, sharedEntries, sharedPart, refusedFor, refusalOf}
+use Rattle.parting.specs.Parting.{Begins, CommonStart, Longest, front, sharedEntries, sharedPart}
 use Rattle.parting.specs.laws.Front.{begins-take, begins-on, front-first, front-second, front-most, front-same, front-none}
 
 -- ---- reading on keeps the entries read, and adds newer ones

@@ -1,6 +1,6 @@
 -- What two traces share plays alike in both. Assumes nothing.
 use Prim.Native.Nat.{ℕ}
-use mathlib.Core.Path.{_≡_, refl, sym, ap, _∙_}
+use mathlib.Core.Path.{_≡_, sym, ap, _∙_}
 use mathlib.Core.List.{List, [], _∷_, _++_, append-assoc, append-nil}
 use lib.ListN.{length, take}
 use lib.Seq.{take-append-seam}
@@ -30,6 +30,10 @@ first-of {es = es} n =
     ∙ take-append-seam (oldestFirst es) (oldestFirst (n .0))
 
 module _ (t u : List ℕ) where
+  pub same-first : firstEntries (partingOf t u .entries) t ≡ firstEntries (partingOf t u .entries) u
+  unfolding partingOf
+  same-first = first-of (newer-first t u) ∙ sym (first-of (newer-second t u))
+
   plays-as : (v : List ℕ) → Newer (entriesOf (traceScan v)) (sharedEntries t u) → PlaysAsFirst (sharedPart t u) (partingOf t u .entries) v
   unfolding sharedPart partingOf
   plays-as v n =

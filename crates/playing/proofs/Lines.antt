@@ -1,6 +1,6 @@
 -- The line of one entry: put piece by piece, by the call that the entry asks for. Assumes nothing.
 use Prim.Native.Nat.{ℕ, zero, suc, _-_, _≤_}
-use mathlib.Core.Bool.{Bool, true, false}
+use mathlib.Core.Bool.{Bool, true, false, false≢true}
 use mathlib.Core.Path.{_≡_, refl, sym, ap, ap₂, subst, _∙_}
 use mathlib.Core.List.{List, [], _∷_}
 use native.Mathlib.Omega.{arith}
@@ -131,11 +131,8 @@ Fits e x = x ≡ true → (1 ≤ length e) × (traceTable (getD e 0 0) ≡ lengt
 pub whole : (e : List ℕ) → wholeEntry e ≡ true → (1 ≤ length e) × (traceTable (getD e 0 0) ≡ length e)
 unfolding wholeEntry
 whole e =
-    cond-cases (Fits e) (eqb (length e) 0) (λ z t. absurd (false-not-true t))
+    cond-cases (Fits e) (eqb (length e) 0) (λ z t. absurd (false≢true t))
     (λ z t. let some = eqb-false (length e) 0 z in (omega arith, eqb-true (traceTable (getD e 0 0)) (length e) t))
-  where
-    false-not-true : false ≡ true → ⊥
-    false-not-true h = let z : _≡_ {A = ℕ} 0 1 = cc in omega arith
 
 sender-at : (k n : ℕ) → traceTable k ≡ n → 1 ≤ n → (k ≡ 0x03 → ⊥) → (k ≡ 0x04 → ⊥) → 2 ≤ n
 unfolding traceTable

@@ -1,6 +1,6 @@
 -- What the stand-in promises, each in a few lines, each proved by pointing at the file that does the work.
 -- s, p: a session, a run of calls; c: a call with any bytes and any buffer. The calls are those of the public contracts (Calls.antt).
-use Prim.Native.Nat.{ℕ, _+_, _≤_, _<_}
+use Prim.Native.Nat.{ℕ, suc, _+_, _≤_, _<_}
 use mathlib.Core.Bool.{true}
 use mathlib.Core.Logic.{_↔_, _⊎_}
 use mathlib.Core.Path.{_≡_, ap, _∙_}
@@ -31,15 +31,16 @@ use Rattle.sbe_call.specs.Sbe.{sbeCall, SbeAllows}
 use Rattle.sbe_call.specs.laws.Came as sbe-came
 use Rattle.undo_call.specs.Undo.{usedOf, moveCall, undoCall, redoCall, UndoAllows, RedoAllows}
 use Rattle.undo_call.specs.laws.Came as undo-came
+use Rattle.text.specs.Text.{joined}
 use Rattle.trace.specs.Trace.{traceScan}
 use Rattle.parting.specs.Parting.{Longest, sharedPart, refusalOf, PlayersRefusal, partingOf}
 use Rattle.parting.specs.declared.Refusal.the-variants.{Nothing}
 use Rattle.parting.specs.laws.Refusals.{refusal-is-the-players, refused-shares-nothing}
-use Rattle.parting.specs.laws.Parting.{part-longest, longest-is-one, equal-share-all, first-empty, second-empty}
+use Rattle.parting.specs.laws.Parting.{part-longest, part-number, longest-is-one, equal-share-all, first-empty, second-empty}
 use Rattle.playing.specs.declared.Played.{Played}
-use Rattle.playing.specs.Playing.{StepAllows, PlayAllows, imageAfter, linesOf, stopLine, piecesOf}
-use Rattle.playing.specs.Steps.{oldestFirst, imageFrom, linesFrom}
-use Rattle.playing.specs.laws.Steps.{image-by-steps, lines-by-steps}
+use Rattle.playing.specs.Playing.{StepAllows, PlayAllows, lineRoom, imageAfter, linesOf, stopLine, piecesOf}
+use Rattle.playing.specs.Steps.{oldestFirst, stepsFrom}
+use Rattle.playing.specs.laws.Steps.{steps-whole}
 use Rattle.promises.specs.Calls.{Call, occ, sbe, redo, said}
 use Rattle.promises.specs.Demand1.{OccAnswer, SbeAnswer, UndoAnswer, RedoAnswer, OccDue, SbeDue, OccStatus, occError, sbeError}
 use Rattle.promises.specs.Demand2.{atFront, NotPoll, successReply, OccSucceeds, OccAccepted, SbeSucceeds, SbeAccepted, Newest, UndoAccepted, RedoAccepted}
@@ -324,16 +325,23 @@ pub broken-plays-as-whole : (t : List ℕ)
     → (imageAfter (entriesOf (traceScan t)) ≡ imageAfter (entriesOf (traceScan (wholePart t)))) and (piecesOf t ≡ piecesOf (wholePart t) ++ stopLine (readingOf (traceScan t)))
 broken-plays-as-whole t = (broken-image t, broken-lines t)
 
--- played entry by entry, each session handed on, a trace of any length gives the same (Steps.antt of `playing`)
-pub steps-are-the-whole : (es : List Entry)
-    → (imageFrom (imageOf freshSession) (oldestFirst es) ≡ imageAfter es) and (linesFrom (imageOf freshSession) 1 (oldestFirst es) ≡ linesOf es)
-steps-are-the-whole es = (image-by-steps es, lines-by-steps es)
+-- the whole entries of a trace of any length, handed to `step` one after the other, each session handed on, with any buffer that it takes: the same session and
+-- the same lines (Steps.antt of `playing`)
+pub steps-are-the-whole : (t d : List ℕ) → lineRoom ≤ length d
+    → stepsFrom d (imageOf freshSession) 1 (oldestFirst (entriesOf (traceScan t)))
+    ≡ record { image = imageAfter (entriesOf (traceScan t)); text = joined (linesOf (entriesOf (traceScan t))) }
+steps-are-the-whole = steps-whole
 
 -- ---- document 02, f: where the traces t and u part (Partings.antt, and Parting.antt of `parting`)
 
 -- the part is the longest run of whole entries with which both begin, and there is no other
 pub parting-is-longest : (t u : List ℕ) → Longest t u (sharedPart t u) and ((p : List ℕ) → Longest t u p → p ≡ sharedPart t u)
 parting-is-longest t u = (part-longest t u, λ p l. longest-is-one t u p (sharedPart t u) l (part-longest t u))
+
+-- the number of entries is that of the part, and the next entry has the number after it
+pub parting-number : (t u : List ℕ)
+    → (es : List Entry) × ((traceScan (sharedPart t u) ≡ between es) and (partingOf t u .entries ≡ length es) and (partingOf t u .next ≡ suc (length es)))
+parting-number = part-number
 
 -- so many first entries of both are the same
 pub parting-same-entries : (t u : List ℕ) → firstEntries (partingOf t u .entries) t ≡ firstEntries (partingOf t u .entries) u

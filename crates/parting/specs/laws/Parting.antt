@@ -7,7 +7,8 @@ use lib.ListN.{length, take, drop, take-append-drop}
 use Rattle.entries.specs.Entries.{Entry, Table, written, Scan, between, within, unknown, opened, eat, scanFrom, scanBy, entriesOf}
 use Rattle.entries.specs.laws.ByTable.{length-written, scan-append, scan-written, whole-front, whole-reads}
 use Rattle.trace.specs.Trace.{traceTable, traceScan}
-use Rattle.parting.specs.Parting.{Begins, CommonStart, Longest, front, sharedEntries, sharedPart}
+use Rattle.wire.specs.Conditions.{_and_}
+use Rattle.parting.specs.Parting.{Begins, CommonStart, Longest, front, sharedEntries, sharedPart, partingOf}
 use Rattle.parting.specs.laws.Front.{begins-take, begins-on, front-first, front-second, front-most, front-same, front-none}
 
 -- ---- reading on keeps the entries read, and adds newer ones
@@ -62,6 +63,10 @@ module _ (t u : List ℕ) where
   pub part-reads : traceScan (sharedPart t u) ≡ between (sharedEntries t u)
   unfolding sharedPart
   part-reads = whole-reads traceTable (front t u)
+
+  pub part-number : (es : List Entry) × ((traceScan (sharedPart t u) ≡ between es) and (partingOf t u .entries ≡ length es) and (partingOf t u .next ≡ suc (length es)))
+  unfolding partingOf
+  part-number = (sharedEntries t u, (part-reads, (refl, refl)))
 
   part-begins : Begins (front t u) (sharedPart t u)
   unfolding sharedPart

@@ -5,16 +5,20 @@ use mathlib.Core.Path.{_≡_, refl, sym, ap, ap₂, _∙_}
 use mathlib.Core.List.{List, [], _∷_, _++_, append-assoc, append-nil}
 use native.Mathlib.Nat.{add-zero}
 use native.Mathlib.Omega.{arith}
-use lib.ListN.{length, length-append}
+use lib.ListN.{length, take, drop, length-append}
+use lib.Seq.{take-append-seam}
 use borrow.Author.Tests.{eq-eqb}
+use Rattle.wire.specs.Wire.{pasted}
 use Rattle.wire.specs.laws.Cases.{else-eq, else-b, else-lt}
+use Rattle.text.specs.Text.{joined}
+use Rattle.text.specs.laws.Pieces.{joined-append}
 use Rattle.entries.specs.Entries.{Entry, bytesOf, written, Scan, between, entriesOf, readingOf}
-use Rattle.entries.specs.laws.ByTable.{Sized, whole-reads}
+use Rattle.entries.specs.laws.ByTable.{Sized, Proper, scan-proper, whole-reads}
 use Rattle.trace.specs.Trace.{traceTable, traceScan}
 use Rattle.session.specs.Session.{freshSession}
 use Rattle.image.specs.Image.{imageOf}
-use Rattle.playing.specs.Playing.{heard, line, imageAfter, linesOf, stopLine, piecesOf, lineRoom, wholeEntry, steppedTo, stepped}
-use Rattle.playing.specs.Steps.{oldestFirst, imageFrom, linesFrom}
+use Rattle.playing.specs.Playing.{heard, line, imageAfter, linesOf, stopLine, piecesOf, lineRoom, wholeEntry, Stepped, steppedTo, stepped}
+use Rattle.playing.specs.Steps.{oldestFirst, imageFrom, linesFrom, goneWith, stepsFrom}
 
 -- ---- one entry more at the end
 
@@ -63,6 +67,41 @@ module _ (e : Entry) (sized : Sized traceTable e) where
   pub step-plays : (b : List ℕ) (number : ℕ) (d : List ℕ) → lineRoom ≤ length d → stepped b number (bytesOf e) d ≡ steppedTo number (heard b e) d
   unfolding stepped bytesOf
   step-plays b number d room = sym (else-b _ _ (ap not bytes-whole) (else-lt _ _ room refl))
+
+-- the line is what `step` counts of its buffer
+counted : (number : ℕ) (b : List ℕ) (e : Entry) (d : List ℕ)
+    → take (steppedTo number (heard b e) d .count) (steppedTo number (heard b e) d .out) ≡ joined (line number (heard b e))
+unfolding pasted
+counted number b e d = take-append-seam (joined (line number (heard b e))) (drop (0 + length (joined (line number (heard b e)))) d)
+
+gone-by : (d b : List ℕ) (n : ℕ) (es : List Entry) → Proper traceTable es → lineRoom ≤ length d
+    → stepsFrom d b n es ≡ record { image = imageFrom b es; text = joined (linesFrom b n es) }
+unfolding stepsFrom goneWith imageFrom linesFrom joined
+gone-by d b n [] p room = refl
+gone-by d b n (e ∷ es) p room =
+    ap (λ (x : Stepped). goneWith x (stepsFrom d (x .image) (suc n) es)) (step-plays e (p .0) b n d room)
+    ∙ ap (goneWith (steppedTo n (heard b e) d)) (gone-by d (heard b e .image) (suc n) es (p .1) room)
+    ∙ ap (λ (l : List ℕ). record { image = imageFrom (heard b e .image) es; text = l })
+    (ap (λ (l : List ℕ). l ++ joined (linesFrom (heard b e .image) (suc n) es)) (counted n b e d)
+    ∙ sym (joined-append (line n (heard b e)) (linesFrom (heard b e .image) (suc n) es)))
+
+proper-last : (xs : List Entry) (e : Entry) → Proper traceTable xs → Sized traceTable e → Proper traceTable (xs ++ (e ∷ []))
+proper-last [] e p h = (h, tt)
+proper-last (x ∷ xs) e p h = (p .0, proper-last xs e (p .1) h)
+
+proper-oldest : (es : List Entry) → Proper traceTable es → Proper traceTable (oldestFirst es)
+unfolding oldestFirst
+proper-oldest [] p = tt
+proper-oldest (e ∷ es) p = proper-last (oldestFirst es) e (proper-oldest es (p .1)) (p .0)
+
+-- the whole entries of a trace, one after the other through `step`
+pub steps-whole : (t d : List ℕ) → lineRoom ≤ length d
+    → stepsFrom d (imageOf freshSession) 1 (oldestFirst (entriesOf (traceScan t)))
+    ≡ record { image = imageAfter (entriesOf (traceScan t)); text = joined (linesOf (entriesOf (traceScan t))) }
+steps-whole t d room =
+    let es = entriesOf (traceScan t) in
+    gone-by d (imageOf freshSession) 1 (oldestFirst es) (proper-oldest es (scan-proper traceTable (written es) es (whole-reads traceTable t))) room
+    ∙ ap₂ (λ (i : List ℕ) (l : List (List ℕ)). record { image = i; text = joined l }) (image-by-steps es) (lines-by-steps es)
 
 -- ---- a broken trace plays as its whole entries do, and then stops
 

@@ -11,7 +11,7 @@ use lib.ListN.{length, take, drop}
 use borrow.Author.Tests.{ltb-false}
 use Rattle.wire.specs.Wire.{pasted, beNat}
 use Rattle.wire.specs.laws.Cases.{if-lt, else-lt, if-eq, else-eq, if-ne, else-ne}
-use Rattle.text.specs.Text.{Sheet, sheet, ascii, putOn, putAll, atFront, lineEnd, decimal}
+use Rattle.text.specs.Text.{Sheet, sheet, ascii, putOn, putAll, fromFront, lineEnd, decimal}
 use Rattle.text.specs.laws.Pieces.{same-pieces, put-fits}
 use Rattle.listing.specs.Listing.{tooLong, listing, longest, listed, listedLength}
 use Rattle.listing.specs.laws.Lengths.{length-listing}
@@ -21,7 +21,7 @@ use Rattle.answers.specs.Answers.{lineText, complaintText, callText, who
 
 -- ---- what is wrong: v is the variant that it is
 
-pub complains : (d : List ℕ) (column : ℕ) {s : Sheet} {w v : Wrong} → w ≡ v → s ≡ atFront d (complaintText v column) → s ≡ atFront d (complaintText w column)
+pub complains : (d : List ℕ) (column : ℕ) {s : Sheet} {w v : Wrong} → w ≡ v → s ≡ fromFront d (complaintText v column) → s ≡ fromFront d (complaintText w column)
 complains d column e = same-pieces (sheet d 0) (ap (λ (x : Wrong). complaintText x column) (sym e))
 
 -- ---- after the session answer
@@ -79,7 +79,7 @@ module _ (reason at : ℕ) where
 -- ---- the listing
 
 listed-by : (j d : List ℕ) (t : Bool) → ltb (length d) longest ≡ t
-    → sheet (cond t d (pasted 0 (listing j) d)) (cond t 0 (length (listing j))) ≡ atFront d (cond t [] (listing j ∷ []))
+    → sheet (cond t d (pasted 0 (listing j) d)) (cond t 0 (length (listing j))) ≡ fromFront d (cond t [] (listing j ∷ []))
 unfolding putAll
 listed-by j d true e = refl
 listed-by j d false e =
@@ -88,11 +88,11 @@ listed-by j d false e =
     ∙ put-fits 0 (listing j) d (omega arith) (omega (arith, length-listing j)) refl
 
 module _ (j : List ℕ) (used : ℕ) (d : List ℕ) where
-  pub list-long : {s : Sheet} → length j < used → s ≡ putOn (sheet d 0) tooLong → s ≡ atFront d (listText (length d) j used)
+  pub list-long : {s : Sheet} → length j < used → s ≡ putOn (sheet d 0) tooLong → s ≡ fromFront d (listText (length d) j used)
   unfolding listText putAll
   list-long h = same-pieces (sheet d 0) (if-lt (tooLong ∷ []) _ h refl)
 
   pub list-used : {d′ : List ℕ} {n : ℕ} → used ≤ length j → n ≡ listedLength (take used j) d → d′ ≡ listed (take used j) d
-      → sheet d′ n ≡ atFront d (listText (length d) j used)
+      → sheet d′ n ≡ fromFront d (listText (length d) j used)
   unfolding listText listed listedLength
   list-used h p q = ap₂ sheet q p ∙ listed-by (take used j) d (ltb (length d) longest) refl ∙ ap (putAll (sheet d 0)) (else-lt _ _ h refl)

@@ -2,7 +2,7 @@
 ghost use mathlib.Core.Path.{_≡_};
 ghost use lib.ListN.{length, take, drop};
 ghost use Rattle.io.specs.Counts.{Counts};
-ghost use Rattle.text.specs.Text.{sheet, ascii, putOn, putAll, atFront, lineEnd};
+ghost use Rattle.text.specs.Text.{sheet, ascii, putOn, putAll, fromFront, lineEnd};
 ghost use Rattle.places.specs.Reasons.{wordsFor};
 ghost use Rattle.answers.specs.Answers.{lineText, columnText, imageComplaint, complaintText, replyLength, replyText, bellText, rungText, kindText, whyText, imageText, listText, journalText, helpText};
 use orders::Wrong;
@@ -16,7 +16,7 @@ fn put_end(out: &mut [u8], at: usize) -> usize
 
 pub fn line(out: &mut [u8], s: &[u8]) -> usize
     ensures { λ r. ⌜ Counts r (now (out .exit)) ⌝ }
-    ensures { λ r. ⌜ sheet (now (out .exit)) r ≡ atFront (now (out .entry)) (lineText (now (s .entry))) ⌝ }
+    ensures { λ r. ⌜ sheet (now (out .exit)) r ≡ fromFront (now (out .entry)) (lineText (now (s .entry))) ⌝ }
 {
     let end = text::put(out, 0, s);
     put_end(out, end)
@@ -26,7 +26,7 @@ pub fn line(out: &mut [u8], s: &[u8]) -> usize
 
 fn at_column(out: &mut [u8], what: &[u8], column: usize) -> usize
     ensures { λ r. ⌜ Counts r (now (out .exit)) ⌝ }
-    ensures { λ r. ⌜ sheet (now (out .exit)) r ≡ atFront (now (out .entry)) (columnText (now (what .entry)) column) ⌝ }
+    ensures { λ r. ⌜ sheet (now (out .exit)) r ≡ fromFront (now (out .entry)) (columnText (now (what .entry)) column) ⌝ }
 {
     let mark = text::put(out, 0, b"? ");
     let words = text::put(out, mark, what);
@@ -37,7 +37,7 @@ fn at_column(out: &mut [u8], what: &[u8], column: usize) -> usize
 
 fn not_an_image(out: &mut [u8]) -> usize
     ensures { λ r. ⌜ Counts r (now (out .exit)) ⌝ }
-    ensures { λ r. ⌜ sheet (now (out .exit)) r ≡ atFront (now (out .entry)) imageComplaint ⌝ }
+    ensures { λ r. ⌜ sheet (now (out .exit)) r ≡ fromFront (now (out .entry)) imageComplaint ⌝ }
 {
     let mark = text::put(out, 0, b"? image must be ");
     let number = text::put_decimal(out, mark, orders::IMAGE as u64);
@@ -46,7 +46,7 @@ fn not_an_image(out: &mut [u8]) -> usize
 
 pub fn complaint(out: &mut [u8], what: Wrong, column: usize) -> usize
     ensures { λ r. ⌜ Counts r (now (out .exit)) ⌝ }
-    ensures { λ r. ⌜ sheet (now (out .exit)) r ≡ atFront (now (out .entry)) (complaintText what column) ⌝ }
+    ensures { λ r. ⌜ sheet (now (out .exit)) r ≡ fromFront (now (out .entry)) (complaintText what column) ⌝ }
 {
     match what {
         Wrong::LongLine => at_column(out, b"line over 32768 bytes", column),
@@ -80,7 +80,7 @@ fn reply_len(reply: &[u8]) -> usize
 // The session answer, and after 0 the reply.
 pub fn reply(out: &mut [u8], answer: u8, bytes: &[u8]) -> usize
     ensures { λ r. ⌜ Counts r (now (out .exit)) ⌝ }
-    ensures { λ r. ⌜ sheet (now (out .exit)) r ≡ atFront (now (out .entry)) (replyText answer (now (bytes .entry))) ⌝ }
+    ensures { λ r. ⌜ sheet (now (out .exit)) r ≡ fromFront (now (out .entry)) (replyText answer (now (bytes .entry))) ⌝ }
 {
     let at = text::put_decimal(out, 0, answer as u64);
     if answer != 0 {
@@ -103,7 +103,7 @@ fn put_bell(out: &mut [u8], at: usize, bell: u16) -> usize
 // The session answer, and after 0 the response and the doorbell's four digits.
 pub fn rung(out: &mut [u8], answer: u8, response: &[u8], bell: u16) -> usize
     ensures { λ r. ⌜ Counts r (now (out .exit)) ⌝ }
-    ensures { λ r. ⌜ sheet (now (out .exit)) r ≡ atFront (now (out .entry)) (rungText answer (now (response .entry)) bell) ⌝ }
+    ensures { λ r. ⌜ sheet (now (out .exit)) r ≡ fromFront (now (out .entry)) (rungText answer (now (response .entry)) bell) ⌝ }
 {
     let at = text::put_decimal(out, 0, answer as u64);
     if answer != 0 {
@@ -117,7 +117,7 @@ pub fn rung(out: &mut [u8], answer: u8, response: &[u8], bell: u16) -> usize
 // The session answer of an undo or redo, and after 0 the kind.
 pub fn with_kind(out: &mut [u8], answer: u8, kind: u8) -> usize
     ensures { λ r. ⌜ Counts r (now (out .exit)) ⌝ }
-    ensures { λ r. ⌜ sheet (now (out .exit)) r ≡ atFront (now (out .entry)) (kindText answer kind) ⌝ }
+    ensures { λ r. ⌜ sheet (now (out .exit)) r ≡ fromFront (now (out .entry)) (kindText answer kind) ⌝ }
 {
     let at = text::put_decimal(out, 0, answer as u64);
     if answer != 0 {
@@ -147,7 +147,7 @@ fn put_reason(out: &mut [u8], at: usize, reason: u8) -> usize
 // The data byte that the last OCC call had wrong and the reason by its number, of which 0 is none.
 pub fn why(out: &mut [u8], reason: u8, at: u16) -> usize
     ensures { λ r. ⌜ Counts r (now (out .exit)) ⌝ }
-    ensures { λ r. ⌜ sheet (now (out .exit)) r ≡ atFront (now (out .entry)) (whyText reason at) ⌝ }
+    ensures { λ r. ⌜ sheet (now (out .exit)) r ≡ fromFront (now (out .entry)) (whyText reason at) ⌝ }
 {
     if reason == 0 {
         return line(out, b"0");
@@ -160,7 +160,7 @@ pub fn why(out: &mut [u8], reason: u8, at: u16) -> usize
 
 pub fn image(out: &mut [u8], bytes: &[u8]) -> usize
     ensures { λ r. ⌜ Counts r (now (out .exit)) ⌝ }
-    ensures { λ r. ⌜ sheet (now (out .exit)) r ≡ atFront (now (out .entry)) (imageText (now (bytes .entry))) ⌝ }
+    ensures { λ r. ⌜ sheet (now (out .exit)) r ≡ fromFront (now (out .entry)) (imageText (now (bytes .entry))) ⌝ }
 {
     let name = text::put(out, 0, b"image ");
     let end = text::put_hexes(out, name, bytes);
@@ -168,7 +168,7 @@ pub fn image(out: &mut [u8], bytes: &[u8]) -> usize
 }
 
 fn list(out: &mut [u8], j: &[u8], used: usize) -> usize
-    ensures { λ r. ⌜ sheet (now (out .exit)) r ≡ atFront (now (out .entry)) (listText (length (now (out .entry))) (now (j .entry)) used) ⌝ }
+    ensures { λ r. ⌜ sheet (now (out .exit)) r ≡ fromFront (now (out .entry)) (listText (length (now (out .entry))) (now (j .entry)) used) ⌝ }
 {
     if j.len() < used {
         return text::put(out, 0, b"too long\n");
@@ -179,7 +179,7 @@ fn list(out: &mut [u8], j: &[u8], used: usize) -> usize
 // The listing of the journal's first `used` bytes, and the line that ends it.
 pub fn journal(out: &mut [u8], j: &[u8], used: usize) -> usize
     ensures { λ r. ⌜ Counts r (now (out .exit)) ⌝ }
-    ensures { λ r. ⌜ sheet (now (out .exit)) r ≡ atFront (now (out .entry)) (journalText (length (now (out .entry))) (now (j .entry)) used) ⌝ }
+    ensures { λ r. ⌜ sheet (now (out .exit)) r ≡ fromFront (now (out .entry)) (journalText (length (now (out .entry))) (now (j .entry)) used) ⌝ }
 {
     let end = list(out, j, used);
     text::put(out, end, b".\n")
@@ -187,7 +187,7 @@ pub fn journal(out: &mut [u8], j: &[u8], used: usize) -> usize
 
 // The words for calls.
 fn put_calls(out: &mut [u8]) -> usize
-    ensures { λ r. ⌜ sheet (now (out .exit)) r ≡ atFront (now (out .entry)) (take 4 helpText) ⌝ }
+    ensures { λ r. ⌜ sheet (now (out .exit)) r ≡ fromFront (now (out .entry)) (take 4 helpText) ⌝ }
 {
     let a = text::put(
         out,
@@ -249,7 +249,7 @@ fn put_sends(out: &mut [u8], at: usize) -> usize
 
 pub fn help(out: &mut [u8]) -> usize
     ensures { λ r. ⌜ Counts r (now (out .exit)) ⌝ }
-    ensures { λ r. ⌜ sheet (now (out .exit)) r ≡ atFront (now (out .entry)) helpText ⌝ }
+    ensures { λ r. ⌜ sheet (now (out .exit)) r ≡ fromFront (now (out .entry)) helpText ⌝ }
 {
     let calls = put_calls(out);
     let sessions = put_sessions(out, calls);

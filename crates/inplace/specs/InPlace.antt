@@ -13,7 +13,7 @@ use Rattle.image.specs.Image.{imageLength, imageOf, sessionIn}
 use Rattle.inplace.specs.declared.Told.{Told}
 
 -- h is the head that stands in these bytes, which are an image
-pub record Stands (h : Head) (b : List ℕ) : Type 0 where
+pub record HeadStands (h : Head) (b : List ℕ) : Type 0 where
   pub long : length b ≡ imageLength
   pub image : b ≡ imageOf (sessionIn h b)
 

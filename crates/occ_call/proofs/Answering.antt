@@ -19,8 +19,8 @@ use Rattle.change.specs.declared.Tables.{Tables}
 use Rattle.occ.specs.declared.Verdict.{Verdict}
 use Rattle.occ.specs.declared.Verdict.the-variants.{Refuse, Poll, Make}
 use Rattle.occ.specs.declared.Judged.{Judged}
-use Rattle.places.specs.declared.Found.{Found}
-use Rattle.places.specs.declared.Found.the-variants.{Nothing}
+use Rattle.places.specs.declared.Blame.{Blame}
+use Rattle.places.specs.declared.Blame.the-variants.{Nothing}
 use Rattle.session.specs.Session.{Carried, wellFormed, carriedOf}
 use Rattle.session.specs.declared.Session.{Session}
 use Rattle.occ_call.specs.Occ.{OccResult, answered, kept, says, knownSender, refusalOf, occRefusal, carriedSays, occMade, toldOf, verdictSays, judgedSays, askedFor, askedOf, occRead, occFrom, occCall, faultFor, whyRead, whyFrom, occWhy, besideOf, occLeft, occOn}
@@ -28,7 +28,7 @@ use Rattle.wire.specs.Wire.{Bytes}
 use Rattle.image.specs.declared.Head.{Head}
 use Rattle.image.specs.Image.{imageLength, imageOf, headIn, sessionIn}
 use Rattle.inplace.specs.declared.Told.{Told}
-use Rattle.inplace.specs.InPlace.{Stands, carriedIn}
+use Rattle.inplace.specs.InPlace.{HeadStands, carriedIn}
 use Rattle.inplace.specs.laws.InPlace.{Parts, parts, as-read, stands}
 
 -- no refusal is due: the session is well formed, the sender known and both buffers are long enough
@@ -66,23 +66,23 @@ faultless (Make ch) held kind d h = refl
 
 -- ---- a command that is due an answer: h is the head that stands in the lent bytes b
 
-module _ (h : Head) (b : List ℕ) (here : Stands h b) (sender : ℕ) (c d : List ℕ) where
+module _ (h : Head) (b : List ℕ) (here : HeadStands h b) (sender : ℕ) (c d : List ℕ) where
   abbrev s : Session
   s = sessionIn h b
 
   abbrev Hears : Told → List ℕ → List ℕ → Type 0
   Hears t y z = Parts t y z (occLeft (occRead s sender c d) (whyRead s sender c))
 
-  abbrev faultBeside : Verdict → Found
+  abbrev faultBeside : Verdict → Blame
   faultBeside v = faultFor v (h .held) (getD c 1 0) (dataOf c)
 
   module _ (j : Judged) (asked : j ≡ askedOf (h .held) (h .worked) (h .next) sender c) where
-    by-verdict : (q : OccResult) (f : Found) → q ≡ verdictSays s (getD c 0 0) (getD c 1 0) d (j .tables) (j .verdict) → f ≡ faultBeside (j .verdict)
+    by-verdict : (q : OccResult) (f : Blame) → q ≡ verdictSays s (getD c 0 0) (getD c 1 0) d (j .tables) (j .verdict) → f ≡ faultBeside (j .verdict)
         → occLeft q f ≡ occLeft (occRead s sender c d) (whyRead s sender c)
     unfolding occRead whyRead judgedSays sessionIn
     by-verdict q f e g = λ i. occLeft ((e ∙ ap (judgedSays s (getD c 0 0) (getD c 1 0) d) asked) i) ((g ∙ ap (λ (k : Judged). faultBeside (k .verdict)) asked) i)
 
-    pub told-in : (t : Told) (z : List ℕ) (f : Found) → t ≡ besideOf 0 f → f ≡ faultBeside (j .verdict) → (tagOf the-type (j .verdict) ≡ 2 → ⊥)
+    pub told-in : (t : Told) (z : List ℕ) (f : Blame) → t ≡ besideOf 0 f → f ≡ faultBeside (j .verdict) → (tagOf the-type (j .verdict) ≡ 2 → ⊥)
         → z ≡ toldOf (j .verdict) (h .held) (h .worked) (getD c 0 0) (getD c 1 0) d → Hears t b z
     unfolding occLeft says answered sessionIn
     told-in t z f p g n q =

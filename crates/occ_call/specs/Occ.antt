@@ -18,8 +18,8 @@ use Rattle.occ.specs.declared.Verdict.the-variants.{Refuse, Poll, Make}
 use Rattle.occ.specs.declared.Judged.{Judged}
 use Rattle.places.specs.Reasons.{named}
 use Rattle.places.specs.Places.{faultOf}
-use Rattle.places.specs.declared.Found.{Found}
-use Rattle.places.specs.declared.Found.the-variants.{Nothing, Wrong}
+use Rattle.places.specs.declared.Blame.{Blame}
+use Rattle.places.specs.declared.Blame.the-variants.{Nothing, Wrong}
 use Rattle.session.specs.Session.{Carried, wellFormed, carriedOf}
 use Rattle.session.specs.declared.Session.{Session}
 use Rattle.image.specs.Image.{imageLength, imageOf, sessionOf}
@@ -103,29 +103,29 @@ occCall s sender c d = occFrom (occRefusal s sender (length c) (length d)) s sen
 -- ---- document 02, c: beside answer 0 stands the first data byte that is wrong, and why
 
 -- "0 when the status isn't 0x13"
-unfoldable pub faultFor : Verdict → Record → ℕ → List ℕ → Found
+unfoldable pub faultFor : Verdict → Record → ℕ → List ℕ → Blame
 faultFor (Refuse status) held kind d = cond (not (eqb status 0x13)) Nothing (faultOf held kind d)
 faultFor Poll held kind d = Nothing
 faultFor (Make change) held kind d = Nothing
 
-unfoldable pub whyRead : Session → ℕ → List ℕ → Found
+unfoldable pub whyRead : Session → ℕ → List ℕ → Blame
 whyRead s sender c = faultFor (askedOf (s .held) (s .worked) (s .next) sender c .verdict) (s .held) (getD c 1 0) (dataOf c)
 
 -- none beside any other answer
-unfoldable pub whyFrom : ℕ → Session → ℕ → List ℕ → Found
+unfoldable pub whyFrom : ℕ → Session → ℕ → List ℕ → Blame
 whyFrom n s sender c = cond (not (eqb n 0)) Nothing (whyRead s sender c)
 
-unfoldable pub occWhy : Session → ℕ → List ℕ → List ℕ → Found
+unfoldable pub occWhy : Session → ℕ → List ℕ → List ℕ → Blame
 occWhy s sender c d = whyFrom (occRefusal s sender (length c) (length d)) s sender c
 
 -- the reason's number and the byte's
-unfoldable pub besideOf : ℕ → Found → Told
+unfoldable pub besideOf : ℕ → Blame → Told
 besideOf n Nothing = record { answer = n; small = 0; beside = 0 }
 besideOf n (Wrong x) = record { answer = n; small = named (x .reason) .number; beside = x .at }
 
 -- ---- on a session that is lent as its image's bytes
 
-unfoldable pub occLeft : OccResult → Found → Left
+unfoldable pub occLeft : OccResult → Blame → Left
 occLeft q why = record { told = besideOf (q .outcome .answer) why; image = imageOf (q .outcome .session); reply = q .reply }
 
 unfoldable pub occOn : List ℕ → ℕ → List ℕ → List ℕ → Left

@@ -7,13 +7,13 @@ ghost use Rattle.occ_call.specs.Occ.{knownSender, refusalOf, askedOf, to
 ghost use Rattle.packet.specs.Packet.{dataOf};
 ghost use Rattle.session.specs.Session.{wellFormed};
 ghost use Rattle.image.specs.Image.{sessionIn};
-ghost use Rattle.inplace.specs.InPlace.{Stands};
+ghost use Rattle.inplace.specs.InPlace.{HeadStands};
 use change::Edit;
 use image::Head;
 use inplace::Told;
 use occ::Judged;
 use occ::Verdict;
-use places::Found;
+use places::Blame;
 use record::Record;
 use record::Worked;
 
@@ -71,25 +71,25 @@ fn tell(verdict: Verdict, held: Record, worked: Worked, seq: u8, kind: u8, reply
 }
 
 // The first wrong byte of a 0x13; other statuses have none.
-fn why(verdict: Verdict, held: Record, command: &[u8]) -> Found
+fn why(verdict: Verdict, held: Record, command: &[u8]) -> Blame
     requires { ⌜ 4 ≤ length (now command) ⌝ }
     ensures { λ x. ⌜ x ≡ faultFor verdict held (getD (now (command .entry)) 1 0) (dataOf (now (command .entry))) ⌝ }
 {
     let Verdict::Refuse(status) = verdict else {
-        return Found::Nothing;
+        return Blame::Nothing;
     };
     if status != 0x13 {
-        return Found::Nothing;
+        return Blame::Nothing;
     }
     let kind = command[1];
     places::find(held, kind, packet::data_part(command))
 }
 
 // Answer 0, and beside it reason and place.
-fn answer_why(found: Found) -> Told
+fn answer_why(found: Blame) -> Told
     ensures { λ x. ⌜ x ≡ besideOf 0 found ⌝ }
 {
-    let Found::Wrong(fault) = found else {
+    let Blame::Wrong(fault) = found else {
         return inplace::answer_with(0, 0);
     };
     let reason = fault.reason;
@@ -103,7 +103,7 @@ fn answer_why(found: Found) -> Told
 
 // A command that is due an answer: judged, carried out if it asks for a change, and replied to.
 fn hear(lent: &mut [u8], h: Head, sender: u8, command: &[u8], reply: &mut [u8]) -> Told
-    requires { ⌜ Stands h (now lent) × (wellFormed (sessionIn h (now lent)) ≡ true) × (4 ≤ length (now command)) ⌝ }
+    requires { ⌜ HeadStands h (now lent) × (wellFormed (sessionIn h (now lent)) ≡ true) × (4 ≤ length (now command)) ⌝ }
     ensures { λ x. ⌜ x ≡ occLeft (occRead (sessionIn h (now (lent .entry))) sender (now (command .entry)) (now (reply .entry))) (whyRead (sessionIn h (now (lent .entry))) sender (now (command .entry))) .told ⌝ }
     ensures { λ _. ⌜ now (lent .exit) ≡ occLeft (occRead (sessionIn h (now (lent .entry))) sender (now (command .entry)) (now (reply .entry))) (whyRead (sessionIn h (now (lent .entry))) sender (now (command .entry))) .image ⌝ }
     ensures { λ _. ⌜ now (reply .exit) ≡ occLeft (occRead (sessionIn h (now (lent .entry))) sender (now (command .entry)) (now (reply .entry))) (whyRead (sessionIn h (now (lent .entry))) sender (now (command .entry))) .reply ⌝ }

@@ -15,8 +15,8 @@ use Rattle.occ.specs.Conditions.{Pends}
 use Rattle.places.specs.declared.Reason.{Reason}
 use Rattle.places.specs.declared.Reason.the-variants.{BadVersion, BadCount, OutOfRange, Repeated, Clash, NotPending}
 use Rattle.places.specs.declared.Fault.{Fault}
-use Rattle.places.specs.declared.Found.{Found}
-use Rattle.places.specs.declared.Found.the-variants.{Nothing, Wrong}
+use Rattle.places.specs.declared.Blame.{Blame}
+use Rattle.places.specs.declared.Blame.the-variants.{Nothing, Wrong}
 use Rattle.places.specs.Reasons.{named}
 
 -- faults of a kind: those that it holds of
@@ -116,6 +116,6 @@ unfoldable pub NotAfter : Fault → Fault → Type 0
 NotAfter x y = (x .at < y .at) ⊎ ((x .at ≡ y .at) and (named (x .reason) .number ≤ named (y .reason) .number))
 
 -- what is found of some faults: nothing where there are none, or the least of them
-pub data Least (F : Faults) : Found → Type 0 where
+pub data Least (F : Faults) : Blame → Type 0 where
   no-fault : ((x : Fault) → F x → ⊥) → Least F Nothing
   least : (x : Fault) → F x → ((y : Fault) → F y → NotAfter x y) → Least F (Wrong x)

@@ -25,7 +25,7 @@ pub struct Fault {
     pub at: u16,
 }
 
-pub enum Found {
+pub enum Blame {
     Nothing,
     Wrong(Fault),
 }
@@ -43,11 +43,11 @@ pub fn number(reason: Reason) -> u8
     }
 }
 
-fn found_at(reason: Reason, at: usize) -> Found
+fn found_at(reason: Reason, at: usize) -> Blame
     requires { ⌜ at < 65536 ⌝ }
     ensures { λ x. ⌜ x ≡ wrong reason at ⌝ }
 {
-    Found::Wrong(Fault {
+    Blame::Wrong(Fault {
         reason: reason,
         at: at as u16,
     })
@@ -55,35 +55,35 @@ fn found_at(reason: Reason, at: usize) -> Found
 
 // ---- the small commands
 
-fn poll(d: &[u8]) -> Found
+fn poll(d: &[u8]) -> Blame
     ensures { λ x. ⌜ x ≡ pollFault (now (d .entry)) ⌝ }
 {
     if d.len() != 1 {
-        return Found::Nothing;
+        return Blame::Nothing;
     }
     if d[0] != 0x10 {
         return found_at(Reason::BadVersion, 1);
     }
-    Found::Nothing
+    Blame::Nothing
 }
 
-fn clear_log(logs: [Log; 4], d: &[u8]) -> Found
+fn clear_log(logs: [Log; 4], d: &[u8]) -> Blame
     ensures { λ x. ⌜ x ≡ clearFault logs (now (d .entry)) ⌝ }
 {
     if d.len() != 1 {
-        return Found::Nothing;
+        return Blame::Nothing;
     }
     if 4 <= change::find(logs, d[0]) {
         return found_at(Reason::NotPending, 1);
     }
-    Found::Nothing
+    Blame::Nothing
 }
 
-fn set_state(d: &[u8]) -> Found
+fn set_state(d: &[u8]) -> Blame
     ensures { λ x. ⌜ x ≡ stateFault (now (d .entry)) ⌝ }
 {
     if d.len() != 3 {
-        return Found::Nothing;
+        return Blame::Nothing;
     }
     let state = d[1];
     let last = d[2];
@@ -99,26 +99,26 @@ fn set_state(d: &[u8]) -> Found
     if last != 0 {
         return found_at(Reason::OutOfRange, 3);
     }
-    Found::Nothing
+    Blame::Nothing
 }
 
-fn role_format(d: &[u8]) -> Found
+fn role_format(d: &[u8]) -> Blame
     ensures { λ x. ⌜ x ≡ roleFault (now (d .entry)) ⌝ }
 {
     if d.len() != 2 {
-        return Found::Nothing;
+        return Blame::Nothing;
     }
     if 1 < d[1] {
         return found_at(Reason::OutOfRange, 2);
     }
-    Found::Nothing
+    Blame::Nothing
 }
 
-fn caps_format(d: &[u8]) -> Found
+fn caps_format(d: &[u8]) -> Blame
     ensures { λ x. ⌜ x ≡ capsFault (now (d .entry)) ⌝ }
 {
     if d.len() != 8 {
-        return Found::Nothing;
+        return Blame::Nothing;
     }
     if d[1] != 0x10 {
         return found_at(Reason::BadVersion, 2);
@@ -126,26 +126,26 @@ fn caps_format(d: &[u8]) -> Found
     if wire::be16(d, 4) < wire::be16(d, 2) {
         return found_at(Reason::Clash, 5);
     }
-    Found::Nothing
+    Blame::Nothing
 }
 
-fn user_cap(got: u8, caps: Caps, d: &[u8]) -> Found
+fn user_cap(got: u8, caps: Caps, d: &[u8]) -> Blame
     ensures { λ x. ⌜ x ≡ userFault got caps (now (d .entry)) ⌝ }
 {
     if d.len() != 2 {
-        return Found::Nothing;
+        return Blame::Nothing;
     }
     if !occ::user_allowed(got, caps, wire::be16(d, 0)) {
         return found_at(Reason::OutOfRange, 1);
     }
-    Found::Nothing
+    Blame::Nothing
 }
 
-fn reset_prep(d: &[u8]) -> Found
+fn reset_prep(d: &[u8]) -> Blame
     ensures { λ x. ⌜ x ≡ resetFault (now (d .entry)) ⌝ }
 {
     if d.len() != 2 {
-        return Found::Nothing;
+        return Blame::Nothing;
     }
     let reason = d[1];
     if d[0] != 0 {
@@ -154,38 +154,38 @@ fn reset_prep(d: &[u8]) -> Found
     if 2 < reason {
         return found_at(Reason::OutOfRange, 2);
     }
-    Found::Nothing
+    Blame::Nothing
 }
 
 // ---- the formats with sets
 
 // Throttle sets are of twelve bytes, thermal ones of four.
-pub enum Table {
+pub enum SetTable {
     Throttles,
     Thermal,
 }
 
-fn width(table: Table) -> usize
+fn width(table: SetTable) -> usize
     ensures { λ x. ⌜ x ≡ widthOf table ⌝ }
 {
     match table {
-        Table::Throttles => 12,
-        Table::Thermal => 4,
+        SetTable::Throttles => 12,
+        SetTable::Thermal => 4,
     }
 }
 
 // The greatest hub or FRU.
-fn most(table: Table) -> u8
+fn most(table: SetTable) -> u8
     ensures { λ x. ⌜ x ≡ mostOf table ⌝ }
 {
     match table {
-        Table::Throttles => 7,
-        Table::Thermal => 2,
+        SetTable::Throttles => 7,
+        SetTable::Thermal => 2,
     }
 }
 
 // The bytes before the i-th set, from 0.
-fn start(table: Table, i: usize) -> usize
+fn start(table: SetTable, i: usize) -> usize
     requires { ⌜ i < 256 ⌝ }
     ensures { λ x. ⌜ x ≡ startOf table i ⌝ }
 {
@@ -193,7 +193,7 @@ fn start(table: Table, i: usize) -> usize
 }
 
 // Whether the sets at two places are of one pair or FRU.
-fn same_number(table: Table, d: &[u8], one: usize, other: usize) -> bool
+fn same_number(table: SetTable, d: &[u8], one: usize, other: usize) -> bool
     requires { ⌜ (one + 1 < length (now d)) × (other + 1 < length (now d)) ⌝ }
     ensures { λ x. ⌜ x ≡ sameNumber table (now (d .entry)) one other ⌝ }
 {
@@ -201,12 +201,12 @@ fn same_number(table: Table, d: &[u8], one: usize, other: usize) -> bool
         return false;
     }
     match table {
-        Table::Throttles => d[one + 1] == d[other + 1],
-        Table::Thermal => true,
+        SetTable::Throttles => d[one + 1] == d[other + 1],
+        SetTable::Thermal => true,
     }
 }
 
-fn seen_before(table: Table, d: &[u8], i: usize) -> bool
+fn seen_before(table: SetTable, d: &[u8], i: usize) -> bool
     requires { ⌜ (i < 255) × (startOf table i + 1 < length (now d)) ⌝ }
     ensures { λ x. ⌜ x ≡ seenBefore table (now (d .entry)) i ⌝ }
 {
@@ -222,26 +222,26 @@ fn seen_before(table: Table, d: &[u8], i: usize) -> bool
 }
 
 // What comes after a set's first byte: the MBA, or DVFS and ERROR.
-fn rest_fault(table: Table, d: &[u8], first: usize) -> Found
+fn rest_fault(table: SetTable, d: &[u8], first: usize) -> Blame
     requires { ⌜ (first + widthOf table ≤ length (now d)) × (first < 65000) ⌝ }
     ensures { λ x. ⌜ x ≡ restFault table (now (d .entry)) first ⌝ }
 {
     match table {
-        Table::Throttles => {
+        SetTable::Throttles => {
             if 1 < d[first + 1] {
                 return found_at(Reason::OutOfRange, first + 2);
             }
         }
-        Table::Thermal => {
+        SetTable::Thermal => {
             if !formed::in_order(d[first + 1], d[first + 2]) {
                 return found_at(Reason::Clash, first + 3);
             }
         }
     }
-    Found::Nothing
+    Blame::Nothing
 }
 
-fn set_fault(table: Table, d: &[u8], i: usize) -> Found
+fn set_fault(table: SetTable, d: &[u8], i: usize) -> Blame
     requires { ⌜ (i < 255) × (startOf table i + widthOf table ≤ length (now d)) ⌝ }
     ensures { λ x. ⌜ x ≡ setFault table (now (d .entry)) i ⌝ }
 {
@@ -255,30 +255,30 @@ fn set_fault(table: Table, d: &[u8], i: usize) -> Found
     rest_fault(table, d, first)
 }
 
-fn first_set(table: Table, d: &[u8], n: usize) -> Found
+fn first_set(table: SetTable, d: &[u8], n: usize) -> Blame
     requires { ⌜ (n < 256) × (startOf table n ≤ length (now d)) ⌝ }
     ensures { λ x. ⌜ x ≡ firstSet table (now (d .entry)) n ⌝ }
 {
     let mut i = 0;
     while i < n {
         let found = set_fault(table, d, i);
-        if let Found::Wrong(_) = found {
+        if let Blame::Wrong(_) = found {
             return found;
         }
         i += 1;
     }
-    Found::Nothing
+    Blame::Nothing
 }
 
-fn sets_format(table: Table, d: &[u8]) -> Found
+fn sets_format(table: SetTable, d: &[u8]) -> Blame
     ensures { λ x. ⌜ x ≡ setsFault table (now (d .entry)) ⌝ }
 {
     if d.len() < 3 {
-        return Found::Nothing;
+        return Blame::Nothing;
     }
     let n = d[2] as usize;
     if d.len() - 3 != n * width(table) {
-        return Found::Nothing;
+        return Blame::Nothing;
     }
     if d[1] != 0x10 {
         return found_at(Reason::BadVersion, 2);
@@ -291,24 +291,24 @@ fn sets_format(table: Table, d: &[u8]) -> Found
 
 // ---- every command
 
-fn configure(d: &[u8]) -> Found
+fn configure(d: &[u8]) -> Blame
     ensures { λ x. ⌜ x ≡ configureFault (now (d .entry)) ⌝ }
 {
     if d.len() == 0 {
-        return Found::Nothing;
+        return Blame::Nothing;
     }
     let format = d[0];
     match format {
         0x03 => role_format(d),
         0x07 => caps_format(d),
-        0x12 => sets_format(Table::Throttles, d),
-        0x13 => sets_format(Table::Thermal, d),
+        0x12 => sets_format(SetTable::Throttles, d),
+        0x13 => sets_format(SetTable::Thermal, d),
         _ => found_at(Reason::OutOfRange, 1),
     }
 }
 
 // Nothing where the type is unknown or its length is wrong: then no byte is judged.
-pub fn find(r: Record, kind: u8, d: &[u8]) -> Found
+pub fn find(r: Record, kind: u8, d: &[u8]) -> Blame
     ensures { λ x. ⌜ x ≡ faultOf r kind (now (d .entry)) ⌝ }
 {
     let got = r.received;
@@ -321,6 +321,6 @@ pub fn find(r: Record, kind: u8, d: &[u8]) -> Found
         0x21 => configure(d),
         0x22 => user_cap(got.caps, caps, d),
         0x25 => reset_prep(d),
-        0x01..=0x11 | 0x13..=0x1F | 0x23..=0x24 | 0x26..=0xFF => Found::Nothing,
+        0x01..=0x11 | 0x13..=0x1F | 0x23..=0x24 | 0x26..=0xFF => Blame::Nothing,
     }
 }

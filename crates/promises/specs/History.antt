@@ -15,8 +15,8 @@ use Rattle.occ.specs.declared.Judged.{Judged}
 use Rattle.occ.specs.declared.Verdict.{Verdict}
 use Rattle.occ.specs.declared.Verdict.the-variants.{Refuse, Poll, Make}
 use Rattle.sbe.specs.Mailbox as mailbox
-use Rattle.sbe.specs.declared.Verdict.{Verdict as Request}
-use Rattle.sbe.specs.declared.Verdict.the-variants.{Refuse as Declined, Make as Granted}
+use Rattle.sbe.specs.declared.Ruling.{Ruling}
+use Rattle.sbe.specs.declared.Ruling.the-variants.{Decline, Grant}
 use Rattle.session.specs.Session.{carriedOf}
 use Rattle.session.specs.declared.Session.{Session}
 use Rattle.occ_call.specs.Occ.{occRefusal, askedOf}
@@ -46,15 +46,15 @@ occVerdict s t (Make change) = adding s (record { change = change; tables = t })
 unfoldable pub occJudgement : Session → Judged → Deed
 occJudgement s j = occVerdict s (j .tables) (j .verdict)
 
-unfoldable pub sbeVerdict : Session → Request → Deed
-sbeVerdict s (Declined primary secondary) = keeps
-sbeVerdict s (Granted change) = adding s (record { change = change; tables = noTables })
+unfoldable pub sbeRuling : Session → Ruling → Deed
+sbeRuling s (Decline primary secondary) = keeps
+sbeRuling s (Grant change) = adding s (record { change = change; tables = noTables })
 
 -- the accepted calls that make an entry, and the accepted undos and redos
 unfoldable pub deed : Session → Call → Deed
 deed s (occ sender c d) =
     cond (not (eqb (occRefusal s sender (length c) (length d)) 0)) keeps (occJudgement s (askedOf (s .held) (s .worked) (s .next) sender c))
-deed s (sbe r d) = cond (not (eqb (sbeRefusal s (length r) (length d)) 0)) keeps (sbeVerdict s (mailbox.requestVerdict r))
+deed s (sbe r d) = cond (not (eqb (sbeRefusal s (length r) (length d)) 0)) keeps (sbeRuling s (mailbox.requestRuling r))
 deed s undo = cond (eqb (undoCall s .answer) 0) strikes keeps
 deed s redo = cond (eqb (redoCall s .answer) 0) unstrikes keeps
 
@@ -80,9 +80,9 @@ sinceAfter undos since strikes = since
 sinceAfter undos since unstrikes = since
 
 -- "The record equals what the remaining changes give, applied in order" to a starting record
-unfoldable pub replay : Record → List Edit → Record
-replay r [] = r
-replay r (e ∷ es) = putOf (replay r es) e .after
+unfoldable pub applied : Record → List Edit → Record
+applied r [] = r
+applied r (e ∷ es) = putOf (applied r es) e .after
 
 -- ---- any calls, one after the other
 
@@ -120,8 +120,8 @@ AllOfBytes (c ∷ cs) = OfBytes c × AllOfBytes cs
 -- ---- the demand, after calls that started from the record base
 
 pub record Demand3 (base : Record) (p : Run) : Type 0 where
-  pub record-is : p .session .held ≡ replay base (left (p .marks))
-  pub worked-is : p .session .worked ≡ workedOf (replay base (left (p .marks)))
+  pub record-is : p .session .held ≡ applied base (left (p .marks))
+  pub worked-is : p .session .worked ≡ workedOf (applied base (left (p .marks)))
   pub next-is : p .session .next ≡ suc (logsMade (p .marks))
   pub undo-is : undoCall (p .session) .answer ≡ undoAnswer (left (p .marks))
   pub redo-is : redoCall (p .session) .answer ≡ redoAnswer (p .since) (p .marks)

@@ -24,7 +24,7 @@ use Rattle.session.specs.declared.Session.{Session}
 use Rattle.inplace.specs.declared.Told.{Told}
 use Rattle.places.specs.Faults.{CommandFaults, NotAfter}
 use Rattle.places.specs.declared.Fault.{Fault}
-use Rattle.places.specs.declared.Found.the-variants.{Wrong}
+use Rattle.places.specs.declared.Blame.the-variants.{Wrong}
 use Rattle.occ_call.specs.Occ.{occCall, occWhy, OccAllows}
 use Rattle.occ_call.specs.laws.Came as occ-came
 use Rattle.sbe_call.specs.Sbe.{sbeCall, SbeAllows}

@@ -9,8 +9,8 @@ use Rattle.wire.specs.Wire.{beNat}
 use Rattle.wire.specs.laws.Cases.{if-le, else-le, if-lt, else-lt, else-eq, if-ne, else-ne}
 use Rattle.record.specs.declared.Area.{Area}
 use Rattle.change.specs.declared.Change.the-variants.{SetAreas}
-use Rattle.sbe.specs.declared.Verdict.{Verdict}
-use Rattle.sbe.specs.declared.Verdict.the-variants.{Refuse, Make}
+use Rattle.sbe.specs.declared.Ruling.{Ruling}
+use Rattle.sbe.specs.declared.Ruling.the-variants.{Decline, Grant}
 use Rattle.sbe.specs.Mailbox.{flagsOf, wordAt, registerAt, plainFlags, deadmanAt, deadmanOf, areaStatus, areaOf, areasAt, requestFor}
 
 -- a value given at a number that is known
@@ -25,11 +25,11 @@ module _ (r : List ℕ) {n : ℕ} (e : n ≡ beNat (take 2 (drop 2 r))) where
   pub plain-read : {t : Bool} → t ≡ plainFlags n → t ≡ plainFlags (flagsOf r)
   plain-read p = p ∙ ap plainFlags read
 
-  pub deadman-refused : 0x0400 ≤ n → Refuse 0x02 0x19 ≡ deadmanOf r
+  pub deadman-refused : 0x0400 ≤ n → Decline 0x02 0x19 ≡ deadmanOf r
   unfolding deadmanOf
   deadman-refused h = let k : 0x0400 ≤ flagsOf r = omega (arith, read) in if-le _ _ k refl
 
-  pub deadman-asked : {asked : ℕ} {x : Verdict} → n < 0x0400 → n % 0x0100 ≡ asked → x ≡ deadmanAt asked r → x ≡ deadmanOf r
+  pub deadman-asked : {asked : ℕ} {x : Ruling} → n < 0x0400 → n % 0x0100 ≡ asked → x ≡ deadmanAt asked r → x ≡ deadmanOf r
   unfolding deadmanOf
   deadman-asked h a p =
       let k : flagsOf r < 0x0400 = omega (arith, read) in
@@ -37,34 +37,34 @@ module _ (r : List ℕ) {n : ℕ} (e : n ≡ beNat (take 2 (drop 2 r))) where
 
 -- ---- the areas
 
-pub areas-read : (r : List ℕ) {ffdc pass front back : ℕ} {x : Verdict} → ffdc ≡ beNat (take 4 (drop 8 r)) → pass ≡ beNat (take 4 (drop 12 r))
+pub areas-read : (r : List ℕ) {ffdc pass front back : ℕ} {x : Ruling} → ffdc ≡ beNat (take 4 (drop 8 r)) → pass ≡ beNat (take 4 (drop 12 r))
     → front ≡ beNat (take 8 (drop 16 r)) → back ≡ beNat (take 8 (drop 24 r)) → x ≡ areasAt ffdc pass front back
     → x ≡ areasAt (wordAt 8 r) (wordAt 12 r) (registerAt 16 r) (registerAt 24 r)
 unfolding wordAt registerAt
 areas-read r p q f b e = e ∙ (λ i. areasAt (p i) (q i) (f i) (b i))
 
 module _ (ffdc pass front back : ℕ) {s : ℕ} (first : s ≡ areaStatus front ffdc) where
-  pub first-refused : (s ≡ 0 → ⊥) → Refuse 0x02 s ≡ areasAt ffdc pass front back
+  pub first-refused : (s ≡ 0 → ⊥) → Decline 0x02 s ≡ areasAt ffdc pass front back
   unfolding areasAt
-  first-refused h = if-ne _ _ (λ z. h (first ∙ z)) (ap (Refuse 0x02) first)
+  first-refused h = if-ne _ _ (λ z. h (first ∙ z)) (ap (Decline 0x02) first)
 
   module _ {t : ℕ} (fine : s ≡ 0) (second : t ≡ areaStatus back pass) where
-    pub second-refused : (t ≡ 0 → ⊥) → Refuse 0x02 t ≡ areasAt ffdc pass front back
+    pub second-refused : (t ≡ 0 → ⊥) → Decline 0x02 t ≡ areasAt ffdc pass front back
     unfolding areasAt
-    second-refused h = else-ne _ _ (sym first ∙ fine) (if-ne _ _ (λ z. h (second ∙ z)) (ap (Refuse 0x02) second))
+    second-refused h = else-ne _ _ (sym first ∙ fine) (if-ne _ _ (λ z. h (second ∙ z)) (ap (Decline 0x02) second))
 
-    pub areas-made : {a b : Area} → t ≡ 0 → a ≡ areaOf front ffdc → b ≡ areaOf back pass → Make (SetAreas (record { ffdc = a; pass = b })) ≡ areasAt ffdc pass front back
+    pub areas-made : {a b : Area} → t ≡ 0 → a ≡ areaOf front ffdc → b ≡ areaOf back pass → Grant (SetAreas (record { ffdc = a; pass = b })) ≡ areasAt ffdc pass front back
     unfolding areasAt
-    areas-made h p q = else-ne _ _ (sym first ∙ fine) (else-ne _ _ (sym second ∙ h) (λ i. Make (SetAreas (record { ffdc = p i; pass = q i }))))
+    areas-made h p q = else-ne _ _ (sym first ∙ fine) (else-ne _ _ (sym second ∙ h) (λ i. Grant (SetAreas (record { ffdc = p i; pass = q i }))))
 
 -- ---- the classes
 
 module _ (class command : ℕ) (r : List ℕ) (other : class ≡ 0xD1 → ⊥) where
-  pub class-below : class < 0xD1 → Refuse 0x01 0x01 ≡ requestFor class command r
+  pub class-below : class < 0xD1 → Decline 0x01 0x01 ≡ requestFor class command r
   unfolding requestFor
   class-below h = let k : class < 0xD3 = omega arith in else-eq _ _ other (if-lt _ _ k refl)
 
-  pub class-between : (class ≡ 0xD2 → ⊥) → 0xD1 ≤ class → class < 0xD7 → Refuse 0x01 0x02 ≡ requestFor class command r
+  pub class-between : (class ≡ 0xD2 → ⊥) → 0xD1 ≤ class → class < 0xD7 → Decline 0x01 0x02 ≡ requestFor class command r
   unfolding requestFor
   class-between n h m =
       let k : 0xD3 ≤ class = omega (arith, other, n) in
@@ -72,7 +72,7 @@ module _ (class command : ℕ) (r : List ℕ) (other : class ≡ 0xD1 → ⊥) w
       let d : class ≡ 0xD7 → ⊥ = λ z. omega arith in
       else-eq _ _ other (else-lt _ _ k (else-lt _ _ l (else-eq _ _ d refl)))
 
-  pub class-above : (class ≡ 0xD7 → ⊥) → 0xD7 ≤ class → Refuse 0x01 0x01 ≡ requestFor class command r
+  pub class-above : (class ≡ 0xD7 → ⊥) → 0xD7 ≤ class → Decline 0x01 0x01 ≡ requestFor class command r
   unfolding requestFor
   class-above n h =
       let k : 0xD3 ≤ class = omega arith in

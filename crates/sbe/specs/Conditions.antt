@@ -7,13 +7,13 @@ use mathlib.Core.List.{List}
 use lib.ListN.{getD}
 use Rattle.record.specs.declared.Areas.{Areas}
 use Rattle.record.specs.declared.Deadman.{Deadman}
-use Rattle.sbe.specs.declared.Verdict.{Verdict}
-use Rattle.sbe.specs.declared.Verdict.the-variants.{Refuse, Make}
+use Rattle.sbe.specs.declared.Ruling.{Ruling}
+use Rattle.sbe.specs.declared.Ruling.the-variants.{Decline, Grant}
 use Rattle.sbe.specs.Mailbox.{flagsOf, wordAt, registerAt, areaOf}
 
-unfoldable pub grants : Verdict → Bool
-grants (Refuse primary secondary) = false
-grants (Make change) = true
+unfoldable pub grants : Ruling → Bool
+grants (Decline primary secondary) = false
+grants (Grant change) = true
 
 -- no flag but 0x0100 and 0x0200
 abbrev pub Plain : ℕ → Type 0

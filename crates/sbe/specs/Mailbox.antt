@@ -9,8 +9,8 @@ use Rattle.record.specs.Record.{noArea}
 use Rattle.record.specs.declared.Area.{Area}
 use Rattle.change.specs.declared.Change.the-variants.{SetMask, SetDeadman, SetAreas}
 use Rattle.formed.specs.Formed.{multipleOf128, inMemory}
-use Rattle.sbe.specs.declared.Verdict.{Verdict}
-use Rattle.sbe.specs.declared.Verdict.the-variants.{Refuse, Make}
+use Rattle.sbe.specs.declared.Ruling.{Ruling}
+use Rattle.sbe.specs.declared.Ruling.the-variants.{Decline, Grant}
 
 -- ---- "Request: 2 reserved, flags, sequence (2 bytes each), class, command, then data": registers of 8 bytes
 
@@ -29,19 +29,19 @@ plainFlags flags = cond (leb 0x0400 flags) false (eqb (flags % 0x0100) 0)
 
 -- ---- "D1 01: exactly one of flags 0x0001 (start, time in register 1) and 0x0002 (stop, time becomes 0), else 02/19"
 
-unfoldable pub deadmanAt : ℕ → List ℕ → Verdict
+unfoldable pub deadmanAt : ℕ → List ℕ → Ruling
 deadmanAt asked r =
-    cond (eqb asked 0x01) (Make (SetDeadman (record { running = 1; time = registerAt 8 r })))
-    (cond (eqb asked 0x02) (Make (SetDeadman (record { running = 0; time = 0 })))
-    (Refuse 0x02 0x19))
+    cond (eqb asked 0x01) (Grant (SetDeadman (record { running = 1; time = registerAt 8 r })))
+    (cond (eqb asked 0x02) (Grant (SetDeadman (record { running = 0; time = 0 })))
+    (Decline 0x02 0x19))
 
-unfoldable pub deadmanOf : List ℕ → Verdict
-deadmanOf r = cond (leb 0x0400 (flagsOf r)) (Refuse 0x02 0x19) (deadmanAt (flagsOf r % 0x0100) r)
+unfoldable pub deadmanOf : List ℕ → Ruling
+deadmanOf r = cond (leb 0x0400 (flagsOf r)) (Decline 0x02 0x19) (deadmanAt (flagsOf r % 0x0100) r)
 
 -- ---- "D1 03: register 1's first four bytes become the mask"
 
-unfoldable pub coresOf : List ℕ → Verdict
-coresOf r = cond (not (plainFlags (flagsOf r))) (Refuse 0x02 0x19) (Make (SetMask (wordAt 8 r)))
+unfoldable pub coresOf : List ℕ → Ruling
+coresOf r = cond (not (plainFlags (flagsOf r))) (Decline 0x02 0x19) (Grant (SetMask (wordAt 8 r)))
 
 -- ---- "D7 04: sizes in register 1, addresses in 2 and 3"
 
@@ -58,35 +58,35 @@ unfoldable pub areaOf : ℕ → ℕ → Area
 areaOf address size = cond (eqb size 0) noArea (record { address = address; size = size })
 
 -- "FFDC area first, address before size"
-unfoldable pub areasAt : ℕ → ℕ → ℕ → ℕ → Verdict
+unfoldable pub areasAt : ℕ → ℕ → ℕ → ℕ → Ruling
 areasAt ffdc pass front back =
-    cond (not (eqb (areaStatus front ffdc) 0)) (Refuse 0x02 (areaStatus front ffdc))
-    (cond (not (eqb (areaStatus back pass) 0)) (Refuse 0x02 (areaStatus back pass))
-    (Make (SetAreas (record { ffdc = areaOf front ffdc; pass = areaOf back pass }))))
+    cond (not (eqb (areaStatus front ffdc) 0)) (Decline 0x02 (areaStatus front ffdc))
+    (cond (not (eqb (areaStatus back pass) 0)) (Decline 0x02 (areaStatus back pass))
+    (Grant (SetAreas (record { ffdc = areaOf front ffdc; pass = areaOf back pass }))))
 
-unfoldable pub areasOf : List ℕ → Verdict
+unfoldable pub areasOf : List ℕ → Ruling
 areasOf r =
-    cond (not (plainFlags (flagsOf r))) (Refuse 0x02 0x19)
+    cond (not (plainFlags (flagsOf r))) (Decline 0x02 0x19)
     (areasAt (wordAt 8 r) (wordAt 12 r) (registerAt 16 r) (registerAt 24 r))
 
 -- ---- "In order: class not D1, D3 to D7: 01/01; other command: 01/02"
 
-unfoldable pub coreState : ℕ → List ℕ → Verdict
+unfoldable pub coreState : ℕ → List ℕ → Ruling
 coreState command r =
-    cond (eqb command 0x01) (deadmanOf r) (cond (eqb command 0x03) (coresOf r) (Refuse 0x01 0x02))
+    cond (eqb command 0x01) (deadmanOf r) (cond (eqb command 0x03) (coresOf r) (Decline 0x01 0x02))
 
-unfoldable pub general : ℕ → List ℕ → Verdict
-general command r = cond (eqb command 0x04) (areasOf r) (Refuse 0x01 0x02)
+unfoldable pub general : ℕ → List ℕ → Ruling
+general command r = cond (eqb command 0x04) (areasOf r) (Decline 0x01 0x02)
 
-unfoldable pub requestFor : ℕ → ℕ → List ℕ → Verdict
+unfoldable pub requestFor : ℕ → ℕ → List ℕ → Ruling
 requestFor class command r =
     cond (eqb class 0xD1) (coreState command r)
-    (cond (ltb class 0xD3) (Refuse 0x01 0x01)
-    (cond (ltb 0xD7 class) (Refuse 0x01 0x01)
-    (cond (eqb class 0xD7) (general command r) (Refuse 0x01 0x02))))
+    (cond (ltb class 0xD3) (Decline 0x01 0x01)
+    (cond (ltb 0xD7 class) (Decline 0x01 0x01)
+    (cond (eqb class 0xD7) (general command r) (Decline 0x01 0x02))))
 
-unfoldable pub requestVerdict : List ℕ → Verdict
-requestVerdict r = requestFor (getD r 6 0) (getD r 7 0) r
+unfoldable pub requestRuling : List ℕ → Ruling
+requestRuling r = requestFor (getD r 6 0) (getD r 7 0) r
 
 -- ---- "Flag 0x0100 asks for doorbell bit 0 (response), 0x0200 for bit 1 (acknowledge), refused or not": bit 0 is 0x8000, bit 1 0x4000
 

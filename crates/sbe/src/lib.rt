@@ -3,16 +3,16 @@ ghost use mathlib.Core.Path.{_≡_};
 ghost use Prim.Native.Nat.{_≤_};
 ghost use lib.ListN.{length};
 ghost use Rattle.wire.specs.Wire.{pasted};
-ghost use Rattle.sbe.specs.Mailbox.{deadmanOf, coresOf, areaStatus, areaOf, areasOf, coreState, general, requestVerdict, plainFlags, bellOf, responseBytes};
+ghost use Rattle.sbe.specs.Mailbox.{deadmanOf, coresOf, areaStatus, areaOf, areasOf, coreState, general, requestRuling, plainFlags, bellOf, responseBytes};
 use change::Change;
 use record::Area;
 use record::Areas;
 use record::Deadman;
 
 // Refused with primary and secondary status, or the change to make.
-pub enum Verdict {
-    Refuse(u16, u16),
-    Make(Change),
+pub enum Ruling {
+    Decline(u16, u16),
+    Grant(Change),
 }
 
 // No flag but 0x0100 and 0x0200.
@@ -26,37 +26,37 @@ fn plain_flags(flags: u16) -> bool
 }
 
 // D1 01: start with the time in register 1, or stop.
-fn deadman(r: &[u8]) -> Verdict
+fn deadman(r: &[u8]) -> Ruling
     requires { ⌜ 32 ≤ length (now r) ⌝ }
     ensures { λ x. ⌜ x ≡ deadmanOf (now (r .entry)) ⌝ }
 {
     let flags = wire::be16(r, 2);
     if 0x0400 <= flags {
-        return Verdict::Refuse(0x02, 0x19);
+        return Ruling::Decline(0x02, 0x19);
     }
     let asked = flags % 0x0100;
     match asked {
-        0x01 => Verdict::Make(Change::SetDeadman(Deadman {
+        0x01 => Ruling::Grant(Change::SetDeadman(Deadman {
             running: 1,
             time: wire::be64(r, 8),
         })),
-        0x02 => Verdict::Make(Change::SetDeadman(Deadman {
+        0x02 => Ruling::Grant(Change::SetDeadman(Deadman {
             running: 0,
             time: 0,
         })),
-        0x00 | 0x03..=0xFFFF => Verdict::Refuse(0x02, 0x19),
+        0x00 | 0x03..=0xFFFF => Ruling::Decline(0x02, 0x19),
     }
 }
 
 // D1 03: register 1's first four bytes become the mask.
-fn cores(r: &[u8]) -> Verdict
+fn cores(r: &[u8]) -> Ruling
     requires { ⌜ 32 ≤ length (now r) ⌝ }
     ensures { λ x. ⌜ x ≡ coresOf (now (r .entry)) ⌝ }
 {
     if !plain_flags(wire::be16(r, 2)) {
-        return Verdict::Refuse(0x02, 0x19);
+        return Ruling::Decline(0x02, 0x19);
     }
-    Verdict::Make(Change::SetMask(wire::be32(r, 8)))
+    Ruling::Grant(Change::SetMask(wire::be32(r, 8)))
 }
 
 // An area's secondary status, 0 where it is fine.
@@ -95,12 +95,12 @@ fn area(address: u64, size: u32) -> Area
 }
 
 // D7 04: sizes in register 1, addresses in 2 and 3, the FFDC area first.
-fn areas(r: &[u8]) -> Verdict
+fn areas(r: &[u8]) -> Ruling
     requires { ⌜ 32 ≤ length (now r) ⌝ }
     ensures { λ x. ⌜ x ≡ areasOf (now (r .entry)) ⌝ }
 {
     if !plain_flags(wire::be16(r, 2)) {
-        return Verdict::Refuse(0x02, 0x19);
+        return Ruling::Decline(0x02, 0x19);
     }
     let ffdc = wire::be32(r, 8);
     let pass = wire::be32(r, 12);
@@ -108,51 +108,51 @@ fn areas(r: &[u8]) -> Verdict
     let back = wire::be64(r, 24);
     let first = area_status(front, ffdc);
     if first != 0 {
-        return Verdict::Refuse(0x02, first);
+        return Ruling::Decline(0x02, first);
     }
     let second = area_status(back, pass);
     if second != 0 {
-        return Verdict::Refuse(0x02, second);
+        return Ruling::Decline(0x02, second);
     }
-    Verdict::Make(Change::SetAreas(Areas {
+    Ruling::Grant(Change::SetAreas(Areas {
         ffdc: area(front, ffdc),
         pass: area(back, pass),
     }))
 }
 
-fn core_state(command: u8, r: &[u8]) -> Verdict
+fn core_state(command: u8, r: &[u8]) -> Ruling
     requires { ⌜ 32 ≤ length (now r) ⌝ }
     ensures { λ x. ⌜ x ≡ coreState command (now (r .entry)) ⌝ }
 {
     match command {
         0x01 => deadman(r),
         0x03 => cores(r),
-        0x00 | 0x02 | 0x04..=0xFF => Verdict::Refuse(0x01, 0x02),
+        0x00 | 0x02 | 0x04..=0xFF => Ruling::Decline(0x01, 0x02),
     }
 }
 
-fn general_command(command: u8, r: &[u8]) -> Verdict
+fn general_command(command: u8, r: &[u8]) -> Ruling
     requires { ⌜ 32 ≤ length (now r) ⌝ }
     ensures { λ x. ⌜ x ≡ general command (now (r .entry)) ⌝ }
 {
     match command {
         0x04 => areas(r),
-        0x00..=0x03 | 0x05..=0xFF => Verdict::Refuse(0x01, 0x02),
+        0x00..=0x03 | 0x05..=0xFF => Ruling::Decline(0x01, 0x02),
     }
 }
 
 // A whole request of four registers, judged.
-pub fn judge(r: &[u8]) -> Verdict
+pub fn judge(r: &[u8]) -> Ruling
     requires { ⌜ 32 ≤ length (now r) ⌝ }
-    ensures { λ x. ⌜ x ≡ requestVerdict (now (r .entry)) ⌝ }
+    ensures { λ x. ⌜ x ≡ requestRuling (now (r .entry)) ⌝ }
 {
     let class = r[6];
     let command = r[7];
     match class {
         0xD1 => core_state(command, r),
         0xD7 => general_command(command, r),
-        0xD3..=0xD6 => Verdict::Refuse(0x01, 0x02),
-        0x00..=0xD0 | 0xD2 | 0xD8..=0xFF => Verdict::Refuse(0x01, 0x01),
+        0xD3..=0xD6 => Ruling::Decline(0x01, 0x02),
+        0x00..=0xD0 | 0xD2 | 0xD8..=0xFF => Ruling::Decline(0x01, 0x01),
     }
 }
 

@@ -11,18 +11,18 @@ use Rattle.wire.specs.Wire.{Bytes, pasted}
 use Rattle.wire.specs.laws.Cases.{said-of, if-b, else-b, if-ne, else-ne}
 use Rattle.change.specs.Change.{noTables}
 use Rattle.change.specs.declared.Change.{Change}
-use Rattle.sbe.specs.Mailbox.{requestVerdict, bellOf, responseBytes}
-use Rattle.sbe.specs.declared.Verdict.{Verdict}
-use Rattle.sbe.specs.declared.Verdict.the-variants.{Refuse, Make}
+use Rattle.sbe.specs.Mailbox.{requestRuling, bellOf, responseBytes}
+use Rattle.sbe.specs.declared.Ruling.{Ruling}
+use Rattle.sbe.specs.declared.Ruling.the-variants.{Decline, Grant}
 use Rattle.session.specs.Session.{Carried, wellFormed, carriedOf}
 use Rattle.session.specs.declared.Session.{Session}
-use Rattle.sbe_call.specs.Sbe.{SbeResult, rung, kept, responds, refusalOf, sbeRefusal, carriedSays, sbeMade, toldOf, verdictSays, sbeRead, sbeFrom, sbeCall, sbeLeft, sbeOn}
+use Rattle.sbe_call.specs.Sbe.{SbeResult, rung, kept, responds, refusalOf, sbeRefusal, carriedSays, sbeMade, toldOf, rulingSays, sbeRead, sbeFrom, sbeCall, sbeLeft, sbeOn}
 use Rattle.image.specs.declared.Head.{Head}
 use Rattle.image.specs.Image.{imageLength, imageOf, headIn, sessionIn}
 use Rattle.inplace.specs.declared.Told.{Told}
-use Rattle.inplace.specs.InPlace.{Stands, carriedIn}
+use Rattle.inplace.specs.InPlace.{HeadStands, carriedIn}
 use Rattle.inplace.specs.laws.InPlace.{Parts, parts, as-read, stands}
-use Rattle.sbe.proofs.Verdict.{the-type}
+use Rattle.sbe.proofs.Ruling.{the-type}
 use denote.Enum.Declared.{tagOf}
 use Rattle.change.specs.declared.Tables.{Tables}
 
@@ -39,46 +39,46 @@ met s f n request reply e is none =
     let m = due f (ltb reply 32) (ltb request 32) (sym is ∙ none) in
     (sym e ∙ m .0, ltb-false request 32 (m .2), ltb-false reply 32 (m .1))
 
--- ---- what a verdict says
+-- ---- what a ruling says
 
-told : (s : Session) (r d : List ℕ) (v : Verdict) → (tagOf the-type v ≡ 1 → ⊥) → record { outcome = rung 0 (bellOf r) s; reply = toldOf v r d } ≡ verdictSays s r d v
-unfolding verdictSays responds toldOf
-told s r d (Refuse p q) h = refl
-told s r d (Make ch) h = absurd (h refl)
+told : (s : Session) (r d : List ℕ) (v : Ruling) → (tagOf the-type v ≡ 1 → ⊥) → record { outcome = rung 0 (bellOf r) s; reply = toldOf v r d } ≡ rulingSays s r d v
+unfolding rulingSays responds toldOf
+told s r d (Decline p q) h = refl
+told s r d (Grant ch) h = absurd (h refl)
 
-pub tells : (r d : List ℕ) {v w : Verdict} {y : List ℕ} → v ≡ w → y ≡ toldOf w r d → y ≡ toldOf v r d
-tells r d = said-of (λ (u : Verdict). toldOf u r d)
+pub tells : (r d : List ℕ) {v w : Ruling} {y : List ℕ} → v ≡ w → y ≡ toldOf w r d → y ≡ toldOf v r d
+tells r d = said-of (λ (u : Ruling). toldOf u r d)
 
 -- ---- a request that is due an answer: h is the head that stands in the lent bytes b
 
-module _ (h : Head) (b : List ℕ) (here : Stands h b) (r d : List ℕ) where
+module _ (h : Head) (b : List ℕ) (here : HeadStands h b) (r d : List ℕ) where
   abbrev s : Session
   s = sessionIn h b
 
   abbrev Hears : Told → List ℕ → List ℕ → Type 0
   Hears t y z = Parts t y z (sbeLeft (sbeRead s r d))
 
-  module _ (v : Verdict) (judged : v ≡ requestVerdict r) (bell : ℕ) (rings : bell ≡ bellOf r) where
-    by-verdict : (q : SbeResult) → q ≡ verdictSays s r d v → sbeLeft q ≡ sbeLeft (sbeRead s r d)
+  module _ (v : Ruling) (judged : v ≡ requestRuling r) (bell : ℕ) (rings : bell ≡ bellOf r) where
+    by-ruling : (q : SbeResult) → q ≡ rulingSays s r d v → sbeLeft q ≡ sbeLeft (sbeRead s r d)
     unfolding sbeRead
-    by-verdict q e = ap sbeLeft (e ∙ ap (verdictSays s r d) judged)
+    by-ruling q e = ap sbeLeft (e ∙ ap (rulingSays s r d) judged)
 
     pub told-in : (t : Told) (z : List ℕ) → t ≡ record { answer = 0; small = 0; beside = bell } → (tagOf the-type v ≡ 1 → ⊥) → z ≡ toldOf v r d → Hears t b z
     unfolding sbeLeft rung
     told-in t z p n q =
         let rung-as-asked = p ∙ (λ i. record { answer = 0; small = 0; beside = rings i }) in
-        parts t b z _ ((λ i. record { told = rung-as-asked i; image = here .image i; reply = q i }) ∙ by-verdict _ (told s r d v n))
+        parts t b z _ ((λ i. record { told = rung-as-asked i; image = here .image i; reply = q i }) ∙ by-ruling _ (told s r d v n))
 
     -- a change: y are the lent bytes after it
-    module _ (ch : Change) (makes : v ≡ Make ch) (tables : Tables) (none-beside : tables ≡ noTables) (t : Told) (full : Bool) (y : List ℕ)
+    module _ (ch : Change) (makes : v ≡ Grant ch) (tables : Tables) (none-beside : tables ≡ noTables) (t : Told) (full : Bool) (y : List ℕ)
         (room : full ≡ carriedOf s (record { change = ch; tables = tables }) .full) (left : y ≡ carriedIn b (carriedOf s (record { change = ch; tables = tables }))) where
       abbrev after : Carried
       after = carriedOf s (record { change = ch; tables = tables })
 
       by-carried : (q : SbeResult) → q ≡ carriedSays after s r d → sbeLeft q ≡ sbeLeft (sbeRead s r d)
-      unfolding verdictSays sbeMade
+      unfolding rulingSays sbeMade
       by-carried q e =
-          by-verdict q (e ∙ ap (λ (u : Tables). carriedSays (carriedOf s (record { change = ch; tables = u })) s r d) none-beside ∙ sym (ap (verdictSays s r d) makes))
+          by-ruling q (e ∙ ap (λ (u : Tables). carriedSays (carriedOf s (record { change = ch; tables = u })) s r d) none-beside ∙ sym (ap (rulingSays s r d) makes))
 
       pub full-in : t ≡ record { answer = 5; small = 0; beside = 0 } → full ≡ true → Hears t y d
       unfolding sbeLeft kept rung carriedSays carriedIn

@@ -9,9 +9,9 @@ use Rattle.wire.specs.Wire.{pasted}
 use Rattle.wire.specs.Conditions.{_and_}
 use Rattle.change.specs.Change.{noTables}
 use Rattle.change.specs.declared.Change.{Change}
-use Rattle.sbe.specs.Mailbox.{requestVerdict, bellOf, responseBytes}
-use Rattle.sbe.specs.declared.Verdict.{Verdict}
-use Rattle.sbe.specs.declared.Verdict.the-variants.{Refuse, Make}
+use Rattle.sbe.specs.Mailbox.{requestRuling, bellOf, responseBytes}
+use Rattle.sbe.specs.declared.Ruling.{Ruling}
+use Rattle.sbe.specs.declared.Ruling.the-variants.{Decline, Grant}
 use Rattle.session.specs.Session.{Carried, wellFormed, carriedOf}
 use Rattle.session.specs.declared.Session.{Session}
 use Rattle.image.specs.Image.{imageLength, imageOf, sessionOf}
@@ -54,17 +54,17 @@ unfoldable pub sbeMade : Session → Change → List ℕ → List ℕ → SbeRes
 sbeMade s change r d = carriedSays (carriedOf s (record { change = change; tables = noTables })) s r d
 
 -- the response to what is no change
-unfoldable pub toldOf : Verdict → List ℕ → List ℕ → List ℕ
-toldOf (Refuse primary secondary) r d = pasted 0 (responseBytes primary secondary r) d
-toldOf (Make change) r d = d
+unfoldable pub toldOf : Ruling → List ℕ → List ℕ → List ℕ
+toldOf (Decline primary secondary) r d = pasted 0 (responseBytes primary secondary r) d
+toldOf (Grant change) r d = d
 
-unfoldable pub verdictSays : Session → List ℕ → List ℕ → Verdict → SbeResult
-verdictSays s r d (Refuse primary secondary) = responds s primary secondary r d
-verdictSays s r d (Make change) = sbeMade s change r d
+unfoldable pub rulingSays : Session → List ℕ → List ℕ → Ruling → SbeResult
+rulingSays s r d (Decline primary secondary) = responds s primary secondary r d
+rulingSays s r d (Grant change) = sbeMade s change r d
 
 -- a request that is due an answer
 unfoldable pub sbeRead : Session → List ℕ → List ℕ → SbeResult
-sbeRead s r d = verdictSays s r d (requestVerdict r)
+sbeRead s r d = rulingSays s r d (requestRuling r)
 
 unfoldable pub sbeFrom : ℕ → Session → List ℕ → List ℕ → SbeResult
 sbeFrom n s r d = cond (not (eqb n 0)) (kept n s d) (sbeRead s r d)

@@ -1,4 +1,4 @@
-// The call `sbe`: a mailbox request, answered on a lent session. Refuse first, judge, carry out, respond and ring last.
+// The call `sbe`: a mailbox request, answered on a lent session. Decline first, judge, carry out, respond and ring last.
 ghost use mathlib.Core.Bool.{true};
 ghost use mathlib.Core.Path.{_≡_};
 ghost use Prim.Native.Nat.{_≤_};
@@ -6,11 +6,11 @@ ghost use lib.ListN.{length};
 ghost use Rattle.sbe_call.specs.Sbe.{refusalOf, toldOf, sbeRead, sbeLeft, SbeAllows};
 ghost use Rattle.session.specs.Session.{wellFormed};
 ghost use Rattle.image.specs.Image.{sessionIn};
-ghost use Rattle.inplace.specs.InPlace.{Stands};
+ghost use Rattle.inplace.specs.InPlace.{HeadStands};
 use change::Edit;
 use image::Head;
 use inplace::Told;
-use sbe::Verdict;
+use sbe::Ruling;
 
 // Answers 1, 3 and 4 in document 01's order, 0 where none is due.
 fn refusal(formed: bool, request: usize, reply: usize) -> u8
@@ -29,27 +29,27 @@ fn refusal(formed: bool, request: usize, reply: usize) -> u8
 }
 
 // The response to what is no change; a change has none yet.
-fn tell(verdict: Verdict, request: &[u8], reply: &mut [u8])
+fn tell(ruling: Ruling, request: &[u8], reply: &mut [u8])
     requires { ⌜ (32 ≤ length (now request)) × (32 ≤ length (now reply)) ⌝ }
-    ensures { λ _. ⌜ now (reply .exit) ≡ toldOf verdict (now (request .entry)) (now (reply .entry)) ⌝ }
+    ensures { λ _. ⌜ now (reply .exit) ≡ toldOf ruling (now (request .entry)) (now (reply .entry)) ⌝ }
 {
-    match verdict {
-        Verdict::Refuse(primary, secondary) => sbe::respond(reply, request, primary, secondary),
-        Verdict::Make(_) => {}
+    match ruling {
+        Ruling::Decline(primary, secondary) => sbe::respond(reply, request, primary, secondary),
+        Ruling::Grant(_) => {}
     }
 }
 
 // A request that is due an answer: judged, carried out if it asks for a change, and responded to.
 fn hear(lent: &mut [u8], h: Head, request: &[u8], reply: &mut [u8]) -> Told
-    requires { ⌜ Stands h (now lent) × (wellFormed (sessionIn h (now lent)) ≡ true) × (32 ≤ length (now request)) × (32 ≤ length (now reply)) ⌝ }
+    requires { ⌜ HeadStands h (now lent) × (wellFormed (sessionIn h (now lent)) ≡ true) × (32 ≤ length (now request)) × (32 ≤ length (now reply)) ⌝ }
     ensures { λ x. ⌜ x ≡ sbeLeft (sbeRead (sessionIn h (now (lent .entry))) (now (request .entry)) (now (reply .entry))) .told ⌝ }
     ensures { λ _. ⌜ now (lent .exit) ≡ sbeLeft (sbeRead (sessionIn h (now (lent .entry))) (now (request .entry)) (now (reply .entry))) .image ⌝ }
     ensures { λ _. ⌜ now (reply .exit) ≡ sbeLeft (sbeRead (sessionIn h (now (lent .entry))) (now (request .entry)) (now (reply .entry))) .reply ⌝ }
 {
-    let verdict = sbe::judge(request);
+    let ruling = sbe::judge(request);
     let bell = sbe::bell(request);
-    let Verdict::Make(change) = verdict else {
-        tell(verdict, request, reply);
+    let Ruling::Grant(change) = ruling else {
+        tell(ruling, request, reply);
         return inplace::answer_with(0, bell);
     };
     let tables = change::no_tables();

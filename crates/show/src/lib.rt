@@ -5,7 +5,7 @@ ghost use mathlib.Core.Bool.{cond};
 ghost use mathlib.Core.List.{[]};
 ghost use lib.Dec.{eqb};
 ghost use Rattle.io.specs.Counts.{Counts};
-ghost use Rattle.text.specs.Text.{sheet, putOn, putAll, atFront};
+ghost use Rattle.text.specs.Text.{sheet, putOn, putAll, fromFront};
 ghost use Rattle.show.specs.Show.{numberText, numbersText, namedText, markText, yesText, stateWord, stateText, roleWord, roleText, capsText, wantedText, workedText, settingsText, thresholdsText, pairText, pairsText, throttlesText, logText, placesText, logsText, coresText, maskText, deadmanText, areaText, areasText, restText, readingText, storeText, redoText, journalText, sessionText};
 use entries::Reading;
 use record::Area;
@@ -397,7 +397,7 @@ pub fn put_session(
     ahead: usize,
 ) -> usize
     ensures { λ r. ⌜ Counts r (now (out .exit)) ⌝ }
-    ensures { λ r. ⌜ sheet (now (out .exit)) r ≡ atFront (now (out .entry)) (sessionText held worked next (now (j .entry)) used (now (redo .entry)) ahead) ⌝ }
+    ensures { λ r. ⌜ sheet (now (out .exit)) r ≡ fromFront (now (out .entry)) (sessionText held worked next (now (j .entry)) used (now (redo .entry)) ahead) ⌝ }
 {
     let settings = put_settings(out, 0, held, worked);
     let rest = put_rest(out, settings, held);

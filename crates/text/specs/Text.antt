@@ -117,8 +117,8 @@ putAll p [] = p
 putAll p (x ∷ xs) = putAll (putOn p x) xs
 
 -- text at the front of a buffer
-abbrev pub atFront : List ℕ → List (List ℕ) → Sheet
-atFront d pieces = putAll (sheet d 0) pieces
+abbrev pub fromFront : List ℕ → List (List ℕ) → Sheet
+fromFront d pieces = putAll (sheet d 0) pieces
 
 -- the pieces as one text
 unfoldable pub joined : List (List ℕ) → List ℕ

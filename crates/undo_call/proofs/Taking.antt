@@ -41,7 +41,7 @@ use Rattle.image.specs.Image.{imageLength, imageOf, partAt, headIn, storeAt, st
 use Rattle.image.specs.laws.Stores.{store-low, store-long, store-back, store-above, store-below}
 use Rattle.image.proofs.Standing.{length-store}
 use Rattle.inplace.specs.declared.Told.{Told}
-use Rattle.inplace.specs.InPlace.{Left, Stands, noImage}
+use Rattle.inplace.specs.InPlace.{Left, HeadStands, noImage}
 use Rattle.inplace.specs.laws.InPlace.{as-read, stands}
 use Rattle.undo_call.specs.Undo.{storeOf, usedOf, noneLeft, lessened, grown, grownTo, headMoved, sessionMoved, Moved, notMoved, moved, movedPut, movedWith, movedFound, movedGot, movedAt, movedRead, movedNewest, moveCall, movedLeft, moveOn}
 
@@ -190,7 +190,7 @@ module _ (w : Way) (h : Head) (b : List ℕ) (at : ℕ) (e : Edit) (after : Reco
         ∙ (λ i. imageOf (record { held = after; worked = workedOf after; next = h .next; used = byWay w at (end-is i); ahead = byWay w (end-is i) at; journal = js .0 i; redo = js .1 i }))
 
 -- h is the head that stands in the lent bytes b
-module _ (w : Way) (h : Head) (b : List ℕ) (here : Stands h b) where
+module _ (w : Way) (h : Head) (b : List ℕ) (here : HeadStands h b) where
   abbrev s : Session
   s = sessionIn h b
 

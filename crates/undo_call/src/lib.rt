@@ -10,7 +10,7 @@ ghost use Rattle.journal.specs.Bytes.{entryBytes};
 ghost use Rattle.journal.specs.Add.{entryLen, cutFrom};
 ghost use Rattle.session.specs.Session.{wellFormed};
 ghost use Rattle.image.specs.Image.{imageLength, imageOf, storeIn, sessionIn};
-ghost use Rattle.inplace.specs.InPlace.{Stands};
+ghost use Rattle.inplace.specs.InPlace.{HeadStands};
 ghost use Rattle.undo_call.specs.Undo.{noneLeft, headMoved, sessionMoved, movedWith, movedNewest, movedLeft, MoveAllows, UndoAllows, RedoAllows};
 use change::Edit;
 use entries::Reading;
@@ -97,7 +97,7 @@ fn carry_on(lent: &mut [u8], h: Head, way: Way, at: usize, e: Edit, after: Recor
 
 // It is put into the record, or refused.
 fn take(lent: &mut [u8], h: Head, way: Way, at: usize, e: Edit) -> Told
-    requires { ⌜ Stands h (now lent) × (at + entryLen e ≡ byWay way (h .used) (h .ahead)) × (h .used + h .ahead ≤ 2048) ⌝ }
+    requires { ⌜ HeadStands h (now lent) × (at + entryLen e ≡ byWay way (h .used) (h .ahead)) × (h .used + h .ahead ≤ 2048) ⌝ }
     ensures { λ x. ⌜ x ≡ movedLeft (movedWith way (sessionIn h (now (lent .entry))) at e) .told ⌝ }
     ensures { λ _. ⌜ now (lent .exit) ≡ movedLeft (movedWith way (sessionIn h (now (lent .entry))) at e) .image ⌝ }
 {
@@ -116,7 +116,7 @@ fn take(lent: &mut [u8], h: Head, way: Way, at: usize, e: Edit) -> Told
 
 // A well-formed session reads as entries with good values; what the two `else` answer can't come.
 fn take_newest(lent: &mut [u8], h: Head, way: Way) -> Told
-    requires { ⌜ Stands h (now lent) × (wellFormed (sessionIn h (now lent)) ≡ true) ⌝ }
+    requires { ⌜ HeadStands h (now lent) × (wellFormed (sessionIn h (now lent)) ≡ true) ⌝ }
     ensures { λ x. ⌜ x ≡ movedLeft (movedNewest way (sessionIn h (now (lent .entry)))) .told ⌝ }
     ensures { λ _. ⌜ now (lent .exit) ≡ movedLeft (movedNewest way (sessionIn h (now (lent .entry)))) .image ⌝ }
 {

@@ -8,7 +8,7 @@ use Rattle.wire.specs.Wire.{Bytes}
 use Rattle.image.specs.declared.Head.{Head}
 use Rattle.image.specs.Image.{imageLength, imageOf, headIn, sessionIn, sessionOf}
 use Rattle.image.specs.laws.Image.{image-session}
-use Rattle.inplace.specs.InPlace.{Left, Stands}
+use Rattle.inplace.specs.InPlace.{Left, HeadStands}
 
 abbrev pub Parts : Told → List ℕ → List ℕ → Left → Type 0
 Parts t y z q = (t ≡ q .told) × ((y ≡ q .image) × (z ≡ q .reply))
@@ -23,5 +23,5 @@ module _ (b : List ℕ) (long : length b ≡ imageLength) (h : Head) (read : h �
   unfolding sessionOf
   as-read = ap (λ (k : Head). sessionIn k b) read
 
-  pub stands : Bytes b → Stands h b
+  pub stands : Bytes b → HeadStands h b
   stands bytes = record { long = long; image = sym (ap imageOf as-read ∙ image-session b bytes long) }

@@ -23,8 +23,8 @@ use Rattle.places.specs.Faults.{Faults, CommandFaults, NotAfter, Least, least}
 use Rattle.places.specs.laws.Exactly.{exactly-wrong, isWrong, statusOf}
 use Rattle.places.specs.laws.Least.{least-fault}
 use Rattle.places.specs.declared.Fault.{Fault}
-use Rattle.places.specs.declared.Found.{Found}
-use Rattle.places.specs.declared.Found.the-variants.{Nothing, Wrong}
+use Rattle.places.specs.declared.Blame.{Blame}
+use Rattle.places.specs.declared.Blame.the-variants.{Nothing, Wrong}
 use Rattle.session.specs.declared.Session.{Session}
 use Rattle.occ_call.specs.Occ.{askedFor, askedOf, faultFor, whyRead, besideOf}
 
@@ -32,7 +32,7 @@ pub nothing-wrong : {A : Type 0} (x : Fault) → Nothing ≡ Wrong x → A
 nothing-wrong x e = let z : _≡_ {A = ℕ} 0 1 = ap isWrong e in absurd (omega arith)
 
 -- the answer is what it is
-pub answer-beside : (n : ℕ) (f : Found) → besideOf n f .answer ≡ n
+pub answer-beside : (n : ℕ) (f : Blame) → besideOf n f .answer ≡ n
 unfolding besideOf
 answer-beside n Nothing = refl
 answer-beside n (Wrong x) = refl
@@ -41,7 +41,7 @@ answer-beside n (Wrong x) = refl
 beside-only : (v : Verdict) (held : Record) (kind : ℕ) (d : List ℕ) (x : Fault) → faultFor v held kind d ≡ Wrong x → (v ≡ Refuse 0x13) × (faultOf held kind d ≡ Wrong x)
 unfolding faultFor
 beside-only (Refuse n) held kind d x =
-    cond-cases (λ (f : Found). f ≡ Wrong x → (Refuse n ≡ Refuse 0x13) × (faultOf held kind d ≡ Wrong x)) (not (eqb n 0x13)) (λ t. nothing-wrong x)
+    cond-cases (λ (f : Blame). f ≡ Wrong x → (Refuse n ≡ Refuse 0x13) × (faultOf held kind d ≡ Wrong x)) (not (eqb n 0x13)) (λ t. nothing-wrong x)
     (λ t e. (ap Refuse (eqb-true n 0x13 (not-false _ t)), e))
 beside-only Poll held kind d x = nothing-wrong x
 beside-only (Make ch) held kind d x = nothing-wrong x
@@ -61,7 +61,7 @@ module _ (s : Session) (sender : ℕ) (c : List ℕ) where
   abbrev judged : Judged
   judged = judgeOf (s .held) (s .worked) (s .next) sender (getD c 1 0) (dataOf c)
 
-  abbrev found : Found
+  abbrev found : Blame
   found = faultOf (s .held) (getD c 1 0) (dataOf c)
 
   -- a sender that may not send the type gets 0x11

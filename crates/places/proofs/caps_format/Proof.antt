@@ -3,7 +3,7 @@ use mathlib.Core.Path.{refl, _∙_}
 use mathlib.Core.Bool.{cond}
 use lib.Dec.{ltb}
 use Rattle.places.specs.declared.Reason.the-variants.{Clash}
-use Rattle.places.specs.declared.Found.the-variants.{Nothing}
+use Rattle.places.specs.declared.Blame.the-variants.{Nothing}
 use Rattle.places.specs.Places.{wrong, capsFault}
 use borrow.Author.Needs.{needs}
 use Rattle.places.proofs.caps_format.Statement.{statement}

@@ -4,7 +4,7 @@ use Prim.Native.Nat.{ℕ}
 use mathlib.Core.Bool.{cond}
 use lib.Dec.{leb}
 use Rattle.places.specs.declared.Reason.the-variants.{NotPending}
-use Rattle.places.specs.declared.Found.the-variants.{Nothing}
+use Rattle.places.specs.declared.Blame.the-variants.{Nothing}
 use Rattle.places.specs.Places.{wrong, clearFault}
 use borrow.Author.Needs.{needs}
 use Rattle.places.proofs.clear_log.Statement.{statement}

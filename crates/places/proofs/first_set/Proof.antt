@@ -1,7 +1,7 @@
 use mathlib.Core.Path.{_≡_, sym, ap, _∙_}
 use Prim.Native.Nat.{_-_, _≤_}
 use native.Mathlib.Omega.{arith}
-use Rattle.places.specs.declared.Found.the-variants.{Nothing}
+use Rattle.places.specs.declared.Blame.the-variants.{Nothing}
 use Rattle.places.specs.Places.{setFault, firstBelow, firstSet}
 use Rattle.places.specs.laws.Below.{first-none, first-more, first-found}
 use Rattle.places.proofs.Loops.{starts-apart}

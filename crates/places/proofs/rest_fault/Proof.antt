@@ -1,7 +1,7 @@
 use Rattle.wire.specs.laws.Cases.{if-lt, else-lt, if-not, else-not}
 use mathlib.Core.Path.{refl, sym, ap, _∙_}
 use native.Mathlib.Omega.{arith}
-use Rattle.places.specs.declared.Table.{Table}
+use Rattle.places.specs.declared.SetTable.{SetTable}
 use Rattle.places.specs.Places.{restFault}
 use Rattle.places.proofs.Loops.{width-bounds}
 use borrow.Author.Needs.{needs}
@@ -25,7 +25,7 @@ found-at-requires c κs = search needs
 
 returns : tie.Need-returns
 unfolding restFault
-returns c = if-lt _ _ (c .before .if1 .taken) (c .found-at .ensures) ∙ sym (ap (λ (t : Table). restFault t (c .before .before .before .before .before .before .args .d .now) (c .before .before .before .before .before .before .args .first)) (c .before .before .before .enum-told .given .1))
+returns c = if-lt _ _ (c .before .if1 .taken) (c .found-at .ensures) ∙ sym (ap (λ (t : SetTable). restFault t (c .before .before .before .before .before .before .args .d .now) (c .before .before .before .before .before .before .args .first)) (c .before .before .before .enum-told .given .1))
 
 enum-told-2 : tie.Need-enum-told-2
 enum-told-2 c = search needs
@@ -53,15 +53,15 @@ found-at-requires-2 c κs = search needs
 
 returns-2 : tie.Need-returns-2
 unfolding restFault
-returns-2 c = if-not _ _ (c .before .before .in-order .ensures) (c .before .if2 .taken) (c .found-at2 .ensures) ∙ sym (ap (λ (t : Table). restFault t (c .before .before .before .before .before .before .before .before .args .d .now) (c .before .before .before .before .before .before .before .before .args .first)) (c .before .before .before .before .before .enum-told2 .given .1))
+returns-2 c = if-not _ _ (c .before .before .in-order .ensures) (c .before .if2 .taken) (c .found-at2 .ensures) ∙ sym (ap (λ (t : SetTable). restFault t (c .before .before .before .before .before .before .before .before .args .d .now) (c .before .before .before .before .before .before .before .before .args .first)) (c .before .before .before .before .before .enum-told2 .given .1))
 
 returns-3 : tie.Need-returns-3
 unfolding restFault
-returns-3 c = else-lt _ _ (c .if1 .left) refl ∙ sym (ap (λ (t : Table). restFault t (c .before .before .before .before .before .args .d .now) (c .before .before .before .before .before .args .first)) (c .before .before .enum-told .given .1))
+returns-3 c = else-lt _ _ (c .if1 .left) refl ∙ sym (ap (λ (t : SetTable). restFault t (c .before .before .before .before .before .args .d .now) (c .before .before .before .before .before .args .first)) (c .before .before .enum-told .given .1))
 
 returns-4 : tie.Need-returns-4
 unfolding restFault
-returns-4 c = else-not _ _ (c .before .in-order .ensures) (c .if2 .left) refl ∙ sym (ap (λ (t : Table). restFault t (c .before .before .before .before .before .before .before .args .d .now) (c .before .before .before .before .before .before .before .args .first)) (c .before .before .before .before .enum-told2 .given .1))
+returns-4 c = else-not _ _ (c .before .in-order .ensures) (c .if2 .left) refl ∙ sym (ap (λ (t : SetTable). restFault t (c .before .before .before .before .before .before .before .args .d .now) (c .before .before .before .before .before .before .before .args .first)) (c .before .before .before .before .enum-told2 .given .1))
 
 pub rest-fault-spec : {M : Type 1} → statement M
 rest-fault-spec =

@@ -1,6 +1,6 @@
 use Rattle.wire.specs.laws.Cases.{if-ne, else-ne}
 use mathlib.Core.Path.{refl, sym, ap}
-use Rattle.places.specs.declared.Table.{Table}
+use Rattle.places.specs.declared.SetTable.{SetTable}
 use Rattle.places.specs.Places.{sameSecond, sameNumber}
 use borrow.Author.Needs.{needs}
 use Rattle.places.proofs.same_number.Statement.{statement}
@@ -36,11 +36,11 @@ enum-told-2 c = search needs
 
 returns-2 : tie.Need-returns-2
 unfolding sameNumber sameSecond
-returns-2 c = else-ne _ _ (c .before .before .before .before .if1 .left) (sym (ap (λ (t : Table). sameSecond t (c .before .before .before .before .before .before .before .args .d .now) (c .before .before .before .before .before .before .before .args .one) (c .before .before .before .before .before .before .before .args .other)) (c .before .before .enum-told .given .1)))
+returns-2 c = else-ne _ _ (c .before .before .before .before .if1 .left) (sym (ap (λ (t : SetTable). sameSecond t (c .before .before .before .before .before .before .before .args .d .now) (c .before .before .before .before .before .before .before .args .one) (c .before .before .before .before .before .before .before .args .other)) (c .before .before .enum-told .given .1)))
 
 returns-3 : tie.Need-returns-3
 unfolding sameNumber sameSecond
-returns-3 c = else-ne _ _ (c .before .before .if1 .left) (sym (ap (λ (t : Table). sameSecond t (c .before .before .before .before .before .args .d .now) (c .before .before .before .before .before .args .one) (c .before .before .before .before .before .args .other)) (c .enum-told2 .given .1)))
+returns-3 c = else-ne _ _ (c .before .before .if1 .left) (sym (ap (λ (t : SetTable). sameSecond t (c .before .before .before .before .before .args .d .now) (c .before .before .before .before .before .args .one) (c .before .before .before .before .before .args .other)) (c .enum-told2 .given .1)))
 
 pub same-number-spec : {M : Type 1} → statement M
 same-number-spec =

@@ -4,7 +4,7 @@ use Prim.Native.Nat.{ℕ}
 use mathlib.Core.Bool.{cond, not}
 use Rattle.occ.specs.Commands.{userAllowed}
 use Rattle.places.specs.declared.Reason.the-variants.{OutOfRange}
-use Rattle.places.specs.declared.Found.the-variants.{Nothing}
+use Rattle.places.specs.declared.Blame.the-variants.{Nothing}
 use Rattle.places.specs.Places.{wrong, userFault}
 use borrow.Author.Needs.{needs}
 use Rattle.places.proofs.user_cap.Statement.{statement}

@@ -9,8 +9,8 @@ use native.Mathlib.Omega.{arith}
 use borrow.Author.Tests.{leb-true, leb-false}
 use lib.Dec.{leb}
 use Rattle.places.specs.declared.Fault.{Fault}
-use Rattle.places.specs.declared.Found.{Found}
-use Rattle.places.specs.declared.Found.the-variants.{Nothing, Wrong}
+use Rattle.places.specs.declared.Blame.{Blame}
+use Rattle.places.specs.declared.Blame.the-variants.{Nothing, Wrong}
 use Rattle.places.specs.Places.{anyBelow, orElse, firstBelow}
 use Rattle.wire.specs.laws.Cases.{cond-cases}
 
@@ -40,19 +40,19 @@ module _ (p : ℕ → Bool) where
   unfolding anyBelow
   any-more k h e = ap (anyBelow p) (add-one k) ∙ ap (λ (b : Bool). cond b true (p k)) h ∙ e
 
-module _ (f : ℕ → Found) where
+module _ (f : ℕ → Blame) where
   pub first-none : firstBelow f 0 ≡ Nothing
   unfolding firstBelow
   first-none = refl
 
   pub first-more : (k : ℕ) → firstBelow f k ≡ Nothing → f k ≡ Nothing → firstBelow f (k + 1) ≡ Nothing
   unfolding firstBelow orElse
-  first-more k h e = ap (firstBelow f) (add-one k) ∙ ap (λ (x : Found). orElse x (f k)) h ∙ e
+  first-more k h e = ap (firstBelow f) (add-one k) ∙ ap (λ (x : Blame). orElse x (f k)) h ∙ e
 
   -- what is found first stays
   pub first-found : (x : Fault) (k n : ℕ) → k < n → firstBelow f k ≡ Nothing → f k ≡ Wrong x → firstBelow f n ≡ Wrong x
   unfolding firstBelow orElse
   first-found x k zero h none e = absurd (not-suc-le-zero h)
   first-found x k (suc n) h none e =
-      by-order k n h (λ l. ap (λ (y : Found). orElse y (f n)) (first-found x k n l none e))
-      (λ q. ap (λ (y : Found). orElse y (f n)) (sym (ap (firstBelow f) q) ∙ none) ∙ sym (ap f q) ∙ e)
+      by-order k n h (λ l. ap (λ (y : Blame). orElse y (f n)) (first-found x k n l none e))
+      (λ q. ap (λ (y : Blame). orElse y (f n)) (sym (ap (firstBelow f) q) ∙ none) ∙ sym (ap f q) ∙ e)

@@ -30,20 +30,20 @@ use Rattle.occ.specs.Judge.{plainly, countStatus, setsStatus, setsJudged, throt
 use Rattle.places.specs.declared.Reason.{Reason}
 use Rattle.places.specs.declared.Reason.the-variants.{BadVersion, BadCount, OutOfRange, Clash, NotPending}
 use Rattle.places.specs.declared.Fault.{Fault}
-use Rattle.places.specs.declared.Found.{Found}
-use Rattle.places.specs.declared.Found.the-variants.{Nothing, Wrong}
-use Rattle.places.specs.declared.Table.the-variants.{Throttles, Thermal}
+use Rattle.places.specs.declared.Blame.{Blame}
+use Rattle.places.specs.declared.Blame.the-variants.{Nothing, Wrong}
+use Rattle.places.specs.declared.SetTable.the-variants.{Throttles, Thermal}
 use Rattle.places.specs.Places.{wrong, pollFault, clearFault, stateFault, roleFault, capsFault, userFault, resetFault, widthOf, firstSet, countFault, setsFault, formatFault, configureFault, faultOf}
 use Rattle.places.specs.Faults.{Faults, ThrottleFaults, ThermalFaults, eachOf, Least, no-fault, least}
 use Rattle.places.specs.laws.Least.{throttles-least, thermals-least}
 
 -- ---- a verdict refuses with 0x13 exactly where a fault is found
 
-pub record Alike (v : Verdict) (found : Found) : Type 0 where
+pub record Alike (v : Verdict) (found : Blame) : Type 0 where
   pub exactly : (v ≡ Refuse 0x13) ↔ ((x : Fault) × (found ≡ Wrong x))
 
 -- whether a fault is found, and the status where one refuses
-abbrev pub isWrong : Found → ℕ
+abbrev pub isWrong : Blame → ℕ
 isWrong Nothing = 0
 isWrong (Wrong x) = 1
 
@@ -69,18 +69,18 @@ made : (ch : Change) → Alike (Make ch) Nothing
 made ch = other (Make ch) (λ e. omega (arith, e))
 
 -- a test that both make, and one that the judge of statuses alone makes
-both : (t : Bool) {v w : Verdict} {a b : Found} → Alike v a → Alike w b → Alike (cond t v w) (cond t a b)
+both : (t : Bool) {v w : Verdict} {a b : Blame} → Alike v a → Alike w b → Alike (cond t v w) (cond t a b)
 both true p q = p
 both false p q = q
 
-alone : (t : Bool) {v w : Verdict} {a : Found} → Alike v a → Alike w a → Alike (cond t v w) a
+alone : (t : Bool) {v w : Verdict} {a : Blame} → Alike v a → Alike w a → Alike (cond t v w) a
 alone true p q = p
 alone false p q = q
 
 -- ---- the small commands
 
 -- the length that a type asks for
-sized : (d : List ℕ) (n : ℕ) {v : Verdict} {a : Found} → Alike v a → Alike (cond (not (eqb (length d) n)) (Refuse 0x12) v) (cond (not (eqb (length d) n)) Nothing a)
+sized : (d : List ℕ) (n : ℕ) {v : Verdict} {a : Blame} → Alike v a → Alike (cond (not (eqb (length d) n)) (Refuse 0x12) v) (cond (not (eqb (length d) n)) Nothing a)
 sized d n p = both (not (eqb (length d) n)) short p
 
 poll-alike : (d : List ℕ) → Alike (pollVerdict d) (pollFault d)
@@ -221,7 +221,7 @@ module _ (d : List ℕ) where
         (f .2)
 
 -- nothing is found exactly where there is nothing to find
-none-found : {F : Faults} {found : Found} → Least F found → (found ≡ Nothing) ↔ ((x : Fault) → F x → ⊥)
+none-found : {F : Faults} {found : Blame} → Least F found → (found ≡ Nothing) ↔ ((x : Fault) → F x → ⊥)
 none-found (no-fault h) = (λ e. h, λ e. refl)
 none-found (least x h low) = (λ e. let z : _≡_ {A = ℕ} 1 0 = ap isWrong e in absurd (omega arith), λ k. absurd (k x h))
 
@@ -238,15 +238,15 @@ frus-found d n =
     (λ h. none .1 (frus-sound d n (ok .0 h)), λ h. ok .1 (sound-frus d n (none .0 h)))
 
 -- the same of what is judged, with tables beside it
-record Judges (j : Judged) (found : Found) : Type 0 where
+record Judges (j : Judged) (found : Blame) : Type 0 where
   alike : Alike (j .verdict) found
 
-plain : {v : Verdict} {a : Found} → Alike v a → Judges (plainly v) a
+plain : {v : Verdict} {a : Blame} → Alike v a → Judges (plainly v) a
 unfolding plainly
 plain p = record { alike = p }
 
 -- the sets were read, or one of them was wrong
-read-alike : (ok : Bool) (found : Found) → (ok ≡ true) ↔ (found ≡ Nothing) → (ch : Change) (t : Tables)
+read-alike : (ok : Bool) (found : Blame) → (ok ≡ true) ↔ (found ≡ Nothing) → (ch : Change) (t : Tables)
     → Judges (cond (not ok) (plainly (Refuse 0x13)) (record { verdict = Make ch; tables = t })) found
 read-alike true Nothing e ch t = record { alike = made ch }
 read-alike false (Wrong x) e ch t = plain (record { exactly = (λ h. (x, refl), λ h. refl) })
@@ -257,7 +257,7 @@ read-alike false Nothing e ch t = absurd (false≢true (e .1 refl))
 abbrev counted : Judged → ℕ → Judged
 counted j status = cond (not (eqb status 0)) (plainly (Refuse status)) j
 
-counted-alike : (a b c e : Bool) (j : Judged) (found : Found) → Judges j found
+counted-alike : (a b c e : Bool) (j : Judged) (found : Blame) → Judges j found
     → Judges (counted j (cond a 0x12 (cond b 0x12 (cond c 0x13 (cond e 0x13 0x00)))))
     (cond a Nothing (cond b Nothing (cond c (wrong BadVersion 2) (cond e (wrong BadCount 3) found))))
 counted-alike true b c e j f p = plain short
@@ -280,7 +280,7 @@ thermal-alike d =
 
 -- ---- every command
 
-judged-both : (t : Bool) {j k : Judged} {a b : Found} → Judges j a → Judges k b → Judges (cond t j k) (cond t a b)
+judged-both : (t : Bool) {j k : Judged} {a b : Blame} → Judges j a → Judges k b → Judges (cond t j k) (cond t a b)
 judged-both true p q = p
 judged-both false p q = q
 

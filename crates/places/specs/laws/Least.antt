@@ -22,10 +22,10 @@ use Rattle.occ.specs.laws.Exactly.{found-exactly, user-allowed-exactly, counted
 use Rattle.places.specs.declared.Reason.{Reason}
 use Rattle.places.specs.declared.Reason.the-variants.{BadVersion, BadCount, OutOfRange, Repeated, Clash, NotPending}
 use Rattle.places.specs.declared.Fault.{Fault}
-use Rattle.places.specs.declared.Found.{Found}
-use Rattle.places.specs.declared.Found.the-variants.{Nothing}
-use Rattle.places.specs.declared.Table.{Table}
-use Rattle.places.specs.declared.Table.the-variants.{Throttles, Thermal}
+use Rattle.places.specs.declared.Blame.{Blame}
+use Rattle.places.specs.declared.Blame.the-variants.{Nothing}
+use Rattle.places.specs.declared.SetTable.{SetTable}
+use Rattle.places.specs.declared.SetTable.the-variants.{Throttles, Thermal}
 use Rattle.places.specs.Reasons.{named}
 use Rattle.places.specs.laws.Below.{by-order, any-exactly}
 use Rattle.places.specs.Places.{wrong, pollFault, clearFault, stateFault, roleFault, capsFault, userFault, resetFault, widthOf, mostOf, startOf, sameSecond, sameNumber, seenBefore, restFault, setFault, orElse, firstBelow, firstSet, countFault, setsFault, formatFault, configureFault, faultOf}
@@ -37,19 +37,19 @@ least-none : Least none Nothing
 least-none = no-fault (λ x h. h)
 
 -- the same faults in other words
-least-same : {F G : Faults} {found : Found} → ((x : Fault) → F x ↔ G x) → Least F found → Least G found
+least-same : {F G : Faults} {found : Blame} → ((x : Fault) → F x ↔ G x) → Least F found → Least G found
 least-same e (no-fault h) = no-fault (λ x g. h x (e x .1 g))
 least-same e (least x h low) = least x (e x .0 h) (λ y g. low y (e y .1 g))
 
 -- of two sorts of which none of the second stands before one of the first
-least-or : {F G : Faults} {a b : Found} → Least F a → Least G b → ((x y : Fault) → F x → G y → NotAfter x y) → Least (F or G) (orElse a b)
+least-or : {F G : Faults} {a b : Blame} → Least F a → Least G b → ((x y : Fault) → F x → G y → NotAfter x y) → Least (F or G) (orElse a b)
 unfolding orElse
 least-or (no-fault f) (no-fault g) after = no-fault (λ x. ⊎-elim (f x) (g x))
 least-or (no-fault f) (least x g low) after = least x (inr g) (λ y. ⊎-elim (λ h. absurd (f y h)) (low y))
 least-or (least x f low) g after = least x (inl f) (λ y. ⊎-elim (low y) (after x y f))
 
 -- where P holds those of one sort, else those of another
-least-rows : {P : Type 0} {F G : Faults} {a b : Found} {t : Bool} → (t ≡ true) ↔ P → Least F a → Least G b → Least (Rows P F G) (cond t a b)
+least-rows : {P : Type 0} {F G : Faults} {a b : Blame} {t : Bool} → (t ≡ true) ↔ P → Least F a → Least G b → Least (Rows P F G) (cond t a b)
 least-rows {P} {F} {G} {a} {b} {t} p f g = cond-cases (Least (Rows P F G)) t is isn't
   where
     held : {x : Fault} → P → Rows P F G x → F x
@@ -79,7 +79,7 @@ module _ {right : Type 0} {F : Faults} where
   least-unsized : (right → ⊥) → Least (ofLength right F) Nothing
   least-unsized h = no-fault (λ x. unjudged x h)
 
-  least-sized : {found : Found} {t : Bool} → (t ≡ false) ↔ right → Least F found → Least (ofLength right F) (cond t Nothing found)
+  least-sized : {found : Blame} {t : Bool} → (t ≡ false) ↔ right → Least F found → Least (ofLength right F) (cond t Nothing found)
   least-sized {found} {t} p f =
       cond-cases (Least (ofLength right F)) t (λ e. least-unsized (λ k. true≢false (sym e ∙ p .1 k))) (λ e. least-same (λ x. (here (p .0 e), judged x)) f)
 
@@ -116,7 +116,7 @@ module _ {P : Type 0} {t : Bool} (at : ℕ) (reason : Reason) (p : (t ≡ true) 
       least _ (same, p .0 h) (λ y f. itself _ y (f .0 ∙ sym same)))
       (λ h. no-fault (λ x f. true≢false (sym (p .1 (f .1)) ∙ h)))
 
-  least-test : {F : Faults} {found : Found} {k : ℕ} → k ≡ at → ((x y : Fault) → byte at reason P x → F y → NotAfter x y) → Least F found
+  least-test : {F : Faults} {found : Blame} {k : ℕ} → k ≡ at → ((x y : Fault) → byte at reason P x → F y → NotAfter x y) → Least F found
       → Least (byte at reason P or F) (cond t (wrong reason k) found)
   unfolding orElse wrong
   least-test {F} {found} {k} e after rest = subst (Least (byte at reason P or F)) (chosen t) (least-or (least-byte e) rest after)
@@ -174,7 +174,7 @@ user-least r d = least-sized (right-length _ _) (least-byte 1 OutOfRange (fails 
 -- ---- one set
 
 -- an earlier set has the number
-seen-exactly : (t : Table) (d : List ℕ) (i : ℕ) (Same : ℕ → Type 0) → ((k : ℕ) → (sameNumber t d (startOf t k) (startOf t i) ≡ true) ↔ Same k)
+seen-exactly : (t : SetTable) (d : List ℕ) (i : ℕ) (Same : ℕ → Type 0) → ((k : ℕ) → (sameNumber t d (startOf t k) (startOf t i) ≡ true) ↔ Same k)
     → (seenBefore t d i ≡ true) ↔ ((k : ℕ) × (k < i) × Same k)
 unfolding seenBefore
 seen-exactly t d i Same same =
@@ -232,7 +232,7 @@ thermal-least d i =
 
 -- ---- the sets one after the other
 
-module _ (f : ℕ → Found) (F : ℕ → Faults) (each : (i : ℕ) → Least (F i) (f i)) (rising : (i j : ℕ) → i < j → (x y : Fault) → F i x → F j y → NotAfter x y) where
+module _ (f : ℕ → Blame) (F : ℕ → Faults) (each : (i : ℕ) → Least (F i) (f i)) (rising : (i j : ℕ) → i < j → (x y : Fault) → F i x → F j y → NotAfter x y) where
   -- those of the sets before one, and its own
   with-last : (n : ℕ) (x : Fault) → (eachOf n F or F n) x ↔ eachOf (suc n) F x
   with-last n x = (
@@ -275,7 +275,7 @@ unfolding firstSet
 thermals-least d n = first-least (setFault Thermal d) (ThermalFaults d) (thermal-least d) (thermals-rise d) n
 
 -- version and count stand before the sets
-sets-least : (t : Table) (F : ℕ → Faults) (d : List ℕ) → Least (eachOf (getD d 2 0) F) (firstSet t d (getD d 2 0)) → ((i : ℕ) (x : Fault) → F i x → 4 ≤ x .at)
+sets-least : (t : SetTable) (F : ℕ → Faults) (d : List ℕ) → Least (eachOf (getD d 2 0) F) (firstSet t d (getD d 2 0)) → ((i : ℕ) (x : Fault) → F i x → 4 ≤ x .at)
     → Least (ofLength (length d ≡ 3 + getD d 2 0 * widthOf t) (SetsFaults F d)) (setsFault t d)
 unfolding setsFault countFault SetsFaults
 sets-least t F d all from =

@@ -21,15 +21,15 @@ use Rattle.journal.specs.Ways.{byWay}
 use Rattle.undo_call.specs.Undo.{Moved, notMoved, undoCall}
 use Rattle.promises.specs.Calls.{Call, said}
 use Rattle.promises.specs.Marks.{left, logsMade}
-use Rattle.promises.specs.History.{Deed, keeps, adds, strikes, unstrikes, deed, replay, Run, did, next-run, OfBytes}
+use Rattle.promises.specs.History.{Deed, keeps, adds, strikes, unstrikes, deed, applied, Run, did, next-run, OfBytes}
 use Rattle.promises.specs.NoTrace.{ButRedo}
 use Rattle.promises.specs.laws.Stores.{length-padded, flat}
 use Rattle.promises.specs.laws.ByHistory.{standing, backs, journalOf, byHistory, Kept, Sane}
 use Rattle.promises.specs.laws.Steps.{undo-history, undo-nothing}
 use Rattle.promises.specs.laws.Marks.{tail}
-use Rattle.promises.specs.laws.Demand3.{ahead, Inv, next-inv, formed, held-is, next-is, worked-is}
+use Rattle.promises.specs.laws.Demand3.{redoable, Inv, next-inv, formed, held-is, next-is, worked-is}
 use Rattle.promises.specs.laws.Aside.{not-redo, leftAfter, madeAfter, left-after, made-after}
-use Rattle.promises.specs.laws.Shifted.{shiftedEdit, kind-shifted, replay-shifted, logs-shifted}
+use Rattle.promises.specs.laws.Shifted.{shiftedEdit, kind-shifted, applied-shifted, logs-shifted}
 use Rattle.promises.specs.Shifted.{shiftedRecord}
 use Rattle.promises.specs.laws.Heard.{shiftedDeed, noRoom, full-by-kind, heard}
 use Rattle.promises.specs.Later.{SameWish, occ-same, occ-clears, sbe-same, undo-same, Wish, Twins, Alike, IdsEnd, AsIf}
@@ -50,8 +50,8 @@ module _ (base : Record) (k : ℕ) (low : 1 ≤ k) (still : shiftedRecord k base
   unfolding backs flat shiftedEdit inverseOf
   used-shifted hi hi′ [] w w′ = refl
   used-shifted hi hi′ (e ∷ es) w w′ =
-      let b = inverseOf (replay base es) e in
-      let b′ = inverseOf (replay base (there-edits es)) (shiftedEdit k e) in
+      let b = inverseOf (applied base es) e in
+      let b′ = inverseOf (applied base (there-edits es)) (shiftedEdit k e) in
       let kinds : kindOf (b′ .change) ≡ kindOf (b .change) = w′ .0 .links .kind-back ∙ kind-shifted k (e .change) ∙ sym (w .0 .links .kind-back) in
       length-append (journalOf base (there-edits es)) (entryBytes b′)
       ∙ ap₂ _+_ (used-shifted hi hi′ es (w .1) (w′ .1)) (length-entry Before b′ (w′ .0 .links .back-writable) ∙ ap (λ (i : ℕ). bodyLen i + 1) kinds ∙ sym (length-entry Before b (w .0 .links .back-writable)))
@@ -84,10 +84,10 @@ module _ (base : Record) (k : ℕ) (low : 1 ≤ k) (still : shiftedRecord k base
     n = logsMade (p .marks)
 
     abbrev rs : List Edit
-    rs = ahead base p
+    rs = redoable base p
 
     abbrev rs′ : List Edit
-    rs′ = ahead base q
+    rs′ = redoable base q
 
     here : p .session ≡ byHistory base es n rs
     here = b .inv .is
@@ -101,10 +101,10 @@ module _ (base : Record) (k : ℕ) (low : 1 ≤ k) (still : shiftedRecord k base
     both-sides : Twins k (byHistory base es n rs) (byHistory base (there-edits es) (suc n) rs′)
     unfolding byHistory standing byWay withHeld
     both-sides =
-        let held = replay-shifted k low base still es in
+        let held = applied-shifted k low base still es in
         record {
           held-is = held;
-          worked-is = ap workedOf held ∙ worked-shifted (replay base es);
+          worked-is = ap workedOf held ∙ worked-shifted (applied base es);
           next-is = refl;
           used-is = used-shifted (suc n) (suc (suc n)) es (b .inv .sane .kept) (sane′ .kept);
         }

@@ -19,8 +19,8 @@ use Rattle.occ.specs.declared.Judged.{Judged}
 use Rattle.occ.specs.declared.Verdict.{Verdict}
 use Rattle.occ.specs.declared.Verdict.the-variants.{Refuse, Poll, Make}
 use Rattle.sbe.specs.Mailbox as mailbox
-use Rattle.sbe.specs.declared.Verdict.{Verdict as Request}
-use Rattle.sbe.specs.declared.Verdict.the-variants.{Refuse as Declined, Make as Granted}
+use Rattle.sbe.specs.declared.Ruling.{Ruling}
+use Rattle.sbe.specs.declared.Ruling.the-variants.{Decline, Grant}
 use Rattle.session.specs.Session.{wellFormed, withHeld, carriedTo, carriedOf, madeOf}
 use Rattle.session.specs.declared.Session.{Session}
 use Rattle.occ_call.specs.Occ as occs
@@ -28,12 +28,12 @@ use Rattle.sbe_call.specs.Sbe as sbes
 use Rattle.undo_call.specs.Undo.{Moved, notMoved, undoCall}
 use Rattle.promises.specs.Calls.{Call, occ, sbe, undo, redo, said}
 use Rattle.promises.specs.Marks.{Mark, left, logsMade}
-use Rattle.promises.specs.History.{Deed, keeps, adds, strikes, unstrikes, adding, occVerdict, occJudgement, sbeVerdict, deed, marked, Run, did, next-run, OfBytes}
+use Rattle.promises.specs.History.{Deed, keeps, adds, strikes, unstrikes, adding, occVerdict, occJudgement, sbeRuling, deed, marked, Run, did, next-run, OfBytes}
 use Rattle.promises.specs.NoTrace.{ButRedo, SameSaid, AsBefore, AllButRedo}
 use Rattle.promises.specs.laws.Marks.{tail, left-change, left-strike, logs-strike}
 use Rattle.promises.specs.laws.ByHistory.{standing, byHistory, Sane}
 use Rattle.promises.specs.laws.Steps.{undo-history, undo-nothing}
-use Rattle.promises.specs.laws.Demand3.{ahead, Inv, formed, next-inv}
+use Rattle.promises.specs.laws.Demand3.{redoable, Inv, formed, next-inv}
 
 -- ---- a call but redo doesn't unstrike
 
@@ -53,10 +53,10 @@ verdict-not s t (Refuse status) = tt
 verdict-not s t Poll = tt
 verdict-not s t (Make ch) = adding-not s (record { change = ch; tables = t })
 
-request-not : (s : Session) (v : Request) → NotRedo (sbeVerdict s v)
-unfolding sbeVerdict
-request-not s (Declined primary secondary) = tt
-request-not s (Granted ch) = adding-not s (record { change = ch; tables = noTables })
+request-not : (s : Session) (v : Ruling) → NotRedo (sbeRuling s v)
+unfolding sbeRuling
+request-not s (Decline primary secondary) = tt
+request-not s (Grant ch) = adding-not s (record { change = ch; tables = noTables })
 
 pub not-redo : (s : Session) (c : Call) → ButRedo c → NotRedo (deed s c)
 unfolding deed occJudgement
@@ -168,27 +168,27 @@ module _ (s : Session) (r : List ℕ) (a : ℕ) (formed-s : wellFormed s ≡ tru
   SbeSame x d y d′ = SbeAlike x y × (d′ ≡ d)
 
   module _ (q d : List ℕ) where
-    sbe-verdict : (v : Request) → SbeSame (sbes.verdictSays s q d v) (sbeVerdict s v) (sbes.verdictSays t q d v) (sbeVerdict t v)
-    unfolding sbes.verdictSays sbes.sbeMade sbes.carriedSays sbes.kept sbes.responds sbes.rung sbeVerdict
-    sbe-verdict (Declined primary secondary) = ((refl, refl, refl), refl)
-    sbe-verdict (Granted ch) =
+    sbe-ruling : (v : Ruling) → SbeSame (sbes.rulingSays s q d v) (sbeRuling s v) (sbes.rulingSays t q d v) (sbeRuling t v)
+    unfolding sbes.rulingSays sbes.sbeMade sbes.carriedSays sbes.kept sbes.responds sbes.rung sbeRuling
+    sbe-ruling (Decline primary secondary) = ((refl, refl, refl), refl)
+    sbe-ruling (Grant ch) =
         let e : Edit = record { change = ch; tables = noTables } in
         (by-same SbeAlike (carriedOf s e .full) (carriedOf t e .full) (same-full e) (refl, refl, refl) (refl, refl, refl), same-adding e)
 
-    sbe-from : (n : ℕ) → SbeSame (sbes.sbeFrom n s q d) (cond (not (eqb n 0)) keeps (sbeVerdict s (mailbox.requestVerdict q))) (sbes.sbeFrom n t q d) (cond (not (eqb n 0)) keeps (sbeVerdict t (mailbox.requestVerdict q)))
+    sbe-from : (n : ℕ) → SbeSame (sbes.sbeFrom n s q d) (cond (not (eqb n 0)) keeps (sbeRuling s (mailbox.requestRuling q))) (sbes.sbeFrom n t q d) (cond (not (eqb n 0)) keeps (sbeRuling t (mailbox.requestRuling q)))
     unfolding sbes.sbeFrom sbes.sbeRead sbes.kept sbes.rung
     sbe-from n = go (not (eqb n 0))
       where
-        go : (b : Bool) → SbeSame (cond b (sbes.kept n s d) (sbes.verdictSays s q d (mailbox.requestVerdict q))) (cond b keeps (sbeVerdict s (mailbox.requestVerdict q)))
-            (cond b (sbes.kept n t d) (sbes.verdictSays t q d (mailbox.requestVerdict q))) (cond b keeps (sbeVerdict t (mailbox.requestVerdict q)))
+        go : (b : Bool) → SbeSame (cond b (sbes.kept n s d) (sbes.rulingSays s q d (mailbox.requestRuling q))) (cond b keeps (sbeRuling s (mailbox.requestRuling q)))
+            (cond b (sbes.kept n t d) (sbes.rulingSays t q d (mailbox.requestRuling q))) (cond b keeps (sbeRuling t (mailbox.requestRuling q)))
         go true = ((refl, refl, refl), refl)
-        go false = sbe-verdict (mailbox.requestVerdict q)
+        go false = sbe-ruling (mailbox.requestRuling q)
 
     sbe-same : SbeSame (sbes.sbeCall s q d) (deed s (sbe q d)) (sbes.sbeCall t q d) (deed t (sbe q d))
     unfolding sbes.sbeCall sbes.sbeRefusal deed
     sbe-same =
         subst (λ (b : Bool). SbeSame (sbes.sbeCall s q d) (deed s (sbe q d)) (sbes.sbeFrom (sbes.refusalOf b (length q) (length d)) t q d)
-        (cond (not (eqb (sbes.refusalOf b (length q) (length d)) 0)) keeps (sbeVerdict t (mailbox.requestVerdict q))))
+        (cond (not (eqb (sbes.refusalOf b (length q) (length d)) 0)) keeps (sbeRuling t (mailbox.requestRuling q))))
         (formed-s ∙ sym formed-t) (sbe-from (sbes.refusalOf (wellFormed s) (length q) (length d)))
 
   -- ---- any call but redo
@@ -229,27 +229,27 @@ module _ (base : Record) where
     abbrev n : ℕ
     n = logsMade (p .marks)
 
-    there-is : q .session ≡ byHistory base es n (ahead base q)
-    there-is = b .inv′ .is ∙ (λ i. byHistory base (b .left-is i) (b .made-is i) (ahead base q))
+    there-is : q .session ≡ byHistory base es n (redoable base q)
+    there-is = b .inv′ .is ∙ (λ i. byHistory base (b .left-is i) (b .made-is i) (redoable base q))
 
-    sane′ : Sane base es n (ahead base q)
-    sane′ = subst (λ (x : List Edit). Sane base x n (ahead base q)) (b .left-is) (subst (λ (m : ℕ). Sane base (left (q .marks)) m (ahead base q)) (b .made-is) (b .inv′ .sane))
+    sane′ : Sane base es n (redoable base q)
+    sane′ = subst (λ (x : List Edit). Sane base x n (redoable base q)) (b .left-is) (subst (λ (m : ℕ). Sane base (left (q .marks)) m (redoable base q)) (b .made-is) (b .inv′ .sane))
 
     -- the second session is the first with another redo store
-    redo-only : q .session ≡ withRedo (p .session) (byHistory base es n (ahead base q) .redo) (byHistory base es n (ahead base q) .ahead)
+    redo-only : q .session ≡ withRedo (p .session) (byHistory base es n (redoable base q) .redo) (byHistory base es n (redoable base q) .ahead)
     unfolding byHistory standing byWay withHeld withRedo
-    redo-only = there-is ∙ sym (ap (λ (s : Session). withRedo s (byHistory base es n (ahead base q) .redo) (byHistory base es n (ahead base q) .ahead)) (b .inv .is))
+    redo-only = there-is ∙ sym (ap (λ (s : Session). withRedo s (byHistory base es n (redoable base q) .redo) (byHistory base es n (redoable base q) .ahead)) (b .inv .is))
 
     answers : undoCall (q .session) .answer ≡ undoCall (p .session) .answer
-    answers = ap (λ (s : Session). undoCall s .answer) there-is ∙ undo-same es n (ahead base p) (ahead base q) (b .inv .sane) sane′ .0 ∙ ap (λ (s : Session). undoCall s .answer) (sym (b .inv .is))
+    answers = ap (λ (s : Session). undoCall s .answer) there-is ∙ undo-same es n (redoable base p) (redoable base q) (b .inv .sane) sane′ .0 ∙ ap (λ (s : Session). undoCall s .answer) (sym (b .inv .is))
 
     kinds : undoCall (q .session) .kind ≡ undoCall (p .session) .kind
-    kinds = ap (λ (s : Session). undoCall s .kind) there-is ∙ undo-same es n (ahead base p) (ahead base q) (b .inv .sane) sane′ .1 ∙ ap (λ (s : Session). undoCall s .kind) (sym (b .inv .is))
+    kinds = ap (λ (s : Session). undoCall s .kind) there-is ∙ undo-same es n (redoable base p) (redoable base q) (b .inv .sane) sane′ .1 ∙ ap (λ (s : Session). undoCall s .kind) (sym (b .inv .is))
 
     aside-said : (c : Call) → ButRedo c → SameSaid (said (p .session) c) (said (q .session) c) × (deed (q .session) c ≡ deed (p .session) c)
     aside-said c h =
-        let r = byHistory base es n (ahead base q) .redo in
-        let a = byHistory base es n (ahead base q) .ahead in
+        let r = byHistory base es n (redoable base q) .redo in
+        let a = byHistory base es n (redoable base q) .ahead in
         subst (λ (t : Session). SameSaid (said (p .session) c) (said t c) × (deed t c ≡ deed (p .session) c)) (sym redo-only)
         (same-said (p .session) r a (formed base p (b .inv)) (ap wellFormed (sym redo-only) ∙ formed base q (b .inv′))
         (ap (λ (t : Session). undoCall t .answer) (sym redo-only) ∙ answers) (ap (λ (t : Session). undoCall t .kind) (sym redo-only) ∙ kinds) c h)

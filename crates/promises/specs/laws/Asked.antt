@@ -37,7 +37,7 @@ use Rattle.occ.specs.declared.Verdict.the-variants.{Refuse, Poll, Make}
 use Rattle.occ.specs.declared.Judged.{Judged}
 use Rattle.sbe.specs.Mailbox as mailbox
 use Rattle.sbe.specs.laws.Made.{change-ok, change-fits}
-use Rattle.sbe.specs.declared.Verdict.the-variants.{Make as Granted}
+use Rattle.sbe.specs.declared.Ruling.the-variants.{Grant}
 use Rattle.links.specs.Typed.{TypedRecord}
 use Rattle.links.specs.laws.Made.{NewLog, Values, Made}
 
@@ -237,10 +237,10 @@ module _ (r : Record) (w : Worked) (next sender kind : ℕ) (d : List ℕ) (byte
 -- ---- SBE
 
 module _ (r : Record) (next : ℕ) (q : List ℕ) (bytes : Bytes q) where
-  granted : (ch : Change) → mailbox.requestVerdict q ≡ Granted ch → Writable After noTables ch → Values noTables ch
+  granted : (ch : Change) → mailbox.requestRuling q ≡ Grant ch → Writable After noTables ch → Values noTables ch
   granted ch e f = record { ok = change-ok q ch e; fits = f }
 
-  pub sbe-made : (ch : Change) → mailbox.requestVerdict q ≡ Granted ch → Made r next noTables ch
+  pub sbe-made : (ch : Change) → mailbox.requestRuling q ≡ Grant ch → Made r next noTables ch
   sbe-made (Clear place log) e = absurd (change-fits q bytes _ e)
   sbe-made (Unclear place log) e = change-fits q bytes _ e
   sbe-made (SetState state) e = absurd (change-fits q bytes _ e)

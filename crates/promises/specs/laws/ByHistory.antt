@@ -19,7 +19,7 @@ use Rattle.session.specs.declared.Session.{Session}
 use Rattle.links.specs.Typed.{TypedRecord}
 use Rattle.links.specs.laws.Made.{Made}
 use Rattle.links.specs.laws.Links.{Link, next-up}
-use Rattle.promises.specs.History.{replay}
+use Rattle.promises.specs.History.{applied}
 use Rattle.promises.specs.laws.Stores.{padded, flat, AllStored, flat-formed}
 
 -- a session with these entries in the store that a way takes from, and those in the other one
@@ -32,45 +32,45 @@ module _ (base : Record) where
   -- the entries that changes made, each on the record that the changes before it give
   unfoldable pub backs : List Edit → List Edit
   backs [] = []
-  backs (e ∷ es) = inverseOf (replay base es) e ∷ backs es
+  backs (e ∷ es) = inverseOf (applied base es) e ∷ backs es
 
   abbrev pub journalOf : List Edit → List ℕ
   journalOf es = flat (backs es)
 
   -- es are left; rs can be redone, the last struck first: what was after is the change itself
   unfoldable pub byHistory : List Edit → ℕ → List Edit → Session
-  byHistory es n rs = standing Before (replay base es) (suc n) (backs es) rs
+  byHistory es n rs = standing Before (applied base es) (suc n) (backs es) rs
 
   -- each change that is left is undone by its entry, and the record before it is well formed at the next id hi
   pub record Step (hi : ℕ) (e : Edit) (es : List Edit) : Type 0 where
     pub known : ℕ
-    pub made : Made (replay base es) known (e .tables) (e .change)
+    pub made : Made (applied base es) known (e .tables) (e .change)
     pub below : known + madeOf (e .change) ≤ hi
-    pub links : Link (replay base es) known e
-    pub ok : recordOk (replay base es) hi ≡ true
-    pub typed : TypedRecord (replay base es)
+    pub links : Link (applied base es) known e
+    pub ok : recordOk (applied base es) hi ≡ true
+    pub typed : TypedRecord (applied base es)
 
   abbrev pub Kept : ℕ → List Edit → Type 0
   Kept hi [] = Unit {0}
   Kept hi (e ∷ es) = Step hi e es × Kept hi es
 
   -- and so is each that can be redone, after those redone before it
-  abbrev pub Ahead : ℕ → List Edit → List Edit → Type 0
-  Ahead hi es [] = Unit {0}
-  Ahead hi es (r ∷ rs) = Step hi r es × Ahead hi (r ∷ es) rs
+  abbrev pub Again : ℕ → List Edit → List Edit → Type 0
+  Again hi es [] = Unit {0}
+  Again hi es (r ∷ rs) = Step hi r es × Again hi (r ∷ es) rs
 
   pub record Sane (es : List Edit) (n : ℕ) (rs : List Edit) : Type 0 where
     pub small : suc n ≤ 256
     pub fits : length (journalOf es) + length (flat rs) ≤ 2048
-    pub ok : recordOk (replay base es) (suc n) ≡ true
-    pub typed : TypedRecord (replay base es)
+    pub ok : recordOk (applied base es) (suc n) ≡ true
+    pub typed : TypedRecord (applied base es)
     pub kept : Kept (suc n) es
-    pub ahead : Ahead (suc n) es rs
+    pub again : Again (suc n) es rs
 
   pub kept-up : (hi hi′ : ℕ) (es : List Edit) → hi ≤ hi′ → hi′ ≤ 256 → Kept hi es → Kept hi′ es
   kept-up hi hi′ [] h k w = tt
   kept-up hi hi′ (e ∷ es) h k w =
-      (record { known = w .0 .known; made = w .0 .made; below = omega (arith, w .0 .below); links = w .0 .links; ok = next-up (replay base es) hi hi′ (w .0 .ok) h k; typed = w .0 .typed }, kept-up hi hi′ es h k (w .1))
+      (record { known = w .0 .known; made = w .0 .made; below = omega (arith, w .0 .below); links = w .0 .links; ok = next-up (applied base es) hi hi′ (w .0 .ok) h k; typed = w .0 .typed }, kept-up hi hi′ es h k (w .1))
 
   -- ---- both stores hold them
 
@@ -79,9 +79,9 @@ module _ (base : Record) where
   backs-stored hi [] k = tt
   backs-stored hi (e ∷ es) k = let l = k .0 .links in (record { writable = l .back-writable; good = l .entry-good; reads = l .entry-reads }, backs-stored hi es (k .1))
 
-  pub ahead-stored : (hi : ℕ) (es rs : List Edit) → Ahead hi es rs → AllStored After rs
-  ahead-stored hi es [] k = tt
-  ahead-stored hi es (r ∷ rs) k = let l = k .0 .links in (record { writable = l .here-writable; good = l .redo-good; reads = l .redo-reads }, ahead-stored hi (r ∷ es) rs (k .1))
+  pub again-stored : (hi : ℕ) (es rs : List Edit) → Again hi es rs → AllStored After rs
+  again-stored hi es [] k = tt
+  again-stored hi es (r ∷ rs) k = let l = k .0 .links in (record { writable = l .here-writable; good = l .redo-good; reads = l .redo-reads }, again-stored hi (r ∷ es) rs (k .1))
 
   pub history-formed : (es : List Edit) (n : ℕ) (rs : List Edit) → Sane es n rs → wellFormed (byHistory es n rs) ≡ true
   unfolding byHistory standing byWay withHeld
@@ -91,5 +91,5 @@ module _ (base : Record) where
         worked-is = refl;
         both-fit = g .fits;
         journal = flat-formed Before (backs es) (backs-stored (suc n) es (g .kept)) (omega (arith, g .fits));
-        redo = flat-formed After rs (ahead-stored (suc n) es rs (g .ahead)) (omega (arith, g .fits));
+        redo = flat-formed After rs (again-stored (suc n) es rs (g .again)) (omega (arith, g .fits));
       })

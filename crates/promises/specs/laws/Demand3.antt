@@ -20,8 +20,8 @@ use Rattle.occ.specs.declared.Judged.{Judged}
 use Rattle.occ.specs.declared.Verdict.{Verdict}
 use Rattle.occ.specs.declared.Verdict.the-variants.{Refuse, Poll, Make}
 use Rattle.sbe.specs.Mailbox as mailbox
-use Rattle.sbe.specs.declared.Verdict.{Verdict as Request}
-use Rattle.sbe.specs.declared.Verdict.the-variants.{Refuse as Declined, Make as Granted}
+use Rattle.sbe.specs.declared.Ruling.{Ruling}
+use Rattle.sbe.specs.declared.Ruling.the-variants.{Decline, Grant}
 use Rattle.session.specs.Session.{wellFormed, withHeld, madeOf, carriedOf}
 use Rattle.session.specs.declared.Session.{Session}
 use Rattle.occ_call.specs.Occ as occs
@@ -31,7 +31,7 @@ use Rattle.links.specs.Typed.{TypedRecord}
 use Rattle.links.specs.laws.Made.{Made}
 use Rattle.promises.specs.Calls.{Call, occ, sbe, undo, redo, said}
 use Rattle.promises.specs.Marks.{latest, left, logsMade, undoAnswer}
-use Rattle.promises.specs.History.{Deed, keeps, adds, strikes, unstrikes, adding, occVerdict, occJudgement, sbeVerdict, deed, marked, undosAfter, sinceAfter, replay, Run, did, next-run, run, OfBytes, AllOfBytes, Demand3}
+use Rattle.promises.specs.History.{Deed, keeps, adds, strikes, unstrikes, adding, occVerdict, occJudgement, sbeRuling, deed, marked, undosAfter, sinceAfter, applied, Run, did, next-run, run, OfBytes, AllOfBytes, Demand3}
 use Rattle.promises.specs.laws.Ids.{drew, ids-add}
 use Rattle.promises.specs.laws.Struck.{off}
 use Rattle.promises.specs.laws.Marks.{answerOf, Strokes, strokes-change, off-change, left-change, strokes-undo, left-undo, off-undo, redo-answer, strokes-redo, left-redo, off-redo, logs-strike, logs-unstrike, ids-strike, ids-unstrike}
@@ -118,22 +118,22 @@ module _ (s : Session) (formed : wellFormed s ≡ true) (ok : recordOk (s .held)
       (cond-elim Fair (ltb r 32) ((λ z. omega (arith, z)), (λ z. omega (arith, z))) ((λ z. omega (arith, z)), (λ z. omega (arith, z)))))
 
   module _ (r d : List ℕ) (bytes : Bytes r) where
-    sbe-makes : (ch : Change) → mailbox.requestVerdict r ≡ Granted ch → SbeFollows (adding s (record { change = ch; tables = noTables })) (sbes.sbeMade s ch r d)
+    sbe-makes : (ch : Change) → mailbox.requestRuling r ≡ Grant ch → SbeFollows (adding s (record { change = ch; tables = noTables })) (sbes.sbeMade s ch r d)
     unfolding adding sbes.sbeMade sbes.carriedSays sbes.kept sbes.responds sbes.rung
     sbe-makes ch v =
         by-both SbeFollows (carriedOf s (record { change = ch; tables = noTables }) .full) (λ f. full)
         (λ f. carries (record { change = ch; tables = noTables }) (sbe-made (s .held) (s .next) r bytes ch v) f)
 
-    sbe-verdict : (v : Request) → mailbox.requestVerdict r ≡ v → SbeFollows (sbeVerdict s v) (sbes.verdictSays s r d v)
-    unfolding sbeVerdict sbes.verdictSays sbes.responds sbes.rung
-    sbe-verdict (Declined p q) e = quiet
-    sbe-verdict (Granted ch) e = sbe-makes ch e
+    sbe-ruling : (v : Ruling) → mailbox.requestRuling r ≡ v → SbeFollows (sbeRuling s v) (sbes.rulingSays s r d v)
+    unfolding sbeRuling sbes.rulingSays sbes.responds sbes.rung
+    sbe-ruling (Decline p q) e = quiet
+    sbe-ruling (Grant ch) e = sbe-makes ch e
 
     sbe-follows : SbeFollows (deed s (sbe r d)) (sbes.sbeCall s r d)
     unfolding deed sbes.sbeCall sbes.sbeFrom sbes.sbeRead sbes.kept sbes.rung
     sbe-follows =
         by-both SbeFollows (not (eqb (sbes.sbeRefusal s (length r) (length d)) 0)) (λ f. stays _ (sbe-fair (length r) (length d)))
-        (λ f. sbe-verdict (mailbox.requestVerdict r) refl)
+        (λ f. sbe-ruling (mailbox.requestRuling r) refl)
 
   follows-fair : (d : Deed) (a : ℕ) (t : Session) → Follows d a t → Fair a
   follows-fair d a t (stays b f) = f
@@ -153,21 +153,21 @@ redo-fair (e ∷ l) = ((λ z. omega (arith, z)), (λ z. omega (arith, z)))
 
 module _ (base : Record) where
   -- es are left, n logs were made, rs can be redone
-  abbrev pub ahead : Run → List Edit
-  ahead p = off (p .since) (p .marks) []
+  abbrev pub redoable : Run → List Edit
+  redoable p = off (p .since) (p .marks) []
 
   pub record Inv (p : Run) : Type 0 where
-    pub is : p .session ≡ byHistory base (left (p .marks)) (logsMade (p .marks)) (ahead p)
-    pub sane : Sane base (left (p .marks)) (logsMade (p .marks)) (ahead p)
+    pub is : p .session ≡ byHistory base (left (p .marks)) (logsMade (p .marks)) (redoable p)
+    pub sane : Sane base (left (p .marks)) (logsMade (p .marks)) (redoable p)
     pub ids : idsMade (p .marks) ≡ countdown (logsMade (p .marks))
     pub strokes : Strokes (p .undos) (p .since) (p .marks)
 
   -- a run whose marks say this, by what they say
-  inv-by : (p : Run) (es : List Edit) (n : ℕ) (rs : List Edit) → left (p .marks) ≡ es → logsMade (p .marks) ≡ n → ahead p ≡ rs → p .session ≡ byHistory base es n rs → Sane base es n rs
+  inv-by : (p : Run) (es : List Edit) (n : ℕ) (rs : List Edit) → left (p .marks) ≡ es → logsMade (p .marks) ≡ n → redoable p ≡ rs → p .session ≡ byHistory base es n rs → Sane base es n rs
       → idsMade (p .marks) ≡ countdown n → Strokes (p .undos) (p .since) (p .marks) → Inv p
   inv-by p es n rs l k a is sane ids strokes = record {
     is = is ∙ sym (λ i. byHistory base (l i) (k i) (a i));
-    sane = subst (λ (x : List Edit). Sane base x (logsMade (p .marks)) (ahead p)) (sym l) (subst (λ (x : ℕ). Sane base es x (ahead p)) (sym k) (subst (Sane base es n) (sym a) sane));
+    sane = subst (λ (x : List Edit). Sane base x (logsMade (p .marks)) (redoable p)) (sym l) (subst (λ (x : ℕ). Sane base es x (redoable p)) (sym k) (subst (Sane base es n) (sym a) sane));
     ids = ids ∙ ap countdown (sym k);
     strokes = strokes;
   }
@@ -180,12 +180,12 @@ module _ (base : Record) where
     n = logsMade (p .marks)
 
     abbrev rs : List Edit
-    rs = ahead p
+    rs = redoable p
 
     pub formed : wellFormed (p .session) ≡ true
     formed = ap wellFormed (v .is) ∙ history-formed base es n rs (v .sane)
 
-    pub held-is : p .session .held ≡ replay base es
+    pub held-is : p .session .held ≡ applied base es
     unfolding byHistory standing withHeld
     held-is = ap (λ (s : Session). s .held) (v .is)
 
@@ -193,12 +193,12 @@ module _ (base : Record) where
     unfolding byHistory standing withHeld
     next-is = ap (λ (s : Session). s .next) (v .is)
 
-    pub worked-is : p .session .worked ≡ workedOf (replay base es)
+    pub worked-is : p .session .worked ≡ workedOf (applied base es)
     unfolding byHistory standing withHeld
     worked-is = ap (λ (s : Session). s .worked) (v .is)
 
     ok : recordOk (p .session .held) (p .session .next) ≡ true
-    ok = subst (λ (r : Record). recordOk r (p .session .next) ≡ true) (sym held-is) (subst (λ (k : ℕ). recordOk (replay base es) k ≡ true) (sym next-is) (v .sane .ok))
+    ok = subst (λ (r : Record). recordOk r (p .session .next) ≡ true) (sym held-is) (subst (λ (k : ℕ). recordOk (applied base es) k ≡ true) (sym next-is) (v .sane .ok))
 
     typed : TypedRecord (p .session .held)
     typed = subst TypedRecord (sym held-is) (v .sane .typed)
@@ -208,13 +208,13 @@ module _ (base : Record) where
     unfolding did marked undosAfter sinceAfter logsMade
     follow d a t (stays b f) = v
     follow d a t (carries e m f) =
-        let made : Made (replay base es) (suc n) (e .tables) (e .change) =
-        subst (λ (k : ℕ). Made (replay base es) k (e .tables) (e .change)) next-is (subst (λ (r : Record). Made r (p .session .next) (e .tables) (e .change)) held-is m) in
+        let made : Made (applied base es) (suc n) (e .tables) (e .change) =
+        subst (λ (k : ℕ). Made (applied base es) k (e .tables) (e .change)) next-is (subst (λ (r : Record). Made r (p .session .next) (e .tables) (e .change)) held-is m) in
         let fits : carriedOf (byHistory base es n rs) e .full ≡ false = ap (λ (s : Session). carriedOf s e .full) (sym (v .is)) ∙ f in
         inv-by (did p t (adds e)) (e ∷ es) (n + madeOf (e .change)) [] (left-change e (p .marks)) refl (off-change (v .strokes) e)
         (ap (λ (s : Session). carriedOf s e .session) (v .is) ∙ carried-history base e es n rs (v .sane) made fits)
         (carried-sane base e es n rs (v .sane) made fits)
-        (ids-add (record { edit = e; stroke = 0 }) (p .marks) (drew (replay base es) (suc n) (e .tables) (e .change) made) (v .ids))
+        (ids-add (record { edit = e; stroke = 0 }) (p .marks) (drew (applied base es) (suc n) (e .tables) (e .change) made) (v .ids))
         (strokes-change (v .strokes) e)
 
     -- ---- undo: the newest that is left

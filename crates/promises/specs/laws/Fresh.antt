@@ -12,7 +12,7 @@ use Rattle.session.specs.Session.{freshSession}
 use Rattle.links.specs.laws.Typed.{typed-fresh}
 use Rattle.promises.specs.laws.ComputedSession.{computedSession}
 use Rattle.promises.specs.Marks.{left, logsMade}
-use Rattle.promises.specs.History.{replay, start}
+use Rattle.promises.specs.History.{applied, start}
 use Rattle.promises.specs.Ids.{idsMade, countdown}
 use Rattle.promises.specs.laws.Stores.{padded, flat}
 use Rattle.promises.specs.laws.ByHistory.{standing, backs, byHistory, Sane}
@@ -28,11 +28,11 @@ unfolding computedSession
 fresh-ok = refl
 
 fresh-sane : Sane freshRecord [] 0 []
-unfolding backs flat replay
-fresh-sane = record { small = omega arith; fits = omega arith; ok = fresh-ok; typed = typed-fresh; kept = tt; ahead = tt }
+unfolding backs flat applied
+fresh-sane = record { small = omega arith; fits = omega arith; ok = fresh-ok; typed = typed-fresh; kept = tt; again = tt }
 
 pub fresh-start : Inv freshRecord (start freshSession)
-unfolding computedSession start left logsMade off idsMade countdown byHistory standing byWay padded backs flat replay
+unfolding computedSession start left logsMade off idsMade countdown byHistory standing byWay padded backs flat applied
 fresh-start = record { is = refl; sane = fresh-sane; ids = refl; strokes = strokes-start }
 
 -- a fresh record has no log, so no id in it differs

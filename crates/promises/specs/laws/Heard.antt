@@ -23,8 +23,8 @@ use Rattle.occ.specs.declared.Verdict.{Verdict}
 use Rattle.occ.specs.declared.Verdict.the-variants.{Refuse, Poll, Make}
 use Rattle.sbe.specs.Mailbox as mailbox
 use Rattle.sbe.specs.laws.Made.{change-fits}
-use Rattle.sbe.specs.declared.Verdict.{Verdict as Request}
-use Rattle.sbe.specs.declared.Verdict.the-variants.{Refuse as Declined, Make as Granted}
+use Rattle.sbe.specs.declared.Ruling.{Ruling}
+use Rattle.sbe.specs.declared.Ruling.the-variants.{Decline, Grant}
 use Rattle.session.specs.Session.{wellFormed, carriedTo, carriedOf}
 use Rattle.session.specs.declared.Session.{Session}
 use Rattle.occ_call.specs.Occ as occs
@@ -32,7 +32,7 @@ use Rattle.sbe_call.specs.Sbe as sbes
 use Rattle.undo_call.specs.Undo.{undoCall}
 use Rattle.links.specs.laws.Links.{kind-of-back}
 use Rattle.promises.specs.Calls.{Call, occ, sbe, undo, said}
-use Rattle.promises.specs.History.{Deed, keeps, adds, strikes, unstrikes, adding, occVerdict, occJudgement, sbeVerdict, deed, OfBytes}
+use Rattle.promises.specs.History.{Deed, keeps, adds, strikes, unstrikes, adding, occVerdict, occJudgement, sbeRuling, deed, OfBytes}
 use Rattle.promises.specs.laws.Demand3.{by-both, held-is, next-is, worked-is}
 use Rattle.promises.specs.laws.Shifted.{shiftedChange, shiftedEdit, choose}
 use Rattle.promises.specs.Shifted.{shiftedRecord}
@@ -154,7 +154,7 @@ module _ (k : ℕ) (low : 1 ≤ k) (s t : Session) (tw : Twins k s t) (from-k : 
   SbeAlike a b = (b .outcome .answer ≡ a .outcome .answer) × (b .outcome .bell ≡ a .outcome .bell) × SameReply k s (a .reply) (b .reply)
 
   module _ (r d : List ℕ) (bytes : Bytes r) where
-    no-log : (ch : Change) → mailbox.requestVerdict r ≡ Granted ch → shiftedChange k ch ≡ ch
+    no-log : (ch : Change) → mailbox.requestRuling r ≡ Grant ch → shiftedChange k ch ≡ ch
     unfolding shiftedChange
     no-log (Clear place log) e = absurd (change-fits r bytes _ e)
     no-log (Unclear place log) e = absurd (change-fits r bytes _ e)
@@ -170,7 +170,7 @@ module _ (k : ℕ) (low : 1 ≤ k) (s t : Session) (tw : Twins k s t) (from-k : 
     no-log (SetDeadman deadman) e = refl
     no-log (SetAreas areas) e = refl
 
-    module _ (ch : Change) (granted : mailbox.requestVerdict r ≡ Granted ch) where
+    module _ (ch : Change) (granted : mailbox.requestRuling r ≡ Grant ch) where
       abbrev edit : Edit
       edit = record { change = ch; tables = noTables }
 
@@ -193,10 +193,10 @@ module _ (k : ℕ) (low : 1 ≤ k) (s t : Session) (tw : Twins k s t) (from-k : 
     abbrev SbeHeard : sbes.SbeResult → Deed → sbes.SbeResult → Deed → Type 0
     SbeHeard a x b y = SbeAlike a b × (y ≡ shiftedDeed k x)
 
-    sbe-verdict : (v : Request) → mailbox.requestVerdict r ≡ v → SbeHeard (sbes.verdictSays s r d v) (sbeVerdict s v) (sbes.verdictSays t r d v) (sbeVerdict t v)
-    unfolding sbes.verdictSays sbes.responds sbes.rung sbeVerdict shiftedDeed
-    sbe-verdict (Declined primary secondary) e = ((refl, refl, same-bytes _), refl)
-    sbe-verdict (Granted ch) e = (sbe-makes ch e, made-here ch e)
+    sbe-ruling : (v : Ruling) → mailbox.requestRuling r ≡ v → SbeHeard (sbes.rulingSays s r d v) (sbeRuling s v) (sbes.rulingSays t r d v) (sbeRuling t v)
+    unfolding sbes.rulingSays sbes.responds sbes.rung sbeRuling shiftedDeed
+    sbe-ruling (Decline primary secondary) e = ((refl, refl, same-bytes _), refl)
+    sbe-ruling (Grant ch) e = (sbe-makes ch e, made-here ch e)
 
     abbrev m : ℕ
     m = sbes.sbeRefusal s (length r) (length d)
@@ -205,19 +205,19 @@ module _ (k : ℕ) (low : 1 ≤ k) (s t : Session) (tw : Twins k s t) (from-k : 
     unfolding sbes.sbeRefusal
     sbe-refusal = ap (λ (b : Bool). sbes.refusalOf b (length r) (length d)) (formed-t ∙ sym formed-s)
 
-    sbe-from : SbeHeard (sbes.sbeFrom m s r d) (cond (not (eqb m 0)) keeps (sbeVerdict s (mailbox.requestVerdict r))) (sbes.sbeFrom m t r d) (cond (not (eqb m 0)) keeps (sbeVerdict t (mailbox.requestVerdict r)))
+    sbe-from : SbeHeard (sbes.sbeFrom m s r d) (cond (not (eqb m 0)) keeps (sbeRuling s (mailbox.requestRuling r))) (sbes.sbeFrom m t r d) (cond (not (eqb m 0)) keeps (sbeRuling t (mailbox.requestRuling r)))
     unfolding sbes.sbeFrom sbes.sbeRead sbes.kept sbes.rung shiftedDeed
     sbe-from = go (not (eqb m 0))
       where
-        go : (b : Bool) → SbeHeard (cond b (sbes.kept m s d) (sbes.verdictSays s r d (mailbox.requestVerdict r))) (cond b keeps (sbeVerdict s (mailbox.requestVerdict r)))
-            (cond b (sbes.kept m t d) (sbes.verdictSays t r d (mailbox.requestVerdict r))) (cond b keeps (sbeVerdict t (mailbox.requestVerdict r)))
+        go : (b : Bool) → SbeHeard (cond b (sbes.kept m s d) (sbes.rulingSays s r d (mailbox.requestRuling r))) (cond b keeps (sbeRuling s (mailbox.requestRuling r)))
+            (cond b (sbes.kept m t d) (sbes.rulingSays t r d (mailbox.requestRuling r))) (cond b keeps (sbeRuling t (mailbox.requestRuling r)))
         go true = ((refl, refl, same-bytes d), refl)
-        go false = sbe-verdict (mailbox.requestVerdict r) refl
+        go false = sbe-ruling (mailbox.requestRuling r) refl
 
     sbe-heard : SbeHeard (sbes.sbeCall s r d) (deed s (sbe r d)) (sbes.sbeCall t r d) (deed t (sbe r d))
     unfolding sbes.sbeCall deed
     sbe-heard =
-        subst (λ (n : ℕ). SbeHeard (sbes.sbeCall s r d) (deed s (sbe r d)) (sbes.sbeFrom n t r d) (cond (not (eqb n 0)) keeps (sbeVerdict t (mailbox.requestVerdict r)))) (sym sbe-refusal) sbe-from
+        subst (λ (n : ℕ). SbeHeard (sbes.sbeCall s r d) (deed s (sbe r d)) (sbes.sbeFrom n t r d) (cond (not (eqb n 0)) keeps (sbeRuling t (mailbox.requestRuling r)))) (sym sbe-refusal) sbe-from
 
   -- ---- any call
 

@@ -25,10 +25,10 @@ use Rattle.inplace.specs.InPlace.{Left}
 use Rattle.bjargolsk.specs.Calls.{packed, freshOn}
 use Rattle.promises.specs.Calls.{Call, occ, sbe, undo, redo, said}
 use Rattle.promises.specs.Marks.{left, logsMade}
-use Rattle.promises.specs.History.{replay, Run, did, next-run, run, AllOfBytes}
+use Rattle.promises.specs.History.{applied, Run, did, next-run, run, AllOfBytes}
 use Rattle.promises.specs.laws.Stores.{length-padded, flat}
 use Rattle.promises.specs.laws.ByHistory.{standing, journalOf, byHistory, Sane}
-use Rattle.promises.specs.laws.Demand3.{ahead, Inv, next-inv}
+use Rattle.promises.specs.laws.Demand3.{redoable, Inv, next-inv}
 use Rattle.promises.specs.Lent.{Lent, lent, told, carriedOver, lentRun}
 
 -- ---- a call on an image
@@ -86,7 +86,7 @@ module _ (base : Record) where
   history-typed : (es : List Edit) (n : ℕ) (rs : List Edit) → Sane base es n rs → Typed (byHistory base es n rs)
   unfolding byHistory standing byWay withHeld workedOf
   history-typed es n rs g =
-      let r = replay base es in
+      let r = applied base es in
       record {
         session = record {
           held = g .typed;
@@ -100,7 +100,7 @@ module _ (base : Record) where
       }
 
   pub run-typed : (p : Run) → Inv base p → Typed (p .session)
-  run-typed p v = subst Typed (sym (v .is)) (history-typed (left (p .marks)) (logsMade (p .marks)) (ahead base p) (v .sane))
+  run-typed p v = subst Typed (sym (v .is)) (history-typed (left (p .marks)) (logsMade (p .marks)) (redoable base p) (v .sane))
 
   pub lent-run : (cs : List Call) (p : Run) → AllOfBytes cs → Inv base p → lentRun (imageOf (p .session)) cs ≡ imageOf (run p cs .session)
   unfolding lentRun carriedOver run next-run did

@@ -32,13 +32,13 @@ use Rattle.links.specs.laws.Logs.{unused-parts, passed}
 use Rattle.links.specs.laws.Made.{Made}
 use Rattle.promises.specs.Calls.{Call, undo, redo, said}
 use Rattle.promises.specs.Marks.{Mark, left, logsMade, undoAnswer}
-use Rattle.promises.specs.History.{keeps, adds, strikes, deed, marked, sinceAfter, replay, Run, did, next-run, OfBytes}
+use Rattle.promises.specs.History.{keeps, adds, strikes, deed, marked, sinceAfter, applied, Run, did, next-run, OfBytes}
 use Rattle.promises.specs.laws.Ids.{one-made}
 use Rattle.promises.specs.laws.Stores.{padded, paste-padded, flat, flat-length}
-use Rattle.promises.specs.laws.ByHistory.{standing, backs, byHistory, Kept, Sane, ahead-stored}
+use Rattle.promises.specs.laws.ByHistory.{standing, backs, byHistory, Kept, Sane, again-stored}
 use Rattle.promises.specs.laws.Marks.{off-change, left-change}
 use Rattle.promises.specs.laws.Steps.{undo-history, redo-history, undone-sane}
-use Rattle.promises.specs.laws.Demand3.{ahead, Inv, next-inv, undo-answer}
+use Rattle.promises.specs.laws.Demand3.{redoable, Inv, next-inv, undo-answer}
 use Rattle.promises.specs.laws.Aside.{as-before, leftAfter, madeAfter, left-after, made-after, not-redo}
 use Rattle.promises.specs.laws.Struck.{off}
 use Rattle.journal.specs.declared.Way.the-variants.{After}
@@ -93,7 +93,7 @@ edits-stay : (base : Record) (k : ℕ) (es : List Edit) → 1 ≤ k → Kept bas
 unfolding shiftedEdit
 edits-stay base k [] low w = refl
 edits-stay base k (e ∷ es) low w =
-    let same = change-stays k (replay base es) (w .0 .known) (e .tables) (e .change) low (w .0 .ok) (w .0 .below) (w .0 .made) in
+    let same = change-stays k (applied base es) (w .0 .known) (e .tables) (e .change) low (w .0 .ok) (w .0 .below) (w .0 .made) in
     ap₂ (λ (ch : Change) (l : List Edit). record { change = ch; tables = e .tables } ∷ l) same (edits-stay base k es low (w .1))
 
 -- ---- a change and its undo
@@ -123,33 +123,33 @@ module _ (base : Record) (p : Run) (v : Inv base p) (c : Call) (b : OfBytes c) (
   logs-are = ap logsMade marks-are
 
   -- nothing can be redone after a change
-  none-ahead : ahead base q ≡ []
+  none-redoable : redoable base q ≡ []
   unfolding next-run did sinceAfter
-  none-ahead = ap₂ (λ (n : ℕ) (ms : List Mark). off n ms []) (ap (sinceAfter (p .undos) (p .since)) made) marks-are ∙ off-change (v .strokes) e
+  none-redoable = ap₂ (λ (n : ℕ) (ms : List Mark). off n ms []) (ap (sinceAfter (p .undos) (p .since)) made) marks-are ∙ off-change (v .strokes) e
 
   q-is : q .session ≡ byHistory base (e ∷ es) m []
-  q-is = w .is ∙ (λ i. byHistory base (left-are i) (logs-are i) (none-ahead i))
+  q-is = w .is ∙ (λ i. byHistory base (left-are i) (logs-are i) (none-redoable i))
 
   q-sane : Sane base (e ∷ es) m []
-  q-sane = subst (Sane base (e ∷ es) m) none-ahead (subst (λ (n : ℕ). Sane base (e ∷ es) n (ahead base q)) logs-are (subst (λ (l : List Edit). Sane base l (logsMade (q .marks)) (ahead base q)) left-are (w .sane)))
+  q-sane = subst (Sane base (e ∷ es) m) none-redoable (subst (λ (n : ℕ). Sane base (e ∷ es) n (redoable base q)) logs-are (subst (λ (l : List Edit). Sane base l (logsMade (q .marks)) (redoable base q)) left-are (w .sane)))
 
   back-is : undoCall (q .session) .session ≡ byHistory base es m (e ∷ [])
   back-is = ap (λ (s : Session). undoCall s .session) q-is ∙ ap (λ (u : Moved). u .session) (undo-history base e es m [] q-sane)
 
   -- the redo store holds that change alone
-  one-ahead : padded (flat (e ∷ [])) ≡ pasted 0 (entryBytes e) (replicate 2048 0)
+  one-redoable : padded (flat (e ∷ [])) ≡ pasted 0 (entryBytes e) (replicate 2048 0)
   unfolding flat padded
-  one-ahead = sym (paste-padded [] (entryBytes e) (omega (arith, undone-sane base e es m [] q-sane .fits)))
+  one-redoable = sym (paste-padded [] (entryBytes e) (omega (arith, undone-sane base e es m [] q-sane .fits)))
 
   one-long : length (flat (e ∷ [])) ≡ entryLen e
   unfolding flat
-  one-long = flat-length After e [] (ahead-stored base (suc m) es (e ∷ []) (undone-sane base e es m [] q-sane .ahead)) ∙ zero-add (entryLen e)
+  one-long = flat-length After e [] (again-stored base (suc m) es (e ∷ []) (undone-sane base e es m [] q-sane .again)) ∙ zero-add (entryLen e)
 
-  moved : leaves (byHistory base es (logsMade (p .marks)) (ahead base p)) e ≡ byHistory base es m (e ∷ [])
+  moved : leaves (byHistory base es (logsMade (p .marks)) (redoable base p)) e ≡ byHistory base es m (e ∷ [])
   unfolding leaves byHistory standing byWay withHeld
   moved = λ i.
-      withHeld (replay base es) (suc-add (logsMade (p .marks)) (madeOf (e .change)) i) (padded (flat (backs base es))) (length (flat (backs base es)))
-      (sym one-ahead i) (sym one-long i)
+      withHeld (applied base es) (suc-add (logsMade (p .marks)) (madeOf (e .change)) i) (padded (flat (backs base es))) (length (flat (backs base es)))
+      (sym one-redoable i) (sym one-long i)
 
   next-was : p .session .next ≡ suc (logsMade (p .marks))
   unfolding byHistory standing withHeld
@@ -234,7 +234,7 @@ module _ (base : Record) (p : Run) (v : Inv base p) (accepted : undoCall (p .ses
       go [] e = absurd (some-left e)
       go (x ∷ xs) e =
           let n = logsMade (p .marks) in
-          let rs = ahead base p in
+          let rs = redoable base p in
           let is : p .session ≡ byHistory base (x ∷ xs) n rs = v .is ∙ ap (λ (l : List Edit). byHistory base l n rs) e in
           let sane = subst (λ (l : List Edit). Sane base l n rs) e (v .sane) in
           ap (λ (s : Session). redoCall (undoCall s .session) .session) is

@@ -19,7 +19,7 @@ use Rattle.session.specs.declared.Session.{Session}
 use Rattle.journal.specs.declared.Way.the-variants.{Before}
 use Rattle.image.specs.Image.{imageOf}
 use Rattle.image.specs.laws.Image.{Typed}
-use Rattle.places.specs.declared.Found.{Found}
+use Rattle.places.specs.declared.Blame.{Blame}
 use Rattle.occ_call.specs.Occ as occs
 use Rattle.occ_call.specs.laws.Why.{answer-beside}
 use Rattle.sbe_call.specs.Sbe as sbes
@@ -40,7 +40,7 @@ use Rattle.promises.specs.laws.Lent.{occ-on, sbe-on, move-on, run-typed}
 abbrev heardAs : occs.OccResult → ℕ → Heard
 heardAs q n = record { answer = n; image = imageOf (q .outcome .session); status = ifWritten n (take 1 (drop 2 (q .reply))) }
 
-occ-heard : (q : occs.OccResult) (why : Found) → occHeard (occs.occLeft q why) ≡ heardAs q (q .outcome .answer)
+occ-heard : (q : occs.OccResult) (why : Blame) → occHeard (occs.occLeft q why) ≡ heardAs q (q .outcome .answer)
 unfolding heardWith occs.occLeft
 occ-heard q why = ap (heardAs q) (answer-beside (q .outcome .answer) why)
 

@@ -17,21 +17,21 @@ use Rattle.change.specs.Change.{noTables, kindOf}
 use Rattle.change.specs.declared.Change.{Change}
 use Rattle.change.specs.declared.Change.the-variants.{SetMask, SetDeadman, SetAreas}
 use Rattle.change.specs.declared.Edit.{Edit}
-use Rattle.sbe.specs.Mailbox.{flagsOf, wordAt, requestVerdict, bellOf, responseBytes}
+use Rattle.sbe.specs.Mailbox.{flagsOf, wordAt, requestRuling, bellOf, responseBytes}
 use Rattle.sbe.specs.Conditions.{grants, Names, Accepted, startAsked, stopAsked, areasAsked}
 use Rattle.sbe.specs.Statuses.{Status, RequestStatus}
-use Rattle.sbe.specs.declared.Verdict.{Verdict}
-use Rattle.sbe.specs.declared.Verdict.the-variants.{Refuse, Make}
+use Rattle.sbe.specs.declared.Ruling.{Ruling}
+use Rattle.sbe.specs.declared.Ruling.the-variants.{Decline, Grant}
 use Rattle.sbe.specs.laws.Exactly.{deadman-start, deadman-stop, cores-set, areas-set, accepted-exactly}
 use Rattle.sbe.specs.laws.Statuses.{request-rows}
 use Rattle.session.specs.Session.{wellFormed, carriedOf}
 use Rattle.session.specs.declared.Session.{Session}
-use Rattle.sbe_call.specs.Sbe.{SbeResult, rung, kept, responds, refusalOf, sbeRefusal, carriedSays, sbeMade, verdictSays, sbeRead, sbeFrom, sbeCall}
+use Rattle.sbe_call.specs.Sbe.{SbeResult, rung, kept, responds, refusalOf, sbeRefusal, carriedSays, sbeMade, rulingSays, sbeRead, sbeFrom, sbeCall}
 use Rattle.links.specs.Typed.{TypedSession}
 use Rattle.promises.specs.Calls.{sbe}
 use Rattle.promises.specs.Demand1.{NoRoom, SbeAnswer, SbeDue, sbeError}
 use Rattle.promises.specs.Demand2.{atFront, HasRoom, sbeKind, SbeAccepted, SbeSucceeds}
-use Rattle.promises.specs.History.{Deed, keeps, adds, adding, sbeVerdict, deed}
+use Rattle.promises.specs.History.{Deed, keeps, adds, adding, sbeRuling, deed}
 use Rattle.promises.specs.laws.Demand3.{by-both}
 use Rattle.promises.specs.laws.Room.{carried-longer, has-room, has-none}
 use Rattle.promises.specs.laws.Replies.{front-is}
@@ -48,23 +48,23 @@ module _ (r : List ℕ) where
     masks : Names 0xD1 0x03 r → Asks (SetMask (wordAt 8 r))
     sets-areas : Names 0xD7 0x04 r → Asks (SetAreas (areasAsked r))
 
-  same-change : {v : Verdict} {a b : Change} → v ≡ Make a → v ≡ Make b → a ≡ b
+  same-change : {v : Ruling} {a b : Change} → v ≡ Grant a → v ≡ Grant b → a ≡ b
   same-change p q = cc
 
-  asks-of : (ch : Change) → requestVerdict r ≡ Make ch → Accepted r → Asks ch
+  asks-of : (ch : Change) → requestRuling r ≡ Grant ch → Accepted r → Asks ch
   asks-of ch e (inl (n, (h, inl x))) = subst Asks (same-change (deadman-start r n h x) e) (starts n x)
   asks-of ch e (inl (n, (h, inr x))) = subst Asks (same-change (deadman-stop r n h x) e) (stops n x)
   asks-of ch e (inr (inl a)) = subst Asks (same-change (cores-set r a) e) (masks (a .0))
   asks-of ch e (inr (inr a)) = subst Asks (same-change (areas-set r a) e) (sets-areas (a .names))
 
-  granted : (ch : Change) → requestVerdict r ≡ Make ch → Accepted r
+  granted : (ch : Change) → requestRuling r ≡ Grant ch → Accepted r
   unfolding grants
   granted ch e = accepted-exactly r .0 (ap grants e)
 
-  pub asks : (ch : Change) → requestVerdict r ≡ Make ch → Asks ch
+  pub asks : (ch : Change) → requestRuling r ≡ Grant ch → Asks ch
   asks ch e = asks-of ch e (granted ch e)
 
-  declined-not : (p q : ℕ) → requestVerdict r ≡ Refuse p q → Accepted r → ⊥
+  declined-not : (p q : ℕ) → requestRuling r ≡ Decline p q → Accepted r → ⊥
   unfolding grants
   declined-not p q e a = false≢true (sym (ap grants e) ∙ accepted-exactly r .1 a)
 
@@ -109,7 +109,7 @@ module _ (r : List ℕ) where
   status-small n (later _ (later _ (later _ (later _ (later _ (later _ (later _ (later _ (here h e))))))))) = small-19 n e
   status-small n (later _ (later _ (later _ (later _ (later _ (later _ (later _ (later _ (later _ z))))))))) = absurd z
 
-  declined-small : (p q : ℕ) → requestVerdict r ≡ Refuse p q → Small (p, q)
+  declined-small : (p q : ℕ) → requestRuling r ≡ Decline p q → Small (p, q)
   declined-small p q e = status-small (p, q) (request-rows r .exactly (p, q) .0 e)
 
   -- two responses that are the same have the same statuses
@@ -128,9 +128,9 @@ module _ (s : Session) (typed : TypedSession s) (r d : List ℕ) where
   -- ---- the ways
 
   pub data Heard : SbeResult → Deed → Type 0 where
-    declined : (p q : ℕ) → requestVerdict r ≡ Refuse p q → Heard (responds s p q r d) keeps
-    no-room : (ch : Change) → requestVerdict r ≡ Make ch → carriedOf s (edit ch) .full ≡ true → Heard (kept 5 s d) keeps
-    carried : (ch : Change) → requestVerdict r ≡ Make ch → carriedOf s (edit ch) .full ≡ false
+    declined : (p q : ℕ) → requestRuling r ≡ Decline p q → Heard (responds s p q r d) keeps
+    no-room : (ch : Change) → requestRuling r ≡ Grant ch → carriedOf s (edit ch) .full ≡ true → Heard (kept 5 s d) keeps
+    carried : (ch : Change) → requestRuling r ≡ Grant ch → carriedOf s (edit ch) .full ≡ false
         → Heard (responds (carriedOf s (edit ch) .session) 0x00 0x00 r d) (adds (edit ch))
 
   pub data Called : SbeResult → Deed → Type 0 where
@@ -139,13 +139,13 @@ module _ (s : Session) (typed : TypedSession s) (r d : List ℕ) where
     short-request : wellFormed s ≡ true → 32 ≤ length d → length r < 32 → Called (kept 4 s d) keeps
     due : SbeDue s r d → (q : SbeResult) (e : Deed) → Heard q e → Called q e
 
-  heard-verdict : (v : Verdict) → requestVerdict r ≡ v → Heard (verdictSays s r d v) (sbeVerdict s v)
-  unfolding verdictSays sbeVerdict sbeMade carriedSays adding
-  heard-verdict (Refuse p q) e = declined p q e
-  heard-verdict (Make ch) e = by-both Heard (carriedOf s (edit ch) .full) (no-room ch e) (carried ch e)
+  heard-ruling : (v : Ruling) → requestRuling r ≡ v → Heard (rulingSays s r d v) (sbeRuling s v)
+  unfolding rulingSays sbeRuling sbeMade carriedSays adding
+  heard-ruling (Decline p q) e = declined p q e
+  heard-ruling (Grant ch) e = by-both Heard (carriedOf s (edit ch) .full) (no-room ch e) (carried ch e)
 
   abbrev Refused : ℕ → Type 0
-  Refused n = Called (sbeFrom n s r d) (cond (not (eqb n 0)) keeps (sbeVerdict s (requestVerdict r)))
+  Refused n = Called (sbeFrom n s r d) (cond (not (eqb n 0)) keeps (sbeRuling s (requestRuling r)))
 
   pub called : Called (sbeCall s r d) (deed s (sbe r d))
   unfolding sbeCall sbeFrom sbeRead sbeRefusal refusalOf deed
@@ -154,17 +154,17 @@ module _ (s : Session) (typed : TypedSession s) (r d : List ℕ) where
       (λ f. let w = not-false _ f in
       cond-cases Refused (ltb (length d) 32) (λ h. short-reply w (ltb-true _ _ h))
       (λ h. cond-cases Refused (ltb (length r) 32) (λ l. short-request w (ltb-false _ _ h) (ltb-true _ _ l))
-      (λ l. due (record { formed = w; reply = ltb-false _ _ h; request = ltb-false _ _ l }) _ _ (heard-verdict (requestVerdict r) refl))))
+      (λ l. due (record { formed = w; reply = ltb-false _ _ h; request = ltb-false _ _ l }) _ _ (heard-ruling (requestRuling r) refl))))
 
   -- ---- demand 2
 
-  made-room : (ch : Change) → requestVerdict r ≡ Make ch → carriedOf s (edit ch) .full ≡ false → HasRoom s (sbeKind r)
+  made-room : (ch : Change) → requestRuling r ≡ Grant ch → carriedOf s (edit ch) .full ≡ false → HasRoom s (sbeKind r)
   made-room ch v = has-room s (typed .journal) (edit ch) (sbeKind r) (kind-is r ch (asks r ch v))
 
-  made-none : (ch : Change) → requestVerdict r ≡ Make ch → carriedOf s (edit ch) .full ≡ true → NoRoom s (sbeKind r)
+  made-none : (ch : Change) → requestRuling r ≡ Grant ch → carriedOf s (edit ch) .full ≡ true → NoRoom s (sbeKind r)
   made-none ch v = has-none s (typed .journal) (edit ch) (sbeKind r) (kind-is r ch (asks r ch v))
 
-  pub told-apart : (p q : ℕ) → requestVerdict r ≡ Refuse p q → atFront (responseBytes p q r) d ≡ atFront (responseBytes 0x00 0x00 r) d → ⊥
+  pub told-apart : (p q : ℕ) → requestRuling r ≡ Decline p q → atFront (responseBytes p q r) d ≡ atFront (responseBytes 0x00 0x00 r) d → ⊥
   told-apart p q v e =
       ⊎-elim (λ x. omega (arith, x, same-primary r p q 0x00 0x00 d (omega arith) (omega arith) e)) (λ x. omega (arith, x, same-primary r p q 0x00 0x00 d (omega arith) (omega arith) e))
       (declined-small r p q v .primary)
@@ -210,14 +210,14 @@ module _ (s : Session) (typed : TypedSession s) (r d : List ℕ) where
 
   -- ---- the statuses
 
-  same-refusal : (a b p q : ℕ) → Refuse a b ≡ Refuse p q → (a ≡ p) × (b ≡ q)
+  same-refusal : (a b p q : ℕ) → Decline a b ≡ Decline p q → (a ≡ p) × (b ≡ q)
   same-refusal a b p q e = (cc, cc)
 
   error-is : (a b p q : ℕ) → (a ≡ p) × (b ≡ q) → responds s a b r d ≡ sbeError s r d (p, q)
   unfolding responds
   error-is a b p q e = λ i. record { outcome = rung 0 (bellOf r) s; reply = (front-is (responseBytes a b r) d ∙ (λ j. atFront (responseBytes (e .0 j) (e .1 j) r) d)) i }
 
-  made-never : (ch : Change) (p q : ℕ) → requestVerdict r ≡ Make ch → RequestStatus r (p, q) → ⊥
+  made-never : (ch : Change) (p q : ℕ) → requestRuling r ≡ Grant ch → RequestStatus r (p, q) → ⊥
   made-never ch p q v x = declined-not r p q (request-rows r .exactly (p, q) .1 x) (granted r ch v)
 
   -- p and q are numbers of two bytes
@@ -233,7 +233,7 @@ module _ (s : Session) (typed : TypedSession s) (r d : List ℕ) where
             let g = sym (front-is (responseBytes a b r) d) ∙ ap (λ (u : SbeResult). u .reply) z in
             let f = same-primary r a b p q d low m g in
             let h = same-secondary r a b p q d (k .secondary) n g in
-            request-rows r .exactly (p, q) .0 (v ∙ (λ i. Refuse (f i) (h i))),
+            request-rows r .exactly (p, q) .0 (v ∙ (λ i. Decline (f i) (h i))),
         λ z. error-is a b p q (same-refusal a b p q (sym v ∙ request-rows r .exactly (p, q) .1 z)),
       )
   status-table y p q m n x e (due _ _ _ (no-room ch v full)) =

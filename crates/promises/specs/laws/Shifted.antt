@@ -20,7 +20,7 @@ use Rattle.change.specs.declared.Changed.{Changed}
 use Rattle.change.specs.declared.Edit.{Edit}
 use Rattle.change.specs.declared.Tables.{Tables}
 use Rattle.session.specs.Session.{madeOf}
-use Rattle.promises.specs.History.{replay}
+use Rattle.promises.specs.History.{applied}
 use Rattle.promises.specs.Shifted.{shifted, shiftedLog, shiftedRecord}
 
 -- ---- what shifts
@@ -234,12 +234,12 @@ module _ (k : ℕ) (low : 1 ≤ k) where
   put-with r t (SetDeadman deadman) = refl
   put-with r t (SetAreas areas) = refl
 
-  pub replay-shifted : (base : Record) → R base ≡ base → (es : List Edit) → replay base (map (shiftedEdit k) es) ≡ R (replay base es)
-  unfolding replay putOf shiftedEdit shiftedPut
-  replay-shifted base b [] = sym b
-  replay-shifted base b (e ∷ es) =
-      ap (λ (r : Record). putWith r (e .tables) (shiftedChange k (e .change)) .after) (replay-shifted base b es)
-      ∙ ap (λ (p : Changed). p .after) (put-with (replay base es) (e .tables) (e .change))
+  pub applied-shifted : (base : Record) → R base ≡ base → (es : List Edit) → applied base (map (shiftedEdit k) es) ≡ R (applied base es)
+  unfolding applied putOf shiftedEdit shiftedPut
+  applied-shifted base b [] = sym b
+  applied-shifted base b (e ∷ es) =
+      ap (λ (r : Record). putWith r (e .tables) (shiftedChange k (e .change)) .after) (applied-shifted base b es)
+      ∙ ap (λ (p : Changed). p .after) (put-with (applied base es) (e .tables) (e .change))
 
   made-shifted : (x : Log) → madeBy (f x) ≡ madeBy x
   unfolding madeBy shiftedLog

@@ -33,10 +33,10 @@ use Rattle.session.specs.declared.Session.{Session}
 use Rattle.undo_call.specs.Undo.{storeOf, usedOf, Moved, notMoved, lessened, grown, grownTo, sessionMoved, moved, movedPut, movedWith, movedFound, movedGot, movedAt, movedRead, noneLeft, movedNewest, moveCall}
 use Rattle.links.specs.laws.Made.{Made}
 use Rattle.links.specs.laws.Links.{Link, link, next-up}
-use Rattle.promises.specs.History.{replay}
+use Rattle.promises.specs.History.{applied}
 use Rattle.promises.specs.laws.Room.{end-room}
 use Rattle.promises.specs.laws.Stores.{padded, length-padded, paste-padded, flat, pile, AllStored, flat-length, flat-some, newest-reads, newest-part, newest-cut}
-use Rattle.promises.specs.laws.ByHistory.{standing, backs, journalOf, byHistory, Step, Sane, kept-up, backs-stored, ahead-stored, history-formed}
+use Rattle.promises.specs.laws.ByHistory.{standing, backs, journalOf, byHistory, Step, Sane, kept-up, backs-stored, again-stored, history-formed}
 
 -- a well-formed record's next id is 256 at most
 next-small : (r : Record) (n : ℕ) → recordOk r n ≡ true → n ≤ 256
@@ -49,10 +49,10 @@ next-small r n h = leb-true n 256 (passed (ltb n 1) _ (sound h .next))
 
 -- ---- one change more: what could be redone is gone
 
-module _ (base : Record) (e : Edit) (es : List Edit) (n : ℕ) (rs : List Edit) (g : Sane base es n rs) (m : Made (replay base es) (suc n) (e .tables) (e .change))
+module _ (base : Record) (e : Edit) (es : List Edit) (n : ℕ) (rs : List Edit) (g : Sane base es n rs) (m : Made (applied base es) (suc n) (e .tables) (e .change))
     (fits : carriedOf (byHistory base es n rs) e .full ≡ false) where
   abbrev here : Record
-  here = replay base es
+  here = applied base es
 
   abbrev entry : Edit
   entry = inverseOf here e
@@ -88,7 +88,7 @@ module _ (base : Record) (e : Edit) (es : List Edit) (n : ℕ) (rs : List Edit) 
   end-is = end-at Before entry (length old) (padded old) (l .back-writable) store-room
 
   pub carried-history : carriedOf (byHistory base es n rs) e .session ≡ byHistory base (e ∷ es) (n + madeOf (e .change)) []
-  unfolding carriedOf carriedTo byHistory standing byWay withHeld replay flat padded
+  unfolding carriedOf carriedTo byHistory standing byWay withHeld applied flat padded
   carried-history =
       ap (λ (x : End). carriedTo (byHistory base es n rs) e x .session) end-is
       ∙ (λ i. standing-with (putOf here e .after) (suc-add n (madeOf (e .change)) i) (journal-is i) (used-is i))
@@ -100,7 +100,7 @@ module _ (base : Record) (e : Edit) (es : List Edit) (n : ℕ) (rs : List Edit) 
   grown-by = suc-add n (madeOf (e .change))
 
   pub carried-sane : Sane base (e ∷ es) (n + madeOf (e .change)) []
-  unfolding replay flat
+  unfolding applied flat
   carried-sane =
       let ok : recordOk (putOf here e .after) (suc (n + madeOf (e .change))) ≡ true = subst (λ (k : ℕ). recordOk (putOf here e .after) k ≡ true) grown-by (l .put-sound) in
       let small = next-small (putOf here e .after) (suc (n + madeOf (e .change))) ok in
@@ -114,7 +114,7 @@ module _ (base : Record) (e : Edit) (es : List Edit) (n : ℕ) (rs : List Edit) 
           record { known = suc n; made = m; below = omega arith; links = l; ok = next-up here (suc n) (suc (n + madeOf (e .change))) (g .ok) up small; typed = g .typed },
           kept-up base (suc n) (suc (n + madeOf (e .change))) es up small (g .kept),
         );
-        ahead = tt;
+        again = tt;
       }
 
 -- ---- the newest entry b of a store goes, and c, which takes it back, comes to the other store
@@ -222,7 +222,7 @@ put-whole p ok = λ i. record { ok = ok i; after = p .after }
 
 module _ (base : Record) (e : Edit) (es : List Edit) (n : ℕ) (rs : List Edit) where
   -- a change and what takes it back have entries of one length
-  same-length : (step : Step base (suc n) e es) → entryLen (inverseOf (replay base es) e) ≡ entryLen e
+  same-length : (step : Step base (suc n) e es) → entryLen (inverseOf (applied base es) e) ≡ entryLen e
   same-length step = ap (λ (k : ℕ). bodyLen k + 1) (step .links .kind-back)
 
   both-long : (step : Step base (suc n) e es) → AllStored Before (backs base es) → AllStored After rs → length (journalOf base (e ∷ es)) + length (flat rs) ≡ length (journalOf base es) + length (flat (e ∷ rs))
@@ -231,7 +231,7 @@ module _ (base : Record) (e : Edit) (es : List Edit) (n : ℕ) (rs : List Edit) 
       let l = step .links in
       omega (
         arith,
-        flat-length Before (inverseOf (replay base es) e) (backs base es) (record { writable = l .back-writable; good = l .entry-good; reads = l .entry-reads }, olds),
+        flat-length Before (inverseOf (applied base es) e) (backs base es) (record { writable = l .back-writable; good = l .entry-good; reads = l .entry-reads }, olds),
         flat-length After e rs (record { writable = l .here-writable; good = l .redo-good; reads = l .redo-reads }, news),
         same-length step,
       )
@@ -241,58 +241,58 @@ module _ (base : Record) (e : Edit) (es : List Edit) (n : ℕ) (rs : List Edit) 
     abbrev step : Step base (suc n) e es
     step = g .kept .0
 
-    pub undo-history : moveCall Before (byHistory base (e ∷ es) n rs) ≡ record { answer = 0; kind = kindOf (inverseOf (replay base es) e .change); session = byHistory base es n (e ∷ rs) }
-    unfolding byHistory backs replay
+    pub undo-history : moveCall Before (byHistory base (e ∷ es) n rs) ≡ record { answer = 0; kind = kindOf (inverseOf (applied base es) e .change); session = byHistory base es n (e ∷ rs) }
+    unfolding byHistory backs applied
     undo-history =
         let l = step .links in
-        moved-standing Before (replay base (e ∷ es)) (suc n) (inverseOf (replay base es) e) (backs base es) rs (history-formed base (e ∷ es) n rs g) (backs-stored base (suc n) (e ∷ es) (g .kept)) (g .fits)
-        (replay base es) (l .put-back) (step .ok) e (l .again) (length-entry After e (l .here-writable)) (sym (same-length step))
+        moved-standing Before (applied base (e ∷ es)) (suc n) (inverseOf (applied base es) e) (backs base es) rs (history-formed base (e ∷ es) n rs g) (backs-stored base (suc n) (e ∷ es) (g .kept)) (g .fits)
+        (applied base es) (l .put-back) (step .ok) e (l .again) (length-entry After e (l .here-writable)) (sym (same-length step))
 
     pub undone-sane : Sane base es n (e ∷ rs)
     undone-sane = record {
       small = g .small;
-      fits = omega (arith, g .fits, both-long step (backs-stored base (suc n) es (g .kept .1)) (ahead-stored base (suc n) (e ∷ es) rs (g .ahead)));
+      fits = omega (arith, g .fits, both-long step (backs-stored base (suc n) es (g .kept .1)) (again-stored base (suc n) (e ∷ es) rs (g .again)));
       ok = step .ok;
       typed = step .typed;
       kept = g .kept .1;
-      ahead = (step, g .ahead);
+      again = (step, g .again);
     }
 
   -- the one last taken back put in again
   module _ (g : Sane base es n (e ∷ rs)) where
     abbrev again : Step base (suc n) e es
-    again = g .ahead .0
+    again = g .again .0
 
-    after-ok : recordOk (putOf (replay base es) e .after) (suc n) ≡ true
-    after-ok = next-up (putOf (replay base es) e .after) (again .known + madeOf (e .change)) (suc n) (again .links .put-sound) (again .below) (g .small)
+    after-ok : recordOk (putOf (applied base es) e .after) (suc n) ≡ true
+    after-ok = next-up (putOf (applied base es) e .after) (again .known + madeOf (e .change)) (suc n) (again .links .put-sound) (again .below) (g .small)
 
     pub redo-history : moveCall After (byHistory base es n (e ∷ rs)) ≡ record { answer = 0; kind = kindOf (e .change); session = byHistory base (e ∷ es) n rs }
-    unfolding byHistory backs replay
+    unfolding byHistory backs applied
     redo-history =
         let l = again .links in
-        let r = replay base es in
+        let r = applied base es in
         let formed : wellFormed (standing After r (suc n) (e ∷ rs) (backs base es)) ≡ true = ap wellFormed (sym (flip r (suc n) (backs base es) (e ∷ rs))) ∙ history-formed base es n (e ∷ rs) g in
         ap (moveCall After) (flip r (suc n) (backs base es) (e ∷ rs))
-        ∙ moved-standing After r (suc n) e rs (backs base es) formed (ahead-stored base (suc n) es (e ∷ rs) (g .ahead)) (omega (arith, g .fits))
+        ∙ moved-standing After r (suc n) e rs (backs base es) formed (again-stored base (suc n) es (e ∷ rs) (g .again)) (omega (arith, g .fits))
         (putOf r e .after) (put-whole (putOf r e) (l .put-accepted)) after-ok (inverseOf r e) refl (length-entry Before (inverseOf r e) (l .back-writable)) (same-length again)
         ∙ ap (λ (s : Session). record { answer = 0; kind = kindOf (e .change); session = s }) (sym (flip (putOf r e .after) (suc n) (inverseOf r e ∷ backs base es) rs))
 
     pub redone-sane : Sane base (e ∷ es) n rs
-    unfolding replay
+    unfolding applied
     redone-sane = record {
       small = g .small;
-      fits = omega (arith, g .fits, both-long again (backs-stored base (suc n) es (g .kept)) (ahead-stored base (suc n) (e ∷ es) rs (g .ahead .1)));
+      fits = omega (arith, g .fits, both-long again (backs-stored base (suc n) es (g .kept)) (again-stored base (suc n) (e ∷ es) rs (g .again .1)));
       ok = after-ok;
       typed = again .links .put-typed;
       kept = (again, g .kept);
-      ahead = g .ahead .1;
+      again = g .again .1;
     }
 
 -- an empty history has nothing to undo, and one without struck changes nothing to redo
 pub undo-nothing : (base : Record) (n : ℕ) (rs : List Edit) → Sane base [] n rs → moveCall Before (byHistory base [] n rs) ≡ notMoved 6 (byHistory base [] n rs)
 unfolding byHistory backs noneLeft byWay
-undo-nothing base n rs g = none-standing Before (replay base []) (suc n) rs (history-formed base [] n rs g)
+undo-nothing base n rs g = none-standing Before (applied base []) (suc n) rs (history-formed base [] n rs g)
 
 pub redo-nothing : (base : Record) (es : List Edit) (n : ℕ) → Sane base es n [] → moveCall After (byHistory base es n []) ≡ notMoved 8 (byHistory base es n [])
 unfolding byHistory noneLeft byWay standing
-redo-nothing base es n g = none-standing After (replay base es) (suc n) (backs base es) (history-formed base es n [] g)
+redo-nothing base es n g = none-standing After (applied base es) (suc n) (backs base es) (history-formed base es n [] g)

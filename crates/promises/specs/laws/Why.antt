@@ -13,8 +13,8 @@ use Rattle.wire.specs.laws.Cases.{cond-cases, else-b, else-lt, else-ne}
 use Rattle.packet.specs.Packet.{dataOf}
 use Rattle.places.specs.Faults.{CommandFaults, NotAfter}
 use Rattle.places.specs.declared.Fault.{Fault}
-use Rattle.places.specs.declared.Found.{Found}
-use Rattle.places.specs.declared.Found.the-variants.{Nothing, Wrong}
+use Rattle.places.specs.declared.Blame.{Blame}
+use Rattle.places.specs.declared.Blame.the-variants.{Nothing, Wrong}
 use Rattle.session.specs.Session.{wellFormed}
 use Rattle.session.specs.declared.Session.{Session}
 use Rattle.links.specs.Typed.{TypedSession}
@@ -45,7 +45,7 @@ module _ (s : Session) (sender : ℕ) (c d : List ℕ) where
   why-due : (x : Fault) → (occWhy s sender c d ≡ Wrong x) ↔ (OccDue s sender c d and (whyRead s sender c ≡ Wrong x))
   unfolding occWhy whyFrom
   why-due x = (
-    cond-cases (λ (f : Found). f ≡ Wrong x → OccDue s sender c d and (whyRead s sender c ≡ Wrong x)) (not (eqb (occRefusal s sender (length c) (length d)) 0)) (λ t. nothing-wrong x)
+    cond-cases (λ (f : Blame). f ≡ Wrong x → OccDue s sender c d and (whyRead s sender c ≡ Wrong x)) (not (eqb (occRefusal s sender (length c) (length d)) 0)) (λ t. nothing-wrong x)
         (λ t e. (due-exactly .0 (eqb-true _ 0 (not-false _ t)), e)),
     λ h. sym (else-ne Nothing _ (due-exactly .1 (h .0)) refl) ∙ h .1,
   )

@@ -1,7 +1,7 @@
 -- The flags read are the request's, and plain_flags judges them; the mask is the word read.
 use Rattle.wire.specs.laws.Cases.{if-not, else-not}
 use Rattle.change.specs.declared.Change.the-variants.{SetMask}
-use Rattle.sbe.specs.declared.Verdict.the-variants.{Make}
+use Rattle.sbe.specs.declared.Ruling.the-variants.{Grant}
 use mathlib.Core.Path.{refl, ap}
 use Rattle.sbe.specs.Mailbox.{wordAt, coresOf}
 use Rattle.sbe.proofs.Requests.{plain-read}
@@ -25,7 +25,7 @@ be32-requires c κs = search needs
 
 returns-2 : tie.Need-returns-2
 unfolding coresOf wordAt
-returns-2 c = else-not _ _ (plain-read _ (c .before .before .before .be16 .ensures) (c .before .before .plain-flags .ensures)) (c .before .if1 .left) (ap (λ (n : ℕ). Make (SetMask n)) (c .be32 .ensures))
+returns-2 c = else-not _ _ (plain-read _ (c .before .before .before .be16 .ensures) (c .before .before .plain-flags .ensures)) (c .before .if1 .left) (ap (λ (n : ℕ). Grant (SetMask n)) (c .be32 .ensures))
 
 pub cores-spec : {M : Type 1} → statement M
 cores-spec =

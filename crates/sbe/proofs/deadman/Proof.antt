@@ -1,6 +1,6 @@
 -- The flags read are the request's; below 0x0400 their low byte decides, as in the definition.
 use Rattle.change.specs.declared.Change.the-variants.{SetDeadman}
-use Rattle.sbe.specs.declared.Verdict.the-variants.{Make}
+use Rattle.sbe.specs.declared.Ruling.the-variants.{Grant}
 use mathlib.Core.Path.{refl, ap}
 use Rattle.sbe.specs.Mailbox.{registerAt, deadmanAt}
 use Rattle.wire.specs.laws.Cases.{else-eq}
@@ -21,7 +21,7 @@ be64-requires c κs = search needs
 
 returns-2 : tie.Need-returns-2
 unfolding deadmanAt registerAt
-returns-2 c = deadman-asked _ (c .before .before .before .be16 .ensures) (c .before .before .if1 .left) (c .before .match .keys1) (ap (λ (n : ℕ). Make (SetDeadman (record { running = 1; time = n }))) (c .be64 .ensures))
+returns-2 c = deadman-asked _ (c .before .before .before .be16 .ensures) (c .before .before .if1 .left) (c .before .match .keys1) (ap (λ (n : ℕ). Grant (SetDeadman (record { running = 1; time = n }))) (c .be64 .ensures))
 
 returns-3 : tie.Need-returns-3
 unfolding deadmanAt

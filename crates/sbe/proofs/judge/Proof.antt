@@ -1,6 +1,6 @@
 -- The match is on the numbers and the ranges that the definition tests, class before command.
 use mathlib.Core.Path.{refl}
-use Rattle.sbe.specs.Mailbox.{requestFor, requestVerdict}
+use Rattle.sbe.specs.Mailbox.{requestFor, requestRuling}
 use Rattle.sbe.proofs.Requests.{by-key, class-below, class-between, class-above}
 use lib.ListN.{getD}
 use Prim.Native.Nat.{ℕ}
@@ -21,33 +21,33 @@ general-command-requires : tie.Need-general-command-requires
 general-command-requires c κs = search needs
 
 returns : tie.Need-returns
-unfolding requestVerdict requestFor
+unfolding requestRuling requestFor
 returns c =
     let r = c .before .before .before .before .before .args .r .now in
     by-key (λ (k : ℕ). requestFor k (getD r 7 0) r) (c .before .match .keys1) (c .core-state .ensures)
 
 returns-2 : tie.Need-returns-2
-unfolding requestVerdict requestFor
+unfolding requestRuling requestFor
 returns-2 c =
     let r = c .before .before .before .before .before .args .r .now in
     by-key (λ (k : ℕ). requestFor k (getD r 7 0) r) (c .before .match .keys2) (c .general-command .ensures)
 
 returns-3 : tie.Need-returns-3
-unfolding requestVerdict
+unfolding requestRuling
 returns-3 c = let n = c .before .before .match .rest in class-between _ _ _ (n .0 .0 .1) (n .1) (c .before .if1 .left) (c .if2 .taken)
 
 returns-4 : tie.Need-returns-4
-unfolding requestVerdict requestFor
+unfolding requestRuling requestFor
 returns-4 c =
     let r = c .before .before .before .before .args .r .now in
     by-key (λ (k : ℕ). requestFor k (getD r 7 0) r) (c .match .keys3) refl
 
 returns-5 : tie.Need-returns-5
-unfolding requestVerdict
+unfolding requestRuling
 returns-5 c = class-below _ _ _ (c .before .match .rest .0 .0 .1) (c .if1 .taken)
 
 returns-6 : tie.Need-returns-6
-unfolding requestVerdict
+unfolding requestRuling
 returns-6 c = let n = c .before .before .match .rest in class-above _ _ _ (n .0 .0 .1) (n .0 .1) (c .if2 .left)
 
 pub judge-spec : {M : Type 1} → statement M

@@ -13,28 +13,28 @@ use Rattle.wire.specs.laws.Cases.{else-b, if-eq, else-eq, else-le, else-ne, con
 use Rattle.change.specs.declared.Change.{Change}
 use Rattle.change.specs.declared.Change.the-variants.{SetMask, SetDeadman, SetAreas}
 use Rattle.formed.specs.Formed.{multipleOf128, inMemory}
-use Rattle.sbe.specs.declared.Verdict.{Verdict}
-use Rattle.sbe.specs.declared.Verdict.the-variants.{Refuse, Make}
-use Rattle.sbe.specs.Mailbox.{flagsOf, wordAt, registerAt, plainFlags, deadmanAt, deadmanOf, coresOf, areaStatus, areasAt, areasOf, coreState, general, requestFor, requestVerdict}
+use Rattle.sbe.specs.declared.Ruling.{Ruling}
+use Rattle.sbe.specs.declared.Ruling.the-variants.{Decline, Grant}
+use Rattle.sbe.specs.Mailbox.{flagsOf, wordAt, registerAt, plainFlags, deadmanAt, deadmanOf, coresOf, areaStatus, areasAt, areasOf, coreState, general, requestFor, requestRuling}
 use Rattle.sbe.specs.Conditions.{grants, Plain, StartOrStop, AreaFine, Names, CoresAsked, AreasAsked, Accepted, startAsked, stopAsked, areasAsked}
 
 -- ---- a test that refuses, and one that leads on
 
-accepted-else : (t : Bool) (p s : ℕ) (v : Verdict) → grants (cond t (Refuse p s) v) ≡ true → (t ≡ false) × (grants v ≡ true)
+accepted-else : (t : Bool) (p s : ℕ) (v : Ruling) → grants (cond t (Decline p s) v) ≡ true → (t ≡ false) × (grants v ≡ true)
 unfolding grants
 accepted-else true p s v h = absurd (false≢true h)
 accepted-else false p s v h = (refl, h)
 
-accepted-if : (t : Bool) (p s : ℕ) (v : Verdict) → grants (cond t v (Refuse p s)) ≡ true → (t ≡ true) × (grants v ≡ true)
+accepted-if : (t : Bool) (p s : ℕ) (v : Ruling) → grants (cond t v (Decline p s)) ≡ true → (t ≡ true) × (grants v ≡ true)
 unfolding grants
 accepted-if true p s v h = (refl, h)
 accepted-if false p s v h = absurd (false≢true h)
 
-accepted-either : (t : Bool) (v w : Verdict) → grants (cond t v w) ≡ true → ((t ≡ true) × (grants v ≡ true)) ⊎ (grants w ≡ true)
+accepted-either : (t : Bool) (v w : Ruling) → grants (cond t v w) ≡ true → ((t ≡ true) × (grants v ≡ true)) ⊎ (grants w ≡ true)
 accepted-either true v w h = inl (refl, h)
 accepted-either false v w h = inr h
 
-same-change : {v : Verdict} {a b : Change} → v ≡ Make a → v ≡ Make b → a ≡ b
+same-change : {v : Ruling} {a b : Change} → v ≡ Grant a → v ≡ Grant b → a ≡ b
 same-change p q = cc
 
 -- ---- the flags and an area's status
@@ -74,7 +74,7 @@ module _ (address size : ℕ) where
       inr (eqb-true (address % 128) 0 (not-false _ (a .0)), leb-true (address + size) (2 ^ 64) (not-false _ (b .0)), eqb-true (size % 128) 0 (not-false _ (d .0))))
       (either-fine (eqb size 0) _ h)
 
--- ---- from the verdict to the conditions
+-- ---- from the ruling to the conditions
 
 module _ (r : List ℕ) where
   one-asked : grants (deadmanAt (flagsOf r % 0x0100) r) ≡ true → (flagsOf r % 0x0100 ≡ 0x01) ⊎ (flagsOf r % 0x0100 ≡ 0x02)
@@ -118,8 +118,8 @@ module _ (r : List ℕ) where
   general-conditions class h =
       let k = accepted-if (eqb (getD r 7 0) 0x04) _ _ _ h in inr (inr (areas-conditions (class, eqb-true (getD r 7 0) 0x04 (k .0)) (k .1)))
 
-  conditions : grants (requestVerdict r) ≡ true → Accepted r
-  unfolding requestVerdict requestFor
+  conditions : grants (requestRuling r) ≡ true → Accepted r
+  unfolding requestRuling requestFor
   conditions h =
       ⊎-elim (λ d. core-state-conditions (eqb-true (getD r 6 0) 0xD1 (d .0)) (d .1))
       (λ m.
@@ -131,25 +131,25 @@ module _ (r : List ℕ) where
 
   -- ---- from the conditions to the change
 
-  named : {class command : ℕ} → Names class command r → requestVerdict r ≡ requestFor class command r
-  unfolding requestVerdict
+  named : {class command : ℕ} → Names class command r → requestRuling r ≡ requestFor class command r
+  unfolding requestRuling
   named n = λ i. requestFor (n .0 i) (n .1 i) r
 
-  pub deadman-start : Names 0xD1 0x01 r → flagsOf r < 0x0400 → flagsOf r % 0x0100 ≡ 0x01 → requestVerdict r ≡ Make (SetDeadman (startAsked r))
+  pub deadman-start : Names 0xD1 0x01 r → flagsOf r < 0x0400 → flagsOf r % 0x0100 ≡ 0x01 → requestRuling r ≡ Grant (SetDeadman (startAsked r))
   unfolding requestFor coreState deadmanOf deadmanAt
   deadman-start n h e = named n ∙ sym (else-le _ _ h (if-eq _ _ e refl))
 
-  pub deadman-stop : Names 0xD1 0x01 r → flagsOf r < 0x0400 → flagsOf r % 0x0100 ≡ 0x02 → requestVerdict r ≡ Make (SetDeadman stopAsked)
+  pub deadman-stop : Names 0xD1 0x01 r → flagsOf r < 0x0400 → flagsOf r % 0x0100 ≡ 0x02 → requestRuling r ≡ Grant (SetDeadman stopAsked)
   unfolding requestFor coreState deadmanOf deadmanAt
   deadman-stop n h e =
       let other : flagsOf r % 0x0100 ≡ 0x01 → ⊥ = λ z. omega (arith, e) in
       named n ∙ sym (else-le _ _ h (else-eq _ _ other (if-eq _ _ e refl)))
 
-  pub cores-set : CoresAsked r → requestVerdict r ≡ Make (SetMask (wordAt 8 r))
+  pub cores-set : CoresAsked r → requestRuling r ≡ Grant (SetMask (wordAt 8 r))
   unfolding requestFor coreState coresOf
   cores-set a = named (a .0) ∙ sym (else-b _ _ (ap not (plain-exactly (flagsOf r) .1 (a .1))) refl)
 
-  pub areas-set : AreasAsked r → requestVerdict r ≡ Make (SetAreas (areasAsked r))
+  pub areas-set : AreasAsked r → requestRuling r ≡ Grant (SetAreas (areasAsked r))
   unfolding requestFor general areasOf areasAt
   areas-set a =
       named (a .names)
@@ -159,21 +159,21 @@ module _ (r : List ℕ) where
   -- ---- what holds of the changes that the three commands make holds of the change made
 
   module _ (P : Change → Type 0) (start : P (SetDeadman (startAsked r))) (stop : P (SetDeadman stopAsked)) (mask : P (SetMask (wordAt 8 r))) (areas : AreasAsked r → P (SetAreas (areasAsked r))) where
-    by-command : Accepted r → (ch : Change) × ((requestVerdict r ≡ Make ch) × P ch)
+    by-command : Accepted r → (ch : Change) × ((requestRuling r ≡ Grant ch) × P ch)
     by-command (inl (n, (h, inl e))) = (_, (deadman-start n h e, start))
     by-command (inl (n, (h, inr e))) = (_, (deadman-stop n h e, stop))
     by-command (inr (inl a)) = (_, (cores-set a, mask))
     by-command (inr (inr a)) = (_, (areas-set a, areas a))
 
-    pub of-change : (ch : Change) → requestVerdict r ≡ Make ch → P ch
+    pub of-change : (ch : Change) → requestRuling r ≡ Grant ch → P ch
     unfolding grants
     of-change ch e = let m = by-command (conditions (ap grants e)) in subst P (same-change (m .1 .0) e) (m .1 .1)
 
-  made : Accepted r → grants (requestVerdict r) ≡ true
+  made : Accepted r → grants (requestRuling r) ≡ true
   unfolding grants
   made a = ap grants (by-command (λ (ch : Change). Unit {0}) tt tt tt (λ asked. tt) a .1 .0)
 
   -- ---- both ways
 
-  pub accepted-exactly : grants (requestVerdict r) ≡ true ↔ Accepted r
+  pub accepted-exactly : grants (requestRuling r) ≡ true ↔ Accepted r
   accepted-exactly = (conditions, made)

@@ -19,8 +19,8 @@ use Rattle.change.specs.declared.Change.{Change}
 use Rattle.change.specs.declared.Change.the-variants.{Clear, Unclear, SetState, SetRole, SetCaps, SetUser, SetThermal, SetThrottles, Reset, Unreset, SetMask, SetDeadman, SetAreas}
 use Rattle.formed.specs.Formed.{flagOk, deadmanOk, multipleOf128, inMemory, areaOk, areasOk, changeOk}
 use Rattle.formed.specs.laws.Formed.{hold-both}
-use Rattle.sbe.specs.declared.Verdict.the-variants.{Make}
-use Rattle.sbe.specs.Mailbox.{wordAt, registerAt, areaOf, requestVerdict, responseBytes}
+use Rattle.sbe.specs.declared.Ruling.the-variants.{Grant}
+use Rattle.sbe.specs.Mailbox.{wordAt, registerAt, areaOf, requestRuling, responseBytes}
 use Rattle.sbe.specs.laws.Exactly.{of-change}
 use Rattle.sbe.specs.Conditions.{AreaFine}
 
@@ -44,7 +44,7 @@ area-ok address size f = go (eqb size 0) refl
         let h = ⊎-elim (λ z. absurd (eqb-false size 0 e z)) (λ h. h) f in
         sym (else-b _ _ e (sym (hold-both (eq-eqb (address % 128) 0 (h .0)) (hold-both (le-leb (address + size) (2 ^ 64) (h .1)) (eq-eqb (size % 128) 0 (h .2))))))
 
-pub change-ok : (r : List ℕ) (ch : Change) → requestVerdict r ≡ Make ch → changeOk noTables ch ≡ true
+pub change-ok : (r : List ℕ) (ch : Change) → requestRuling r ≡ Grant ch → changeOk noTables ch ≡ true
 unfolding changeOk deadmanOk flagOk areasOk
 change-ok r = of-change r (λ (ch : Change). changeOk noTables ch ≡ true) refl refl refl (λ a. hold-both (area-ok _ _ (a .ffdc)) (area-ok _ _ (a .pass)))
 
@@ -72,6 +72,6 @@ area-fits at place r h =
     cond-elim AreaFits (eqb (wordAt place r) 0) (record { address = lit< tt; size = lit< tt })
     (record { address = part-fits 8 at r h; size = part-fits 4 place r h })
 
-pub change-fits : (r : List ℕ) → Bytes r → (ch : Change) → requestVerdict r ≡ Make ch → Fitting ch
+pub change-fits : (r : List ℕ) → Bytes r → (ch : Change) → requestRuling r ≡ Grant ch → Fitting ch
 unfolding registerAt wordAt
 change-fits r h = of-change r Fitting (part-fits 8 8 r h) (lit< tt) (part-fits 4 8 r h) (λ a. (area-fits 16 8 r h, area-fits 24 12 r h))

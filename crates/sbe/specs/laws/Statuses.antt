@@ -15,36 +15,36 @@ use Rattle.wire.specs.laws.Chains.{not-passes}
 use Rattle.wire.specs.laws.Tables.{fails, ByTable, by-none, by-is, hit, miss, by-rows}
 use Rattle.change.specs.declared.Change.{Change}
 use Rattle.formed.specs.Formed.{multipleOf128, inMemory}
-use Rattle.sbe.specs.declared.Verdict.{Verdict}
-use Rattle.sbe.specs.declared.Verdict.the-variants.{Refuse, Make}
-use Rattle.sbe.specs.Mailbox.{flagsOf, wordAt, registerAt, deadmanAt, deadmanOf, coresOf, areaStatus, areasAt, areasOf, coreState, general, requestFor, requestVerdict}
+use Rattle.sbe.specs.declared.Ruling.{Ruling}
+use Rattle.sbe.specs.declared.Ruling.the-variants.{Decline, Grant}
+use Rattle.sbe.specs.Mailbox.{flagsOf, wordAt, registerAt, deadmanAt, deadmanOf, coresOf, areaStatus, areasAt, areasOf, coreState, general, requestFor, requestRuling}
 use Rattle.sbe.specs.Conditions.{grants, Plain, StartOrStop, Names}
 use Rattle.sbe.specs.laws.Exactly.{plain-exactly}
 use Rattle.sbe.specs.Statuses.{Status, ClassUnknown, CommandKnown, AreaStatus, RequestStatus}
 
--- ---- a verdict gives a status if it refuses with it
+-- ---- a ruling gives a status if it refuses with it
 
-abbrev pub Refuses : Verdict → Status → Type 0
-Refuses v n = v ≡ Refuse (n .0) (n .1)
+abbrev pub Refuses : Ruling → Status → Type 0
+Refuses v n = v ≡ Decline (n .0) (n .1)
 
-same-primary : (p q m n : ℕ) → Refuse p q ≡ Refuse m n → m ≡ p
+same-primary : (p q m n : ℕ) → Decline p q ≡ Decline m n → m ≡ p
 same-primary p q m n e = cc
 
-same-secondary : (p q m n : ℕ) → Refuse p q ≡ Refuse m n → n ≡ q
+same-secondary : (p q m n : ℕ) → Decline p q ≡ Decline m n → n ≡ q
 same-secondary p q m n e = cc
 
-refuses : (p q : ℕ) → ByTable Refuses (Refuse p q) (is (p, q))
+refuses : (p q : ℕ) → ByTable Refuses (Decline p q) (is (p, q))
 refuses p q = by-is Refuses refl (λ n e. λ i. (same-primary p q (n .0) (n .1) e i, same-secondary p q (n .0) (n .1) e i))
 
-makes : (ch : Change) → ByTable Refuses (Make ch) none
+makes : (ch : Change) → ByTable Refuses (Grant ch) none
 unfolding grants
 makes ch = by-none Refuses (λ n e. true≢false (ap grants e))
 
 -- ---- an area, and v after it
 
-module _ (v : Verdict) {T : Status → Type 0} (rest : ByTable Refuses v T) (address size : ℕ) where
+module _ (v : Ruling) {T : Status → Type 0} (rest : ByTable Refuses v T) (address size : ℕ) where
   abbrev Told : ℕ → Status → Type 0
-  Told status n = cond (not (eqb status 0)) (Refuse 0x02 status) v ≡ Refuse (n .0) (n .1)
+  Told status n = cond (not (eqb status 0)) (Decline 0x02 status) v ≡ Decline (n .0) (n .1)
 
   told-03 : ByTable Told 0x03 (is (0x02, 0x03))
   told-03 = record { exactly = refuses 0x02 0x03 .exactly }
@@ -69,7 +69,7 @@ module _ (v : Verdict) {T : Status → Type 0} (rest : ByTable Refuses v T) (add
       cond-cases Q (not (eqb (size % 128) 0)) (λ c. miss Told fine (hit Told (eqb-false size 0 z, eqb-false _ 0 (not-true _ c)) told-19))
       (λ c. miss Told fine (miss Told (λ h. h .1 (eqb-true _ 0 (not-false _ c))) told-on)))))
 
-  area-row : ByTable Refuses (cond (not (eqb (areaStatus address size) 0)) (Refuse 0x02 (areaStatus address size)) v) (AreaStatus address size T)
+  area-row : ByTable Refuses (cond (not (eqb (areaStatus address size) 0)) (Decline 0x02 (areaStatus address size)) v) (AreaStatus address size T)
   area-row = record { exactly = area-rows .exactly }
 
 module _ (r : List ℕ) where
@@ -79,7 +79,7 @@ module _ (r : List ℕ) where
   unfolding deadmanOf deadmanAt
   deadman-rows =
       let asked = flagsOf r % 0x0100 in
-      let Q : Verdict → Type 0 = λ (v : Verdict). ByTable Refuses v (row (0x02, 0x19) (StartOrStop (flagsOf r) → ⊥) none) in
+      let Q : Ruling → Type 0 = λ (v : Ruling). ByTable Refuses v (row (0x02, 0x19) (StartOrStop (flagsOf r) → ⊥) none) in
       cond-cases Q (leb 0x0400 (flagsOf r)) (λ a. hit Refuses (λ h. not-le-of-lt (h .0) (leb-true 0x0400 (flagsOf r) a)) (refuses 0x02 0x19))
       (λ a. let low = leb-false 0x0400 (flagsOf r) a in
       cond-cases Q (eqb asked 0x01) (λ b. miss Refuses (λ h. h (low, inl (eqb-true asked 0x01 b))) (makes _))
@@ -104,16 +104,16 @@ module _ (r : List ℕ) where
   abbrev command : ℕ
   command = getD r 7 0
 
-  abbrev Told-so : Verdict → Type 0
+  abbrev Told-so : Ruling → Type 0
   Told-so v = ByTable Refuses v (RequestStatus r)
 
   -- an unknown class
-  unknown : ClassUnknown r → Told-so (Refuse 0x01 0x01)
+  unknown : ClassUnknown r → Told-so (Decline 0x01 0x01)
   unfolding RequestStatus
   unknown h = hit Refuses h (refuses 0x01 0x01)
 
   -- a command of a known class that is none of the three
-  other : (ClassUnknown r → ⊥) → (CommandKnown r → ⊥) → Told-so (Refuse 0x01 0x02)
+  other : (ClassUnknown r → ⊥) → (CommandKnown r → ⊥) → Told-so (Decline 0x01 0x02)
   unfolding RequestStatus
   other c k = miss Refuses c (hit Refuses k (refuses 0x01 0x02))
 
@@ -136,8 +136,8 @@ module _ (r : List ℕ) where
       (λ a. miss Refuses known (miss Refuses (λ h. h (inr (inr (e, eqb-true command 0x04 a)))) (miss Refuses (λ h. omega (arith, e, h .0)) (miss Refuses (λ h. omega (arith, e, h .0)) areas-rows))))
       (λ a. other known (⊎-elim (λ h. omega (arith, e, h .0)) (⊎-elim (λ h. omega (arith, e, h .0)) (λ h. eqb-false command 0x04 a (h .1)))))
 
-  pub request-rows : ByTable Refuses (requestVerdict r) (RequestStatus r)
-  unfolding requestVerdict requestFor
+  pub request-rows : ByTable Refuses (requestRuling r) (RequestStatus r)
+  unfolding requestRuling requestFor
   request-rows =
       cond-cases Told-so (eqb class 0xD1) (λ a. core-rows (eqb-true class 0xD1 a))
       (λ a. let ne = eqb-false class 0xD1 a in

@@ -10,8 +10,8 @@ judge-requires c κs = c .before .before .before .pre .2
 bell-requires : tie.Need-bell-requires
 bell-requires c κs = c .before .before .before .before .pre .2
 
-enum-known-verdict : tie.Need-enum-known-verdict
-enum-known-verdict c = search needs
+enum-known-ruling : tie.Need-enum-known-ruling
+enum-known-ruling c = search needs
 
 enum-told : tie.Need-enum-told
 enum-told c = search needs
@@ -41,7 +41,7 @@ same-length-2 : tie.Need-same-length-2
 same-length-2 c = search needs
 
 returns-2 : tie.Need-returns-2
-returns-2 c = full-in _ (c .before .before .before .before .before .before .before .before .before .before .before .before .before .before .before .args .lent .now) (c .before .before .before .before .before .before .before .before .before .before .before .before .before .before .before .pre .0) (c .before .before .before .before .before .before .before .before .before .before .before .before .before .before .before .args .request .now) (c .before .before .before .before .before .before .before .before .before .before .before .before .before .before .before .args .reply .now) _ (c .before .before .before .before .before .before .before .before .before .before .before .judge .ensures) _ (c .before .before .before .before .before .before .before .before .before .before .bell .ensures) _ (c .before .before .before .before .before .before .before .before .verdict .given .1) _ (c .before .before .before .before .before .before .no-tables .ensures) _ _ _ (c .before .before .before .before .carry .ensures .0) (c .before .before .before .before .carry .ensures .1) (c .answer-with2 .ensures) (c .before .if1 .taken)
+returns-2 c = full-in _ (c .before .before .before .before .before .before .before .before .before .before .before .before .before .before .before .args .lent .now) (c .before .before .before .before .before .before .before .before .before .before .before .before .before .before .before .pre .0) (c .before .before .before .before .before .before .before .before .before .before .before .before .before .before .before .args .request .now) (c .before .before .before .before .before .before .before .before .before .before .before .before .before .before .before .args .reply .now) _ (c .before .before .before .before .before .before .before .before .before .before .before .judge .ensures) _ (c .before .before .before .before .before .before .before .before .before .before .bell .ensures) _ (c .before .before .before .before .before .before .before .before .ruling .given .1) _ (c .before .before .before .before .before .before .no-tables .ensures) _ _ _ (c .before .before .before .before .carry .ensures .0) (c .before .before .before .before .carry .ensures .1) (c .answer-with2 .ensures) (c .before .if1 .taken)
 
 respond-requires : tie.Need-respond-requires
 respond-requires c κs = (c .before .before .before .before .before .before .before .before .before .before .before .before .before .before .before .pre .3, c .before .before .before .before .before .before .before .before .before .before .before .before .before .before .before .pre .2)
@@ -56,7 +56,7 @@ same-length-4 : tie.Need-same-length-4
 same-length-4 c = search needs
 
 returns-3 : tie.Need-returns-3
-returns-3 c = done-in _ (c .before .before .before .before .before .before .before .before .before .before .before .before .before .before .before .before .before .before .before .args .lent .now) (c .before .before .before .before .before .before .before .before .before .before .before .before .before .before .before .before .before .before .before .pre .0) (c .before .before .before .before .before .before .before .before .before .before .before .before .before .before .before .before .before .before .before .args .request .now) (c .before .before .before .before .before .before .before .before .before .before .before .before .before .before .before .before .before .before .before .args .reply .now) _ (c .before .before .before .before .before .before .before .before .before .before .before .before .before .before .before .judge .ensures) _ (c .before .before .before .before .before .before .before .before .before .before .before .before .before .before .bell .ensures) _ (c .before .before .before .before .before .before .before .before .before .before .before .before .verdict .given .1) _ (c .before .before .before .before .before .before .before .before .before .before .no-tables .ensures) _ _ _ (c .before .before .before .before .before .before .before .before .carry .ensures .0) (c .before .before .before .before .before .before .before .before .carry .ensures .1) (c .answer-with3 .ensures) (c .before .before .before .before .before .if1 .left) _ (c .before .before .before .respond .ensures)
+returns-3 c = done-in _ (c .before .before .before .before .before .before .before .before .before .before .before .before .before .before .before .before .before .before .before .args .lent .now) (c .before .before .before .before .before .before .before .before .before .before .before .before .before .before .before .before .before .before .before .pre .0) (c .before .before .before .before .before .before .before .before .before .before .before .before .before .before .before .before .before .before .before .args .request .now) (c .before .before .before .before .before .before .before .before .before .before .before .before .before .before .before .before .before .before .before .args .reply .now) _ (c .before .before .before .before .before .before .before .before .before .before .before .before .before .before .before .judge .ensures) _ (c .before .before .before .before .before .before .before .before .before .before .before .before .before .before .bell .ensures) _ (c .before .before .before .before .before .before .before .before .before .before .before .before .ruling .given .1) _ (c .before .before .before .before .before .before .before .before .before .before .no-tables .ensures) _ _ _ (c .before .before .before .before .before .before .before .before .carry .ensures .0) (c .before .before .before .before .before .before .before .before .carry .ensures .1) (c .answer-with3 .ensures) (c .before .before .before .before .before .if1 .left) _ (c .before .before .before .respond .ensures)
 
 pub hear-spec : {M : Type 1} → statement M
 hear-spec =
@@ -64,7 +64,7 @@ hear-spec =
     (tie.spec
     judge-requires
     bell-requires
-    enum-known-verdict
+    enum-known-ruling
     enum-told
     tell-requires
     answer-with-requires

@@ -5,8 +5,8 @@ use borrow.Author.Needs.{needs}
 use Rattle.sbe_call.proofs.tell.Statement.{statement}
 use Rattle.sbe_call.proofs.tell.Tie as tie
 
-enum-known-verdict : tie.Need-enum-known-verdict
-enum-known-verdict c = search needs
+enum-known-ruling : tie.Need-enum-known-ruling
+enum-known-ruling c = search needs
 
 respond-requires : tie.Need-respond-requires
 respond-requires c κs = search needs
@@ -19,7 +19,7 @@ same-length c = search needs
 
 returns : tie.Need-returns
 unfolding toldOf
-returns c = tells _ _ (c .before .before .before .before .before .verdict .given .1) (c .before .before .respond .ensures)
+returns c = tells _ _ (c .before .before .before .before .before .ruling .given .1) (c .before .before .respond .ensures)
 
 returns-2 : tie.Need-returns-2
 unfolding toldOf
@@ -28,4 +28,4 @@ returns-2 c = tells _ _ (c .enum-told .given .1) refl
 pub tell-spec : {M : Type 1} → statement M
 tell-spec =
     tie.close
-    (tie.spec enum-known-verdict respond-requires enum-told same-length returns returns-2)
+    (tie.spec enum-known-ruling respond-requires enum-told same-length returns returns-2)

@@ -15,13 +15,13 @@ use Rattle.record.specs.Record.{workedOf}
 use Rattle.change.specs.Change.{noTables}
 use Rattle.change.specs.declared.Change.{Change}
 use Rattle.change.specs.declared.Edit.{Edit}
-use Rattle.sbe.specs.Mailbox.{requestVerdict, bellOf, responseBytes}
-use Rattle.sbe.specs.declared.Verdict.{Verdict}
-use Rattle.sbe.specs.declared.Verdict.the-variants.{Refuse, Make}
+use Rattle.sbe.specs.Mailbox.{requestRuling, bellOf, responseBytes}
+use Rattle.sbe.specs.declared.Ruling.{Ruling}
+use Rattle.sbe.specs.declared.Ruling.the-variants.{Decline, Grant}
 use Rattle.session.specs.Session.{wellFormed, carriedOf}
 use Rattle.session.specs.laws.Session.{formed, none-due, carried-worked}
 use Rattle.session.specs.declared.Session.{Session}
-use Rattle.sbe_call.specs.Sbe.{SbeResult, rung, kept, responds, refusalOf, sbeRefusal, carriedSays, sbeMade, verdictSays, sbeRead, sbeFrom, sbeCall}
+use Rattle.sbe_call.specs.Sbe.{SbeResult, rung, kept, responds, refusalOf, sbeRefusal, carriedSays, sbeMade, rulingSays, sbeRead, sbeFrom, sbeCall}
 
 abbrev pub edit : Change → Edit
 edit ch = record { change = ch; tables = noTables }
@@ -30,24 +30,24 @@ module _ (s : Session) (r d : List ℕ) where
   pub data Came : SbeResult → Type 0 where
     refused : (n : ℕ) → (n ≡ 0 → ⊥) → Came (kept n s d)
     responded-to : (primary secondary : ℕ) → Came (responds s primary secondary r d)
-    carried-out : (ch : Change) → wellFormed s ≡ true → requestVerdict r ≡ Make ch → carriedOf s (edit ch) .full ≡ false
+    carried-out : (ch : Change) → wellFormed s ≡ true → requestRuling r ≡ Grant ch → carriedOf s (edit ch) .full ≡ false
         → Came (responds (carriedOf s (edit ch) .session) 0x00 0x00 r d)
 
-  came-carried : (ch : Change) → wellFormed s ≡ true → requestVerdict r ≡ Make ch → Came (sbeMade s ch r d)
+  came-carried : (ch : Change) → wellFormed s ≡ true → requestRuling r ≡ Grant ch → Came (sbeMade s ch r d)
   unfolding sbeMade carriedSays
   came-carried ch w v = cond-cases Came (carriedOf s (edit ch) .full) (λ f. refused 5 (λ z. omega (arith, z))) (λ f. carried-out ch w v f)
 
-  came-verdict : (v : Verdict) → wellFormed s ≡ true → requestVerdict r ≡ v → Came (verdictSays s r d v)
-  unfolding verdictSays
-  came-verdict (Refuse primary secondary) w e = responded-to primary secondary
-  came-verdict (Make ch) w e = came-carried ch w e
+  came-ruling : (v : Ruling) → wellFormed s ≡ true → requestRuling r ≡ v → Came (rulingSays s r d v)
+  unfolding rulingSays
+  came-ruling (Decline primary secondary) w e = responded-to primary secondary
+  came-ruling (Grant ch) w e = came-carried ch w e
 
   pub came : Came (sbeCall s r d)
   unfolding sbeCall sbeFrom sbeRead sbeRefusal refusalOf
   came =
       cond-cases Came (not (eqb (sbeRefusal s (length r) (length d)) 0))
       (λ f. refused _ (eqb-false _ 0 (not-true _ f)))
-      (λ f. came-verdict (requestVerdict r) (none-due (wellFormed s) _ (eqb-true _ 0 (not-false _ f))) refl)
+      (λ f. came-ruling (requestRuling r) (none-due (wellFormed s) _ (eqb-true _ 0 (not-false _ f))) refl)
 
   -- ---- demand 1
 

@@ -6,7 +6,8 @@ use lib.ListN.{length}
 use Rattle.wire.specs.laws.Cases.{if-ne, else-ne}
 use Rattle.session.specs.Session.{freshSession}
 use Rattle.session.specs.declared.Session.{Session}
-use Rattle.image.specs.Image.{imageLength, imageOf, writtenTo}
+use Rattle.image.specs.Image.{imageOf, writtenTo}
+use Rattle.layout.specs.Layout.{imageLength}
 use Rattle.inplace.specs.declared.Told.{Told}
 use Rattle.inplace.specs.InPlace.{Left, noImage}
 use Rattle.bjargolsk.specs.Calls.{packed, freshOn}

@@ -7,7 +7,8 @@ use lib.ListN.{length}
 use lib.Dec.{eqb}
 use Rattle.wire.specs.Conditions.{_and_}
 use Rattle.session.specs.Session.{freshSession}
-use Rattle.image.specs.Image.{imageLength, imageOf}
+use Rattle.image.specs.Image.{imageOf}
+use Rattle.layout.specs.Layout.{imageLength}
 use Rattle.inplace.specs.declared.Told.{Told}
 use Rattle.inplace.specs.InPlace.{Left, noImage}
 use Rattle.occ_call.specs.Occ.{occOn}

@@ -15,7 +15,7 @@ fn pack(t: Told) -> u32
 pub extern "C" fn bjargolsk_fresh(lent: &mut [u8]) -> u32
     ensures { λ x. ⌜ FreshReturns (now (lent .entry)) x (now (lent .exit)) ⌝ }
 {
-    if lent.len() != image::LENGTH {
+    if lent.len() != layout::IMAGE {
         return pack(inplace::answer_with(1, 0));
     }
     image::write(session::fresh(), lent);

@@ -19,7 +19,8 @@ use Rattle.session.specs.declared.Session.{Session}
 use Rattle.image.specs.Rows.{joined, widthsOf}
 use Rattle.image.specs.laws.Rows.{length-joined, joined-append}
 use Rattle.image.specs.laws.Image.{recordWidths, widths-record}
-use Rattle.image.specs.Image.{byte, headRows, throttlesRows, thermalRows, logsRows, mailboxRows, workedRows, recordRows, sessionRows, imageOf, imageLength}
+use Rattle.image.specs.Image.{byte, headRows, throttlesRows, thermalRows, logsRows, mailboxRows, workedRows, recordRows, sessionRows, imageOf}
+use Rattle.layout.specs.Layout.{imageLength}
 
 -- bytes written after those that were written from a place on
 paste-on : (at : ℕ) (xs bs d : List ℕ) → at + length xs ≤ length d → pasted (at + length xs) bs (pasted at xs d) ≡ pasted at (xs ++ bs) d

@@ -9,7 +9,8 @@ use Rattle.wire.specs.Wire.{toBE, pasted}
 use Rattle.wire.specs.laws.Wire.{drop-pasted, length-pasted, paste-self}
 use Rattle.image.specs.Rows.{joined}
 use Rattle.image.specs.declared.Head.{Head}
-use Rattle.image.specs.Image.{recordRows, workedRows, imageOf, imageLength, partAt, journalIn, redoIn, withStore, sessionIn}
+use Rattle.image.specs.Image.{recordRows, workedRows, imageOf, partAt, journalIn, redoIn, withStore, sessionIn}
+use Rattle.layout.specs.Layout.{imageLength}
 use Rattle.image.specs.laws.Stores.{store-long, store-back, store-below, store-pasted}
 use Rattle.image.proofs.Fields.{filled, length-session, session-put}
 

@@ -5,7 +5,7 @@ use mathlib.Core.List.{List, [], _∷_, _++_}
 use lib.ListN.{length, getD, take, drop}
 use lib.Dec.{eqb}
 use Rattle.wire.specs.Wire.{beNat, toBE}
-use Rattle.record.specs.Record.{noLog}
+use Rattle.record.specs.Record.{noLog, workedOf}
 use Rattle.record.specs.declared.Log.{Log}
 use Rattle.record.specs.declared.Caps.{Caps}
 use Rattle.record.specs.declared.Areas.{Areas}
@@ -17,6 +17,7 @@ use Rattle.record.specs.declared.Worked.{Worked}
 use Rattle.journal.specs.declared.Way.{Way}
 use Rattle.journal.specs.declared.Way.the-variants.{Before, After}
 use Rattle.session.specs.declared.Session.{Session}
+use Rattle.layout.specs.Layout.{storeSize, journalAt, aheadAt, redoAt, imageLength}
 use Rattle.image.specs.Rows.{joined}
 use Rattle.image.specs.declared.Head.{Head}
 
@@ -91,6 +92,10 @@ recordRows r =
     ++ (logsRows (r .received) (r .logs)
     ++ mailboxRows (r .mask) (r .deadman) (r .areas))))
 
+-- what stands after the redo store, as wide as `laterWidths` says (layout/specs/Layout.antt)
+abbrev pub laterRows : Session → List (List ℕ)
+laterRows s = []  -- 4337
+
 unfoldable pub sessionRows : Session → List (List ℕ)
 sessionRows s =
     recordRows (s .held)
@@ -98,7 +103,7 @@ sessionRows s =
     ++ (s .journal  -- 239
     ∷ toBE 2 (s .ahead)  -- 2287
     ∷ s .redo  -- 2289
-    ∷ []))
+    ∷ laterRows s))
 
 unfoldable pub imageOf : Session → List ℕ
 imageOf s = joined (sessionRows s)
@@ -161,25 +166,29 @@ workedIn b = record { limit = numberAt 2 230 b; observation = byteAt 232 b; acti
 
 -- a session's head: all but its journal and its redo store
 unfoldable pub headIn : List ℕ → Head
-headIn b = record { held = recordIn b; worked = workedIn b; next = numberAt 2 235 b; used = numberAt 2 237 b; ahead = numberAt 2 2287 b }
+headIn b = record { held = recordIn b; worked = workedIn b; next = numberAt 2 235 b; used = numberAt 2 237 b; ahead = numberAt 2 aheadAt b }
+
+-- a head from a head: this record, with what is worked out of it, this next id and these used lengths; whatever isn't named here is kept
+unfoldable pub headRenewed : Head → Record → ℕ → ℕ → ℕ → Head
+headRenewed h held next used ahead = record { held = held; worked = workedOf held; next = next; used = used; ahead = ahead }
 
 -- where each store stands: the journal, which holds what was before, and the redo store, which holds what was after
 unfoldable pub storeAt : Way → ℕ
-storeAt Before = 239
-storeAt After = 2289
+storeAt Before = journalAt
+storeAt After = redoAt
 
 abbrev pub storeIn : Way → List ℕ → List ℕ
-storeIn w b = partAt 2048 (storeAt w) b
+storeIn w b = partAt storeSize (storeAt w) b
 
 -- the bytes with x for the store at a place
 abbrev pub withStore : ℕ → List ℕ → List ℕ → List ℕ
-withStore at x b = take at b ++ (x ++ drop 2048 (drop at b))
+withStore at x b = take at b ++ (x ++ drop storeSize (drop at b))
 
 abbrev pub journalIn : List ℕ → List ℕ
-journalIn b = partAt 2048 239 b
+journalIn b = partAt storeSize journalAt b
 
 abbrev pub redoIn : List ℕ → List ℕ
-redoIn b = partAt 2048 2289 b
+redoIn b = partAt storeSize redoAt b
 
 -- a head, and the stores that stand in the bytes
 unfoldable pub sessionIn : Head → List ℕ → Session
@@ -190,10 +199,6 @@ unfoldable pub sessionOf : List ℕ → Session
 sessionOf b = sessionIn (headIn b) b
 
 -- ---- a session written into a buffer
-
--- the length of an image
-abbrev pub imageLength : ℕ
-imageLength = 4337
 
 -- bytes of another length are kept
 unfoldable pub writtenTo : List ℕ → Session → List ℕ

@@ -4,7 +4,8 @@ ghost use Prim.Native.Nat.{_≤_, _+_};
 ghost use lib.ListN.{length};
 ghost use Rattle.wire.specs.Wire.{pasted, Bytes};
 ghost use Rattle.image.specs.Rows.{joined};
-ghost use Rattle.image.specs.Image.{headRows, throttlesRows, thermalRows, logsRows, mailboxRows, workedRows, recordRows, imageOf, imageLength, writtenTo, partAt, capsIn, throttlesIn, receivedIn, logAt, logsIn, deadmanIn, areasIn, recordIn, workedIn, headIn, storeAt, journalIn, redoIn, sessionIn};
+ghost use Rattle.image.specs.Image.{headRows, throttlesRows, thermalRows, logsRows, mailboxRows, workedRows, recordRows, imageOf, writtenTo, partAt, capsIn, throttlesIn, receivedIn, logAt, logsIn, deadmanIn, areasIn, recordIn, workedIn, headIn, headRenewed, storeAt, journalIn, redoIn, sessionIn};
+ghost use Rattle.layout.specs.Layout.{journalAt, redoAt, imageLength};
 use journal::Way;
 use record::Area;
 use record::Areas;
@@ -17,7 +18,6 @@ use record::Throttles;
 use record::Worked;
 use session::Session;
 
-pub const LENGTH: usize = 4337;
 
 // A session without its journal and its redo store, which stay in the lent bytes.
 pub struct Head {
@@ -28,20 +28,34 @@ pub struct Head {
     pub ahead: u16,
 }
 
+// A head from a head: this record, with what is worked out of it, this next id and these used lengths; the rest is kept.
+pub fn renewed(h: Head, held: Record, next: u16, used: u16, ahead: u16) -> Head
+    ensures { λ x. ⌜ x ≡ headRenewed h held next used ahead ⌝ }
+{
+    let worked = record::work_out(held);
+    let mut after = h;
+    after.held = held;
+    after.worked = worked;
+    after.next = next;
+    after.used = used;
+    after.ahead = ahead;
+    after
+}
+
 // Where a store stands, 2,048 bytes.
 pub fn store_at(way: Way) -> usize
     ensures { λ at. ⌜ at ≡ storeAt way ⌝ }
 {
     match way {
-        Way::Before => 239,
-        Way::After => 2289,
+        Way::Before => layout::JOURNAL,
+        Way::After => layout::REDO,
     }
 }
 
 // ---- writing, a part at a time; the rest of the buffer is kept
 
 fn put_head(d: &mut [u8], state: u8, role: u8, caps: Caps)
-    requires { ⌜ 239 ≤ length (now d) ⌝ }
+    requires { ⌜ journalAt ≤ length (now d) ⌝ }
     ensures { λ _. ⌜ now (d .exit) ≡ pasted 0 (joined (headRows state role caps)) (now (d .entry)) ⌝ }
 {
     let bytes = [state, role];
@@ -52,7 +66,7 @@ fn put_head(d: &mut [u8], state: u8, role: u8, caps: Caps)
 }
 
 fn put_throttles(d: &mut [u8], throttles: Throttles)
-    requires { ⌜ 239 ≤ length (now d) ⌝ }
+    requires { ⌜ journalAt ≤ length (now d) ⌝ }
     ensures { λ _. ⌜ now (d .exit) ≡ pasted 8 (joined (throttlesRows throttles)) (now (d .entry)) ⌝ }
 {
     let sets = throttles.sets;
@@ -61,7 +75,7 @@ fn put_throttles(d: &mut [u8], throttles: Throttles)
 }
 
 fn put_thermal(d: &mut [u8], user: u16, thermal: [u8; 9])
-    requires { ⌜ 239 ≤ length (now d) ⌝ }
+    requires { ⌜ journalAt ≤ length (now d) ⌝ }
     ensures { λ _. ⌜ now (d .exit) ≡ pasted 170 (joined (thermalRows user thermal)) (now (d .entry)) ⌝ }
 {
     wire::put_be(&mut *d, 170, 2, user as u64);
@@ -69,7 +83,7 @@ fn put_thermal(d: &mut [u8], user: u16, thermal: [u8; 9])
 }
 
 fn put_logs(d: &mut [u8], got: Received, logs: [Log; 4])
-    requires { ⌜ 239 ≤ length (now d) ⌝ }
+    requires { ⌜ journalAt ≤ length (now d) ⌝ }
     ensures { λ _. ⌜ now (d .exit) ≡ pasted 181 (joined (logsRows got logs)) (now (d .entry)) ⌝ }
 {
     let a = logs[0];
@@ -94,7 +108,7 @@ fn put_logs(d: &mut [u8], got: Received, logs: [Log; 4])
 }
 
 fn put_mailbox(d: &mut [u8], mask: u32, deadman: Deadman, areas: Areas)
-    requires { ⌜ 239 ≤ length (now d) ⌝ }
+    requires { ⌜ journalAt ≤ length (now d) ⌝ }
     ensures { λ _. ⌜ now (d .exit) ≡ pasted 193 (joined (mailboxRows mask deadman areas)) (now (d .entry)) ⌝ }
 {
     let ffdc = areas.ffdc;
@@ -110,7 +124,7 @@ fn put_mailbox(d: &mut [u8], mask: u32, deadman: Deadman, areas: Areas)
 }
 
 fn put_worked(d: &mut [u8], worked: Worked, next: u16, used: u16)
-    requires { ⌜ 239 ≤ length (now d) ⌝ }
+    requires { ⌜ journalAt ≤ length (now d) ⌝ }
     ensures { λ _. ⌜ now (d .exit) ≡ pasted 230 (joined (workedRows worked next used)) (now (d .entry)) ⌝ }
 {
     let bytes = [worked.observation, worked.active, worked.wanted];
@@ -121,7 +135,7 @@ fn put_worked(d: &mut [u8], worked: Worked, next: u16, used: u16)
 }
 
 fn put_record(d: &mut [u8], r: Record)
-    requires { ⌜ 239 ≤ length (now d) ⌝ }
+    requires { ⌜ journalAt ≤ length (now d) ⌝ }
     ensures { λ _. ⌜ now (d .exit) ≡ pasted 0 (joined (recordRows r)) (now (d .entry)) ⌝ }
     ensures { λ _. ⌜ length (joined (recordRows r)) ≡ 230 ⌝ }
 {
@@ -148,22 +162,22 @@ pub fn write_head(d: &mut [u8], h: Head)
     let worked = h.worked;
     put_record(&mut *d, held);
     put_worked(&mut *d, worked, h.next, h.used);
-    wire::put_be(d, 2287, 2, h.ahead as u64);
+    wire::put_be(d, layout::AHEAD, 2, h.ahead as u64);
 }
 
 fn put_stores(d: &mut [u8], journal: [u8; 2048], redo: [u8; 2048])
     requires { ⌜ length (now d) ≡ imageLength ⌝ }
     ensures { λ _. ⌜ (journalIn (now (d .exit)) ≡ journal) × (redoIn (now (d .exit)) ≡ redo) ⌝ }
 {
-    wire::copy(&mut *d, 239, &journal);
-    wire::copy(d, 2289, &redo);
+    wire::copy(&mut *d, layout::JOURNAL, &journal);
+    wire::copy(d, layout::REDO, &redo);
 }
 
 // A whole session; bytes of another length are kept.
 pub fn write(s: Session, d: &mut [u8])
     ensures { λ _. ⌜ now (d .exit) ≡ writtenTo (now (d .entry)) s ⌝ }
 {
-    if d.len() != LENGTH {
+    if d.len() != layout::IMAGE {
         return;
     }
     let journal = s.journal;
@@ -186,7 +200,7 @@ pub fn write(s: Session, d: &mut [u8])
 // ---- reading, a part at a time
 
 fn caps_in(b: &[u8]) -> Caps
-    requires { ⌜ 239 ≤ length (now b) ⌝ }
+    requires { ⌜ journalAt ≤ length (now b) ⌝ }
     ensures { λ r. ⌜ r ≡ capsIn (now (b .entry)) ⌝ }
 {
     let min = wire::be16(b, 2);
@@ -200,7 +214,7 @@ fn caps_in(b: &[u8]) -> Caps
 }
 
 fn throttles_in(b: &[u8]) -> Throttles
-    requires { ⌜ 239 ≤ length (now b) ⌝ }
+    requires { ⌜ journalAt ≤ length (now b) ⌝ }
     ensures { λ r. ⌜ r ≡ throttlesIn (now (b .entry)) ⌝ }
 {
     let present = wire::be16(b, 8);
@@ -213,7 +227,7 @@ fn throttles_in(b: &[u8]) -> Throttles
 }
 
 fn thermal_in(b: &[u8]) -> [u8; 9]
-    requires { ⌜ 239 ≤ length (now b) ⌝ }
+    requires { ⌜ journalAt ≤ length (now b) ⌝ }
     ensures { λ r. ⌜ r ≡ partAt 9 172 (now (b .entry)) ⌝ }
 {
     let mut thermal = [0u8; 9];
@@ -222,7 +236,7 @@ fn thermal_in(b: &[u8]) -> [u8; 9]
 }
 
 fn received_in(b: &[u8]) -> Received
-    requires { ⌜ 239 ≤ length (now b) ⌝ }
+    requires { ⌜ journalAt ≤ length (now b) ⌝ }
     ensures { λ r. ⌜ r ≡ receivedIn (now (b .entry)) ⌝ }
 {
     Received {
@@ -244,7 +258,7 @@ fn log_at(b: &[u8], at: usize) -> Log
 }
 
 fn logs_in(b: &[u8]) -> [Log; 4]
-    requires { ⌜ 239 ≤ length (now b) ⌝ }
+    requires { ⌜ journalAt ≤ length (now b) ⌝ }
     ensures { λ r. ⌜ r ≡ logsIn (now (b .entry)) ⌝ }
 {
     [
@@ -256,7 +270,7 @@ fn logs_in(b: &[u8]) -> [Log; 4]
 }
 
 fn deadman_in(b: &[u8]) -> Deadman
-    requires { ⌜ 239 ≤ length (now b) ⌝ }
+    requires { ⌜ journalAt ≤ length (now b) ⌝ }
     ensures { λ r. ⌜ r ≡ deadmanIn (now (b .entry)) ⌝ }
 {
     let time = wire::be64(b, 198);
@@ -267,7 +281,7 @@ fn deadman_in(b: &[u8]) -> Deadman
 }
 
 fn areas_in(b: &[u8]) -> Areas
-    requires { ⌜ 239 ≤ length (now b) ⌝ }
+    requires { ⌜ journalAt ≤ length (now b) ⌝ }
     ensures { λ r. ⌜ r ≡ areasIn (now (b .entry)) ⌝ }
 {
     let ffdc = Area {
@@ -285,7 +299,7 @@ fn areas_in(b: &[u8]) -> Areas
 }
 
 fn record_in(b: &[u8]) -> Record
-    requires { ⌜ 239 ≤ length (now b) ⌝ }
+    requires { ⌜ journalAt ≤ length (now b) ⌝ }
     ensures { λ r. ⌜ r ≡ recordIn (now (b .entry)) ⌝ }
 {
     let caps = caps_in(b);
@@ -313,7 +327,7 @@ fn record_in(b: &[u8]) -> Record
 }
 
 fn worked_in(b: &[u8]) -> Worked
-    requires { ⌜ 239 ≤ length (now b) ⌝ }
+    requires { ⌜ journalAt ≤ length (now b) ⌝ }
     ensures { λ r. ⌜ r ≡ workedIn (now (b .entry)) ⌝ }
 {
     let limit = wire::be16(b, 230);
@@ -328,7 +342,7 @@ fn worked_in(b: &[u8]) -> Worked
 // The head, by value; the stores stay where they stand. That lent bytes are bytes is said here, once: a call that writes nothing leaves
 // the image of what was read.
 pub fn read_head(b: &[u8]) -> Head
-    requires { ⌜ 2289 ≤ length (now b) ⌝ }
+    requires { ⌜ redoAt ≤ length (now b) ⌝ }
     ensures { λ h. ⌜ h ≡ headIn (now (b .entry)) ⌝ }
     ensures { λ _. ⌜ Bytes (now (b .entry)) ⌝ }
 {
@@ -336,7 +350,7 @@ pub fn read_head(b: &[u8]) -> Head
     let worked = worked_in(b);
     let next = wire::be16(b, 235);
     let used = wire::be16(b, 237);
-    let ahead = wire::be16(b, 2287);
+    let ahead = wire::be16(b, layout::AHEAD);
     Head {
         held: held,
         worked: worked,

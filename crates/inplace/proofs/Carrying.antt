@@ -17,7 +17,7 @@ use Rattle.journal.specs.Add.{entryLen, endOf, addedTo}
 use Rattle.journal.specs.declared.End.{End}
 use Rattle.journal.specs.declared.End.the-variants.{At, Full}
 use Rattle.session.specs.declared.Session.{Session}
-use Rattle.session.specs.Session.{Carried, madeOf, withHeld, carriedTo, carriedOf}
+use Rattle.session.specs.Session.{Carried, madeOf, renewed, carriedTo, carriedOf}
 
 made-by-one : (log : Log) → madeBy log ≤ 1
 unfolding madeBy
@@ -71,10 +71,10 @@ module _ (s : Session) (e back : Edit) (end : End) (made : end ≡ endOf (length
 
   pub carried-at : (used : ℕ) (j : List ℕ) → end ≡ At used → j ≡ addedTo (s .used) back (s .journal)
       → _≡_ {A = Carried}
-      (record { full = false; session = withHeld (putOf (s .held) e .after) (s .next + madeOf (e .change)) j used (replicate 2048 0) 0 })
+      (record { full = false; session = renewed s (putOf (s .held) e .after) (s .next + madeOf (e .change)) j used (replicate 2048 0) 0 })
       (carriedOf s e)
   unfolding carriedOf carriedTo
   carried-at used j f jp =
       let jq = jp ∙ ap (λ (b : Edit). addedTo (s .used) b (s .journal)) is in
-      (λ i. record { full = false; session = withHeld (putOf (s .held) e .after) (s .next + madeOf (e .change)) (jq i) used (replicate 2048 0) 0 })
+      (λ i. record { full = false; session = renewed s (putOf (s .held) e .after) (s .next + madeOf (e .change)) (jq i) used (replicate 2048 0) 0 })
       ∙ ap (carriedTo s e) (sym f ∙ carried-end)

@@ -20,10 +20,11 @@ use Rattle.journal.specs.declared.End.{End}
 use Rattle.journal.specs.declared.End.the-variants.{At, Full}
 use Rattle.journal.specs.declared.Way.{Way}
 use Rattle.journal.specs.declared.Way.the-variants.{After}
-use Rattle.session.specs.Session.{Carried, wellFormed, madeOf, withHeld, carriedOf}
+use Rattle.session.specs.Session.{Carried, wellFormed, madeOf, renewed, carriedOf}
 use Rattle.session.specs.laws.Session.{formed, formed-next}
 use Rattle.image.specs.declared.Head.{Head}
-use Rattle.image.specs.Image.{imageLength, imageOf, partAt, storeAt, storeIn, withStore, journalIn, redoIn, sessionIn}
+use Rattle.image.specs.Image.{imageOf, headRenewed, partAt, storeAt, storeIn, withStore, journalIn, redoIn, sessionIn}
+use Rattle.layout.specs.Layout.{journalAt, redoAt, imageLength}
 use Rattle.image.specs.laws.Stores.{store-low, store-long, store-back, store-above, store-below, store-same, lent-part, lent-back}
 use Rattle.image.proofs.Standing.{length-store}
 use Rattle.inplace.specs.InPlace.{headAfter, carriedIn}
@@ -61,7 +62,7 @@ emptied j used fits rest =
 -- ---- a change carried out: the journal's part is lent to `journal::add`, which gives it back as x; back is the change's inverse
 
 module _ (b : List ℕ) (long : length b ≡ imageLength) (h : Head) (e back : Edit) (end : End) (a : List ℕ)
-    (is : back ≡ inverseOf (h .held) e) (made : end ≡ endOf 2048 (h .used) back) (added : a ≡ withStore 239 (addedTo (h .used) back (journalIn b)) b) where
+    (is : back ≡ inverseOf (h .held) e) (made : end ≡ endOf 2048 (h .used) back) (added : a ≡ withStore journalAt (addedTo (h .used) back (journalIn b)) b) where
   abbrev after : Carried
   after = carriedOf (sessionIn h b) e
 
@@ -69,61 +70,61 @@ module _ (b : List ℕ) (long : length b ≡ imageLength) (h : Head) (e back : E
   x = addedTo (h .used) back (journalIn b)
 
   made-in : end ≡ endOf (length (journalIn b)) (h .used) back
-  made-in = made ∙ ap (λ (n : ℕ). endOf n (h .used) back) (sym (length-store b long 239 (omega arith)))
+  made-in = made ∙ ap (λ (n : ℕ). endOf n (h .used) back) (sym (length-store b long journalAt (omega arith)))
 
   pub full-in : end ≡ Full → (true ≡ after .full) × (a ≡ carriedIn b after)
   unfolding sessionIn carriedIn
   full-in f =
       let k = carried-full (sessionIn h b) e back end made-in is f in
       let same = full-keeps (h .used) back (journalIn b) (subst IsFull (sym f ∙ made-in) tt) in
-      (ap (λ (q : Carried). q .full) k, added ∙ store-same b x 239 same ∙ ap (carriedIn b) k)
+      (ap (λ (q : Carried). q .full) k, added ∙ store-same b x journalAt same ∙ ap (carriedIn b) k)
 
   -- z is what is left of the redo store, y the lent bytes after the head was written
   module _ (wide : length x ≡ 2048) (whole : wellFormed (sessionIn h b) ≡ true) (z : List ℕ)
       (cut : z ≡ withStore (storeAt After) (cutFrom 0 (h .ahead) (storeIn After a)) a) where
-    long-x : length (withStore 239 x b) ≡ imageLength
-    long-x = store-long b x long wide 239 (omega arith)
+    long-x : length (withStore journalAt x b) ≡ imageLength
+    long-x = store-long b x long wide journalAt (omega arith)
 
-    redo-was : redoIn (withStore 239 x b) ≡ redoIn b
-    redo-was = store-above b x long wide 239 (omega arith) 2
+    redo-was : redoIn (withStore journalAt x b) ≡ redoIn b
+    redo-was = store-above b x long wide journalAt (omega arith) 2
 
-    empty : cutFrom 0 (h .ahead) (redoIn (withStore 239 x b)) ≡ replicate 2048 0
+    empty : cutFrom 0 (h .ahead) (redoIn (withStore journalAt x b)) ≡ replicate 2048 0
     unfolding sessionIn
     empty =
         let store = formed (sessionIn h b) whole .redo in
-        let n = length-store b long 2289 (omega arith) in
+        let n = length-store b long redoAt (omega arith) in
         ap (cutFrom 0 (h .ahead)) redo-was ∙ emptied (redoIn b) (h .ahead) (store .fits) (store .unused) ∙ ap (λ (n : ℕ). replicate n 0) n
 
-    cut-is : z ≡ withStore 2289 (replicate 2048 0) (withStore 239 x b)
+    cut-is : z ≡ withStore redoAt (replicate 2048 0) (withStore journalAt x b)
     unfolding storeAt
     cut-is =
-        cut ∙ ap (λ (l : List ℕ). withStore 2289 (cutFrom 0 (h .ahead) (redoIn l)) l) added ∙ ap (λ (r : List ℕ). withStore 2289 r (withStore 239 x b)) empty
+        cut ∙ ap (λ (l : List ℕ). withStore redoAt (cutFrom 0 (h .ahead) (redoIn l)) l) added ∙ ap (λ (r : List ℕ). withStore redoAt r (withStore journalAt x b)) empty
 
     journal-is : journalIn z ≡ x
-    journal-is = ap journalIn cut-is ∙ store-below (withStore 239 x b) (replicate 2048 0) long-x (length-replicate {A = ℕ} 2048 0) 2289 (omega arith) 239 (omega arith) ∙ store-back b x long wide 239 (omega arith)
+    journal-is = ap journalIn cut-is ∙ store-below (withStore journalAt x b) (replicate 2048 0) long-x (length-replicate {A = ℕ} 2048 0) redoAt (omega arith) journalAt (omega arith) ∙ store-back b x long wide journalAt (omega arith)
 
     redo-is : redoIn z ≡ replicate 2048 0
-    redo-is = ap redoIn cut-is ∙ store-back (withStore 239 x b) (replicate 2048 0) long-x (length-replicate {A = ℕ} 2048 0) 2289 (omega arith)
+    redo-is = ap redoIn cut-is ∙ store-back (withStore journalAt x b) (replicate 2048 0) long-x (length-replicate {A = ℕ} 2048 0) redoAt (omega arith)
 
     pub length-cut : length z ≡ imageLength
-    length-cut = ap length cut-is ∙ store-long (withStore 239 x b) (replicate 2048 0) long-x (length-replicate {A = ℕ} 2048 0) 2289 (omega arith)
+    length-cut = ap length cut-is ∙ store-long (withStore journalAt x b) (replicate 2048 0) long-x (length-replicate {A = ℕ} 2048 0) redoAt (omega arith)
 
     pub done-in : (used : ℕ) (head : Head) (y : List ℕ) → end ≡ At used → head ≡ headAfter h e used → y ≡ imageOf (sessionIn head z) → (false ≡ after .full) × (y ≡ carriedIn b after)
-    unfolding sessionIn carriedIn headAfter withHeld
+    unfolding sessionIn carriedIn headAfter headRenewed renewed
     done-in used head y f hp q =
         let k = carried-at (sessionIn h b) e back end made-in is used x f refl in
         let there : y ≡ imageOf (sessionIn (headAfter h e used) z) = q ∙ ap (λ (k : Head). imageOf (sessionIn k z)) hp in
         let r = putOf (h .held) e .after in
         let n = h .next + madeOf (e .change) in
-        let stands : imageOf (sessionIn (headAfter h e used) z) ≡ imageOf (withHeld r n x used (replicate 2048 0) 0) = λ i. imageOf (record { held = r; worked = workedOf r; next = n; used = used; journal = journal-is i; ahead = 0; redo = redo-is i }) in
+        let stands : imageOf (sessionIn (headAfter h e used) z) ≡ imageOf (renewed (sessionIn h b) r n x used (replicate 2048 0) 0) = λ i. imageOf (renewed (sessionIn h b) r n (journal-is i) used (redo-is i) 0) in
         (ap (λ (q : Carried). q .full) k, there ∙ stands ∙ ap (carriedIn b) k)
 
 pub added-in : (b : List ℕ) → length b ≡ imageLength → (used : ℕ) (e : Edit) (end : End) (x : List ℕ) → end ≡ endOf (length (journalIn b)) used e → x ≡ addedTo used e (journalIn b)
     → length x ≡ length (journalIn b)
-    → (end ≡ endOf 2048 used e) × ((withStore 239 x b ≡ withStore 239 (addedTo used e (journalIn b)) b) × (length (addedTo used e (journalIn b)) ≡ 2048))
+    → (end ≡ endOf 2048 used e) × ((withStore journalAt x b ≡ withStore journalAt (addedTo used e (journalIn b)) b) × (length (addedTo used e (journalIn b)) ≡ 2048))
 added-in b long used e end x p q wide =
-    let n = length-store b long 239 (omega arith) in
-    (p ∙ ap (λ (m : ℕ). endOf m used e) n, (ap (λ (y : List ℕ). withStore 239 y b) q, sym (ap length q) ∙ wide ∙ n))
+    let n = length-store b long journalAt (omega arith) in
+    (p ∙ ap (λ (m : ℕ). endOf m used e) n, (ap (λ (y : List ℕ). withStore journalAt y b) q, sym (ap length q) ∙ wide ∙ n))
 
 pub next-fits : (h : Head) (b : List ℕ) → wellFormed (sessionIn h b) ≡ true → h .next ≤ 256
 unfolding sessionIn

@@ -1,15 +1,17 @@
 -- What calls and changes leave in the lent bytes of a session.
-use mathlib.Core.Bool.{cond}
+use mathlib.Core.Bool.{cond, not}
 use mathlib.Core.List.{List}
 use mathlib.Core.Path.{_≡_}
 use lib.ListN.{length}
+use lib.Dec.{eqb}
 use Prim.Native.Nat.{ℕ, _+_}
-use Rattle.record.specs.Record.{workedOf}
 use Rattle.change.specs.Change.{putOf}
 use Rattle.change.specs.declared.Edit.{Edit}
 use Rattle.session.specs.Session.{Carried, madeOf}
+use Rattle.session.specs.declared.Session.{Session}
 use Rattle.image.specs.declared.Head.{Head}
-use Rattle.image.specs.Image.{imageLength, imageOf, sessionIn}
+use Rattle.image.specs.Image.{imageOf, headRenewed, sessionIn, sessionOf}
+use Rattle.layout.specs.Layout.{imageLength}
 use Rattle.inplace.specs.declared.Told.{Told}
 
 -- h is the head that stands in these bytes, which are an image
@@ -19,14 +21,7 @@ pub record HeadStands (h : Head) (b : List ℕ) : Type 0 where
 
 -- the head after a change whose entry ends at `used`: the redo store is empty then
 unfoldable pub headAfter : Head → Edit → ℕ → Head
-headAfter h e used =
-    record {
-      held = putOf (h .held) e .after;
-      worked = workedOf (putOf (h .held) e .after);
-      next = h .next + madeOf (e .change);
-      used = used;
-      ahead = 0;
-    }
+headAfter h e used = headRenewed h (putOf (h .held) e .after) (h .next + madeOf (e .change)) used 0
 
 -- the image of the session after it; the bytes as they were where its entry has no room
 unfoldable pub carriedIn : List ℕ → Carried → List ℕ
@@ -41,3 +36,7 @@ pub record Left : Type 0 where
 -- bytes of another length than an image's are no session: answer 1, and all is kept
 abbrev pub noImage : List ℕ → List ℕ → Left
 noImage b d = record { told = record { answer = 1; small = 0; beside = 0 }; image = b; reply = d }
+
+-- a call on lent bytes is the call on the session that they are the image of; d is the reply buffer
+unfoldable pub onImage : List ℕ → List ℕ → (Session → Left) → Left
+onImage b d call = cond (not (eqb (length b) imageLength)) (noImage b d) (call (sessionOf b))

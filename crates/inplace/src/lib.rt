@@ -8,7 +8,8 @@ ghost use Rattle.wire.specs.Wire.{pasted};
 ghost use Rattle.journal.specs.Bytes.{entryBytes};
 ghost use Rattle.journal.specs.Add.{entryLen, endOf, addedTo, cutFrom};
 ghost use Rattle.session.specs.Session.{storesOk, wellFormed, carriedOf};
-ghost use Rattle.image.specs.Image.{imageLength, storeAt, storeIn, withStore, journalIn, sessionIn};
+ghost use Rattle.image.specs.Image.{storeAt, storeIn, withStore, journalIn, sessionIn};
+ghost use Rattle.layout.specs.Layout.{journalAt, imageLength};
 ghost use Rattle.inplace.specs.InPlace.{headAfter, carriedIn};
 use change::Edit;
 use image::Head;
@@ -42,13 +43,13 @@ fn stores_ok(lent: &[u8], h: Head) -> bool
 {
     let used = h.used as usize;
     let ahead = h.ahead as usize;
-    if 2048 < used + ahead {
+    if layout::STORE < used + ahead {
         return false;
     }
-    if !session::store_ok(Way::Before, &lent[239..2287], used) {
+    if !session::store_ok(Way::Before, &lent[layout::JOURNAL..layout::AHEAD], used) {
         return false;
     }
-    session::store_ok(Way::After, &lent[2289..4337], ahead)
+    session::store_ok(Way::After, &lent[layout::REDO..layout::REDO_END], ahead)
 }
 
 pub fn well_formed(lent: &[u8], h: Head) -> bool
@@ -71,7 +72,7 @@ pub fn cut(lent: &mut [u8], way: Way, at: usize, used: usize)
     ensures { λ _. ⌜ now (lent .exit) ≡ withStore (storeAt way) (cutFrom at used (storeIn way (now (lent .entry)))) (now (lent .entry)) ⌝ }
 {
     let start = image::store_at(way);
-    let end = start + 2048;
+    let end = start + layout::STORE;
     journal::cut(&mut lent[start..end], at, used);
 }
 
@@ -82,7 +83,7 @@ pub fn append(lent: &mut [u8], way: Way, used: usize, e: Edit)
     ensures { λ _. ⌜ length (pasted used (entryBytes e) (storeIn way (now (lent .entry)))) ≡ 2048 ⌝ }
 {
     let start = image::store_at(way);
-    let end = start + 2048;
+    let end = start + layout::STORE;
     journal::append(&mut lent[start..end], used, e);
 }
 
@@ -90,10 +91,10 @@ pub fn append(lent: &mut [u8], way: Way, used: usize, e: Edit)
 fn add(lent: &mut [u8], used: usize, e: Edit) -> End
     requires { ⌜ length (now lent) ≡ imageLength ⌝ }
     ensures { λ x. ⌜ x ≡ endOf 2048 used e ⌝ }
-    ensures { λ _. ⌜ now (lent .exit) ≡ withStore 239 (addedTo used e (journalIn (now (lent .entry)))) (now (lent .entry)) ⌝ }
+    ensures { λ _. ⌜ now (lent .exit) ≡ withStore journalAt (addedTo used e (journalIn (now (lent .entry)))) (now (lent .entry)) ⌝ }
     ensures { λ _. ⌜ length (addedTo used e (journalIn (now (lent .entry)))) ≡ 2048 ⌝ }
 {
-    journal::add(&mut lent[239..2287], used, e)
+    journal::add(&mut lent[layout::JOURNAL..layout::AHEAD], used, e)
 }
 
 // ---- a change carried out
@@ -106,14 +107,8 @@ fn head_after(h: Head, e: Edit, used: u16) -> Head
     let change = e.change;
     let put = change::put(held, e);
     let after = put.after;
-    let worked = record::work_out(after);
-    Head {
-        held: after,
-        worked: worked,
-        next: h.next + session::made(change),
-        used: used,
-        ahead: 0,
-    }
+    let next = h.next + session::made(change);
+    image::renewed(h, after, next, used, 0)
 }
 
 // A change carried out: entry, record, worked-out values and next id, in one place, and the redo store is emptied. Nothing else writes a record

@@ -22,7 +22,8 @@ use Rattle.places.specs.declared.Blame.{Blame}
 use Rattle.places.specs.declared.Blame.the-variants.{Nothing, Wrong}
 use Rattle.session.specs.Session.{Carried, wellFormed, carriedOf}
 use Rattle.session.specs.declared.Session.{Session}
-use Rattle.image.specs.Image.{imageLength, imageOf, sessionOf}
+use Rattle.image.specs.Image.{imageOf, sessionOf}
+use Rattle.layout.specs.Layout.{imageLength}
 use Rattle.inplace.specs.declared.Told.{Told}
 use Rattle.inplace.specs.InPlace.{Left, noImage}
 

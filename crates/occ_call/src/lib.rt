@@ -139,7 +139,7 @@ fn hear(lent: &mut [u8], h: Head, sender: u8, command: &[u8], reply: &mut [u8]) 
 pub fn occ(lent: &mut [u8], sender: u8, command: &[u8], reply: &mut [u8]) -> Told
     ensures { λ x. ⌜ OccAllows (now (lent .entry)) sender (now (command .entry)) (now (reply .entry)) x (now (lent .exit)) (now (reply .exit)) ⌝ }
 {
-    if lent.len() != image::LENGTH {
+    if lent.len() != layout::IMAGE {
         return inplace::answer_with(1, 0);
     }
     let h = image::read_head(&*lent);

@@ -29,7 +29,8 @@ use Rattle.entries.specs.laws.Next.{Leads, leads-on, next-fits}
 use Rattle.trace.specs.Trace.{traceTable, traceScan}
 use Rattle.session.specs.Session.{freshSession}
 use Rattle.session.specs.declared.Session.{Session}
-use Rattle.image.specs.Image.{imageLength, imageOf, writtenTo}
+use Rattle.image.specs.Image.{imageOf, writtenTo}
+use Rattle.layout.specs.Layout.{imageLength}
 use Rattle.playing.specs.declared.Played.{Played}
 use Rattle.playing.specs.declared.Played.the-variants.{NoImage, NoRoom, Lines}
 use Rattle.playing.specs.Playing.{Heard, heard, line, lineRoom, Puts, imageAfter, linesOf, stopLine, piecesOf, textOf, wholeEntry, Stepped, stepped, roomFor, Replayed, replayed}

@@ -14,7 +14,8 @@ use Rattle.entries.specs.declared.Reading.{Reading}
 use Rattle.entries.specs.declared.Reading.the-variants.{Whole, Unknown, Cut}
 use Rattle.trace.specs.Trace.{traceTable, traceScan}
 use Rattle.session.specs.Session.{freshSession}
-use Rattle.image.specs.Image.{imageLength, imageOf}
+use Rattle.image.specs.Image.{imageOf}
+use Rattle.layout.specs.Layout.{imageLength}
 use Rattle.inplace.specs.InPlace.{Left}
 use Rattle.occ_call.specs.Occ.{occOn}
 use Rattle.sbe_call.specs.Sbe.{sbeOn}

@@ -209,7 +209,7 @@ pub fn stop(out: &mut [u8], reading: Reading) -> usize
 pub fn play(lent: &mut [u8], t: &[u8], out: &mut [u8]) -> Played
     ensures { λ r. ⌜ PlayAllows (now (lent .entry)) (now (t .entry)) (now (out .entry)) r (now (lent .exit)) (now (out .exit)) ⌝ }
 {
-    if lent.len() != image::LENGTH {
+    if lent.len() != layout::IMAGE {
         return Played::NoImage;
     }
     let count = trace::count(t);

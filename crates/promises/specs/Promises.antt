@@ -64,7 +64,8 @@ use Rattle.promises.specs.laws.WellFormed.{occ-formed, sbe-formed, undo-
 use Rattle.promises.specs.Later.{Wish, AsIf}
 use Rattle.promises.specs.laws.NoTrace.{trace-free, later-as-before, later-alike, redo-brings-back, redo-undone}
 use Rattle.promises.specs.NoTrace.{leaves, after, tried, AllButRedo, AsBefore}
-use Rattle.image.specs.Image.{imageLength, imageOf}
+use Rattle.image.specs.Image.{imageOf}
+use Rattle.layout.specs.Layout.{imageLength}
 use Rattle.bjargolsk.specs.Calls.{freshOn, FreshReturns, OccReturns, SbeReturns, UndoReturns, RedoReturns}
 use Rattle.promises.specs.laws.Lent.{fresh-image, lent-run, lent-next}
 use Rattle.promises.specs.Lent.{lent, carriedOver, lentRun}

@@ -152,7 +152,7 @@ fn serve(lent: &mut [u8], held: &mut [u8], out: &mut [u8]) {
 
 // A whole entry, of 4,098 bytes at most, has always room among the bytes held.
 fn main() {
-    let mut lent = [0u8; image::LENGTH];
+    let mut lent = [0u8; layout::IMAGE];
     image::write(session::fresh(), &mut lent);
     let mut held = io::large_buffer();
     let mut out = io::large_buffer();

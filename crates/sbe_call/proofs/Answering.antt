@@ -18,7 +18,8 @@ use Rattle.session.specs.Session.{Carried, wellFormed, carriedOf}
 use Rattle.session.specs.declared.Session.{Session}
 use Rattle.sbe_call.specs.Sbe.{SbeResult, rung, kept, responds, refusalOf, sbeRefusal, carriedSays, sbeMade, toldOf, rulingSays, sbeRead, sbeFrom, sbeCall, sbeLeft, sbeOn}
 use Rattle.image.specs.declared.Head.{Head}
-use Rattle.image.specs.Image.{imageLength, imageOf, headIn, sessionIn}
+use Rattle.image.specs.Image.{imageOf, headIn, sessionIn}
+use Rattle.layout.specs.Layout.{imageLength}
 use Rattle.inplace.specs.declared.Told.{Told}
 use Rattle.inplace.specs.InPlace.{HeadStands, carriedIn}
 use Rattle.inplace.specs.laws.InPlace.{Parts, parts, as-read, stands}

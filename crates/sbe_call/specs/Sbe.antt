@@ -14,7 +14,8 @@ use Rattle.sbe.specs.declared.Ruling.{Ruling}
 use Rattle.sbe.specs.declared.Ruling.the-variants.{Decline, Grant}
 use Rattle.session.specs.Session.{Carried, wellFormed, carriedOf}
 use Rattle.session.specs.declared.Session.{Session}
-use Rattle.image.specs.Image.{imageLength, imageOf, sessionOf}
+use Rattle.image.specs.Image.{imageOf, sessionOf}
+use Rattle.layout.specs.Layout.{imageLength}
 use Rattle.inplace.specs.declared.Told.{Told}
 use Rattle.inplace.specs.InPlace.{Left, noImage}
 

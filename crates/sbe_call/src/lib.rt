@@ -72,7 +72,7 @@ fn hear(lent: &mut [u8], h: Head, request: &[u8], reply: &mut [u8]) -> Told
 pub fn sbe(lent: &mut [u8], request: &[u8], reply: &mut [u8]) -> Told
     ensures { λ x. ⌜ SbeAllows (now (lent .entry)) (now (request .entry)) (now (reply .entry)) x (now (lent .exit)) (now (reply .exit)) ⌝ }
 {
-    if lent.len() != image::LENGTH {
+    if lent.len() != layout::IMAGE {
         return inplace::answer_with(1, 0);
     }
     let h = image::read_head(&*lent);

@@ -74,9 +74,10 @@ madeOf (SetMask mask) = 0
 madeOf (SetDeadman deadman) = 0
 madeOf (SetAreas areas) = 0
 
--- a session whose record is this one; its limit, readiness and wanted format are that record's
-unfoldable pub withHeld : Record → ℕ → List ℕ → ℕ → List ℕ → ℕ → Session
-withHeld held next journal used redo ahead =
+-- a session from a session: this record, with the limit, readiness and wanted format that are worked out of it, this next id and these two
+-- stores; whatever isn't named here is kept
+unfoldable pub renewed : Session → Record → ℕ → List ℕ → ℕ → List ℕ → ℕ → Session
+renewed s held next journal used redo ahead =
     record { held = held; worked = workedOf held; next = next; journal = journal; used = used; redo = redo; ahead = ahead }
 
 -- the session after a change, or that its entry has no room
@@ -92,7 +93,7 @@ carriedTo s e (At used) =
     record {
       full = false;
       session =
-          withHeld (putOf (s .held) e .after) (s .next + madeOf (e .change)) (addedTo (s .used) (inverseOf (s .held) e) (s .journal)) used (replicate 2048 0) 0;
+          renewed s (putOf (s .held) e .after) (s .next + madeOf (e .change)) (addedTo (s .used) (inverseOf (s .held) e) (s .journal)) used (replicate 2048 0) 0;
     }
 
 unfoldable pub carriedOf : Session → Edit → Carried

@@ -3,7 +3,7 @@ ghost use Prim.Native.Nat.{_≤_};
 ghost use lib.ListN.{length};
 ghost use mathlib.Core.Path.{_≡_};
 ghost use Rattle.io.specs.Counts.{Counts};
-ghost use Rattle.image.specs.Image.{imageLength};
+ghost use Rattle.layout.specs.Layout.{imageLength};
 use inplace::Told;
 use libc::STDIN_FILENO;
 use libc::STDOUT_FILENO;
@@ -93,7 +93,7 @@ fn tell_ok(out: &mut [u8]) {
 fn load(lent: &mut [u8], sent: &[u8], out: &mut [u8])
     requires { ⌜ (length (now lent) ≡ imageLength) × (8198 ≤ length (now sent)) ⌝ }
 {
-    wire::copy(lent, 0, &sent[..image::LENGTH]);
+    wire::copy(lent, 0, &sent[..layout::IMAGE]);
     tell_ok(out);
 }
 
@@ -206,9 +206,9 @@ fn put_show(lent: &[u8], out: &mut [u8]) -> usize
         held,
         worked,
         h.next,
-        &lent[239..2287],
+        &lent[layout::JOURNAL..layout::AHEAD],
         h.used as usize,
-        &lent[2289..4337],
+        &lent[layout::REDO..layout::REDO_END],
         h.ahead as usize,
     )
 }
@@ -218,7 +218,7 @@ fn put_journal(lent: &[u8], out: &mut [u8]) -> usize
     ensures { λ r. ⌜ Counts r (now (out .exit)) ⌝ }
 {
     let used = wire::be16(lent, 237) as usize;
-    answers::journal(out, &lent[239..2287], used)
+    answers::journal(out, &lent[layout::JOURNAL..layout::AHEAD], used)
 }
 
 fn look(lent: &[u8], view: View, last: Told, out: &mut [u8]) -> usize
@@ -398,7 +398,7 @@ fn serve(lent: &mut [u8], piece: &mut [u8], line: &mut [u8], sent: &mut [u8], ou
 
 // A line is held with a byte more than the longest and its carriage return, so that a longer one is seen.
 fn main() {
-    let mut lent = [0u8; image::LENGTH];
+    let mut lent = [0u8; layout::IMAGE];
     image::write(session::fresh(), &mut lent);
     let mut piece = io::large_buffer();
     let mut line = [0u8; 32770];

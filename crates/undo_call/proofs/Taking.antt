@@ -37,7 +37,8 @@ use Rattle.session.specs.laws.Session.{formed}
 use Rattle.session.specs.declared.Session.{Session}
 use Rattle.links.specs.laws.Links.{kind-of-back}
 use Rattle.image.specs.declared.Head.{Head}
-use Rattle.image.specs.Image.{imageLength, imageOf, partAt, headIn, storeAt, storeIn, withStore, journalIn, redoIn, sessionIn, sessionOf}
+use Rattle.image.specs.Image.{imageOf, partAt, headIn, storeAt, storeIn, withStore, journalIn, redoIn, sessionIn, sessionOf}
+use Rattle.layout.specs.Layout.{imageLength}
 use Rattle.image.specs.laws.Stores.{store-low, store-long, store-back, store-above, store-below}
 use Rattle.image.proofs.Standing.{length-store}
 use Rattle.inplace.specs.declared.Told.{Told}
@@ -90,13 +91,13 @@ stores-are After d less more p q = (q, p)
 -- a store changed leaves the other one
 other-kept : (w : Way) (b x : List ℕ) → length b ≡ imageLength → length x ≡ 2048 → storeIn (other w) (withStore (storeAt w) x b) ≡ storeIn (other w) b
 unfolding storeAt other byWay
-other-kept Before b x long wide = store-above b x long wide 239 (omega arith) 2
-other-kept After b x long wide = store-below b x long wide 2289 (omega arith) 239 (omega arith)
+other-kept Before b x long wide = store-above b x long wide journalAt (omega arith) 2
+other-kept After b x long wide = store-below b x long wide redoAt (omega arith) journalAt (omega arith)
 
 kept-by-other : (w : Way) (b x : List ℕ) → length b ≡ imageLength → length x ≡ 2048 → storeIn w (withStore (storeAt (other w)) x b) ≡ storeIn w b
 unfolding storeAt other byWay
-kept-by-other Before b x long wide = store-below b x long wide 2289 (omega arith) 239 (omega arith)
-kept-by-other After b x long wide = store-above b x long wide 239 (omega arith) 2
+kept-by-other Before b x long wide = store-below b x long wide redoAt (omega arith) journalAt (omega arith)
+kept-by-other After b x long wide = store-above b x long wide journalAt (omega arith) 2
 
 pub at-fits : (w : Way) (m n at k : ℕ) → at + k ≡ byWay w m n → m + n ≤ 2048 → at ≤ 2048
 at-fits w m n at k e h = omega (arith, e, by-sum w m n)

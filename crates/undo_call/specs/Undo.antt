@@ -30,7 +30,8 @@ use Rattle.journal.specs.declared.Way.the-variants.{Before, After}
 use Rattle.session.specs.Session.{wellFormed, withHeld}
 use Rattle.session.specs.declared.Session.{Session}
 use Rattle.image.specs.declared.Head.{Head}
-use Rattle.image.specs.Image.{imageLength, imageOf, sessionOf}
+use Rattle.image.specs.Image.{imageOf, sessionOf}
+use Rattle.layout.specs.Layout.{imageLength}
 use Rattle.inplace.specs.declared.Told.{Told}
 use Rattle.inplace.specs.InPlace.{Left, noImage}
 

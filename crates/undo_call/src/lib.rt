@@ -9,7 +9,8 @@ ghost use Rattle.journal.specs.Ways.{byWay, other};
 ghost use Rattle.journal.specs.Bytes.{entryBytes};
 ghost use Rattle.journal.specs.Add.{entryLen, cutFrom};
 ghost use Rattle.session.specs.Session.{wellFormed};
-ghost use Rattle.image.specs.Image.{imageLength, imageOf, storeIn, sessionIn};
+ghost use Rattle.image.specs.Image.{imageOf, storeIn, sessionIn};
+ghost use Rattle.layout.specs.Layout.{imageLength};
 ghost use Rattle.inplace.specs.InPlace.{HeadStands};
 ghost use Rattle.undo_call.specs.Undo.{noneLeft, headMoved, sessionMoved, movedWith, movedNewest, movedLeft, MoveAllows, UndoAllows, RedoAllows};
 use change::Edit;
@@ -154,7 +155,7 @@ fn take_newest(lent: &mut [u8], h: Head, way: Way) -> Told
 fn take_from(lent: &mut [u8], way: Way) -> Told
     ensures { λ x. ⌜ MoveAllows way (now (lent .entry)) x (now (lent .exit)) ⌝ }
 {
-    if lent.len() != image::LENGTH {
+    if lent.len() != layout::IMAGE {
         return inplace::answer_with(1, 0);
     }
     let h = image::read_head(&*lent);

@@ -13,7 +13,8 @@ use Rattle.wire.specs.Wire.{Bytes}
 use Rattle.journal.specs.declared.Way.{Way}
 use Rattle.journal.specs.declared.Way.the-variants.{Before, After}
 use Rattle.session.specs.declared.Session.{Session}
-use Rattle.image.specs.Image.{imageLength, imageOf, sessionOf}
+use Rattle.image.specs.Image.{imageOf, sessionOf}
+use Rattle.layout.specs.Layout.{imageLength}
 use Rattle.image.specs.laws.Image.{image-session}
 use Rattle.inplace.specs.InPlace.{Left}
 use Rattle.inplace.specs.declared.Told.{Told}

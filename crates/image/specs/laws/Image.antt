@@ -16,7 +16,8 @@ use Rattle.session.specs.declared.Session.{Session}
 use Rattle.links.specs.Typed.{TypedSession}
 use Rattle.image.specs.Rows.{joined, widthsOf, rowsFrom}
 use Rattle.image.specs.laws.Rows.{length-joined, rows-joined, joined-rows}
-use Rattle.image.specs.Image.{byte, headRows, throttlesRows, thermalRows, logsRows, mailboxRows, workedRows, recordRows, sessionRows, imageOf, byteAt, partAt, numberAt, capsIn, throttlesIn, receivedIn, logAt, logsIn, deadmanIn, areasIn, recordIn, workedIn, headIn, imageLength, sessionIn, sessionOf}
+use Rattle.image.specs.Image.{byte, headRows, throttlesRows, thermalRows, logsRows, mailboxRows, workedRows, recordRows, sessionRows, imageOf, byteAt, partAt, numberAt, capsIn, throttlesIn, receivedIn, logAt, logsIn, deadmanIn, areasIn, recordIn, workedIn, headIn, sessionIn, sessionOf}
+use Rattle.layout.specs.Layout.{storeSize, laterWidths, imageLength}
 
 -- what the types of the fields say of a session; every value has it
 pub record Typed (s : Session) : Type 0 where
@@ -29,7 +30,7 @@ recordWidths =
     1 ∷ 1 ∷ 2 ∷ 2 ∷ 2 ∷ 2 ∷ 160 ∷ 2 ∷ 9 ∷ 1 ∷ 1 ∷ 1 ∷ 1 ∷ 1 ∷ 1 ∷ 1 ∷ 1 ∷ 1 ∷ 1 ∷ 1 ∷ 1 ∷ 4 ∷ 1 ∷ 8 ∷ 8 ∷ 4 ∷ 8 ∷ 4 ∷ []
 
 unfoldable widths : List ℕ
-widths = recordWidths ++ (2 ∷ 1 ∷ 1 ∷ 1 ∷ 2 ∷ 2 ∷ 2048 ∷ 2 ∷ 2048 ∷ [])
+widths = recordWidths ++ (2 ∷ 1 ∷ 1 ∷ 1 ∷ 2 ∷ 2 ∷ storeSize ∷ 2 ∷ storeSize ∷ laterWidths)
 
 pub widths-record : (r : Record) → length (r .throttles .sets) ≡ 160 → length (r .thermal) ≡ 9 → widthsOf (recordRows r) ≡ recordWidths
 unfolding widthsOf recordWidths recordRows headRows throttlesRows thermalRows logsRows mailboxRows toBE
@@ -38,7 +39,7 @@ widths-record r sets thermal = λ i.
 
 widths-session : (s : Session) → TypedSession s → widthsOf (sessionRows s) ≡ widths
 unfolding widthsOf widths sessionRows recordRows headRows throttlesRows thermalRows logsRows mailboxRows workedRows toBE
-widths-session s t = λ i. widths-record (s .held) (t .held .sets) (t .held .thermal) i ++ (2 ∷ 1 ∷ 1 ∷ 1 ∷ 2 ∷ 2 ∷ t .journal i ∷ 2 ∷ t .redo i ∷ [])
+widths-session s t = λ i. widths-record (s .held) (t .held .sets) (t .held .thermal) i ++ (2 ∷ 1 ∷ 1 ∷ 1 ∷ 2 ∷ 2 ∷ t .journal i ∷ 2 ∷ t .redo i ∷ laterWidths)
 
 -- an image has 4,337 bytes
 pub length-image : (s : Session) → TypedSession s → length (imageOf s) ≡ imageLength

@@ -10,7 +10,8 @@ use Rattle.wire.specs.Wire.{pasted}
 use Rattle.wire.specs.laws.Wire.{part-of-part}
 use Rattle.journal.specs.declared.Way.{Way}
 use Rattle.journal.specs.declared.Way.the-variants.{Before, After}
-use Rattle.image.specs.Image.{imageLength, partAt, storeAt, withStore}
+use Rattle.image.specs.Image.{partAt, storeAt, withStore}
+use Rattle.layout.specs.Layout.{imageLength}
 
 pub store-low : (w : Way) → storeAt w ≤ 2289
 unfolding storeAt

@@ -1,8 +1,9 @@
 use mathlib.Core.Path.{ap, _∙_}
 use Prim.Native.Nat.{ℕ, _+_}
 use native.Mathlib.Omega.{arith}
-use Rattle.record.specs.Record.{workedOf}
+use Rattle.record.specs.declared.Record.{Record}
 use Rattle.change.specs.declared.Changed.{Changed}
+use Rattle.image.specs.Image.{headRenewed}
 use Rattle.inplace.specs.InPlace.{headAfter}
 use Rattle.inplace.proofs.Carrying.{made-fits}
 use borrow.Author.Needs.{needs}
@@ -12,20 +13,21 @@ use Rattle.inplace.proofs.head_after.Tie as tie
 put-requires : tie.Need-put-requires
 put-requires c κs = search needs
 
-work-out-requires : tie.Need-work-out-requires
-work-out-requires c κs = search needs
-
 made-requires : tie.Need-made-requires
 made-requires c κs = search needs
 
-add-t10 : tie.Need-add-t10
-add-t10 c = omega (arith, made-fits _ _ _ (c .before .made .ensures) (c .before .before .before .before .before .before .pre))
+add-next : tie.Need-add-next
+add-next c = omega (arith, made-fits _ _ _ (c .before .made .ensures) (c .before .before .before .before .before .pre))
+
+renewed-requires : tie.Need-renewed-requires
+renewed-requires c κs = search needs
 
 returns : tie.Need-returns
 unfolding headAfter
-returns c = let r = ap (λ (c : Changed). c .after) (c .before .before .before .before .put .ensures) in
-    let w = c .before .before .work-out .ensures ∙ ap workedOf r in
-    λ i. record { held = r i; worked = w i; next = c .before .before .before .before .before .before .args .h .next + c .before .made .ensures i; used = c .before .before .before .before .before .before .args .used; ahead = 0 }
+returns c =
+    let r = ap (λ (p : Changed). p .after) (c .before .before .before .before .put .ensures) in
+    let a = c .before .before .before .before .before .before .args in
+    _∙_ {b = headRenewed (a .h) (c .before .before .before .before .put .result .after) (a .h .next + c .before .before .made .result) (a .used) 0} (c .renewed .ensures) (λ i. headRenewed (a .h) (r i) (a .h .next + c .before .before .made .ensures i) (a .used) 0)
 
 pub head-after-spec : {M : Type 1} → statement M
-head-after-spec = tie.close (tie.spec put-requires work-out-requires made-requires add-t10 returns)
+head-after-spec = tie.close (tie.spec put-requires made-requires add-next renewed-requires returns)

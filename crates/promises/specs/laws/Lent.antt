@@ -19,7 +19,8 @@ use Rattle.journal.specs.declared.Way.{Way}
 use Rattle.journal.specs.declared.Way.the-variants.{Before, After}
 use Rattle.journal.specs.Ways.{byWay}
 use Rattle.undo_call.specs.Undo.{moveCall, movedLeft, moveOn}
-use Rattle.image.specs.Image.{imageLength, imageOf, sessionOf}
+use Rattle.image.specs.Image.{imageOf, sessionOf}
+use Rattle.layout.specs.Layout.{imageLength}
 use Rattle.image.specs.laws.Image.{Typed, session-image, length-image}
 use Rattle.inplace.specs.InPlace.{Left}
 use Rattle.bjargolsk.specs.Calls.{packed, freshOn}

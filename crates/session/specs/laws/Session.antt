@@ -22,7 +22,7 @@ use Rattle.journal.specs.declared.End.{End}
 use Rattle.journal.specs.declared.End.the-variants.{At, Full}
 use Rattle.journal.specs.declared.Way.{Way}
 use Rattle.journal.specs.declared.Way.the-variants.{Before, After}
-use Rattle.session.specs.Session.{workedFits, heldOk, storeOk, storesOk, wellFormed, withHeld, carriedTo, carriedOf}
+use Rattle.session.specs.Session.{workedFits, heldOk, storeOk, storesOk, wellFormed, renewed, carriedTo, carriedOf}
 
 -- a first test that must not hold, and the rest
 ltb-hold : (m n : ℕ) (b : Bool) → cond (ltb m n) false b ≡ true → (n ≤ m) × (b ≡ true)
@@ -102,7 +102,7 @@ none-due false n h = let z : ⊥ = omega (arith, h) in absurd z
 
 -- after carrying out, what is worked out is the new record's
 pub carried-worked : (s : Session) (e : Edit) → carriedOf s e .full ≡ false → carriedOf s e .session .worked ≡ workedOf (carriedOf s e .session .held)
-unfolding carriedOf carriedTo withHeld
+unfolding carriedOf carriedTo renewed
 carried-worked s e f = go (endOf (length (s .journal)) (s .used) (inverseOf (s .held) e)) f
   where
     go : (x : End) → carriedTo s e x .full ≡ false → carriedTo s e x .session .worked ≡ workedOf (carriedTo s e x .session .held)

@@ -1,7 +1,7 @@
 use mathlib.Core.Path.{sym}
 use native.Mathlib.Omega.{arith}
 use lib.Seq.{length-take-le}
-use Rattle.image.specs.Image.{imageLength}
+use Rattle.layout.specs.Layout.{imageLength}
 use borrow.Author.Needs.{needs}
 use Rattle.standin.proofs.load.Statement.{statement}
 use Rattle.standin.proofs.load.Tie as tie

@@ -1,0 +1,15 @@
+// The image of a session by the names of its parts: where each begins, and how long an image is.
+
+// Bytes of a store.
+pub const STORE: usize = 2048;
+
+// The journal begins, and ends where the used bytes of the redo store stand.
+pub const JOURNAL: usize = 239;
+pub const AHEAD: usize = 2287;
+
+// The redo store begins and ends.
+pub const REDO: usize = 2289;
+pub const REDO_END: usize = 4337;
+
+// All of it.
+pub const IMAGE: usize = 4337;

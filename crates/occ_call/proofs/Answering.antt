@@ -7,8 +7,9 @@ use native.Mathlib.Omega.{arith}
 use borrow.Author.Tests.{ltb-false}
 use lib.Dec.{ltb}
 use lib.ListN.{length, getD}
-use Rattle.wire.specs.laws.Cases.{said-of, if-b, else-b, if-ne, else-ne}
+use Rattle.wire.specs.laws.Cases.{said-of, if-ne, else-ne}
 use Rattle.change.specs.declared.Change.{Change}
+use Rattle.change.specs.declared.Edit.{Edit}
 use Rattle.packet.specs.Packet.{packetStatus, dataOf, replied}
 use Rattle.occ.specs.Judge.{plainly, judgeOf}
 use Rattle.occ.proofs.Verdict.{the-type}
@@ -21,42 +22,45 @@ use Rattle.occ.specs.declared.Verdict.the-variants.{Refuse, Poll, Make}
 use Rattle.occ.specs.declared.Judged.{Judged}
 use Rattle.places.specs.declared.Blame.{Blame}
 use Rattle.places.specs.declared.Blame.the-variants.{Nothing}
-use Rattle.session.specs.Session.{Carried, wellFormed, carriedOf}
+use Rattle.session.specs.Session.{wellFormed, carriedOf}
+use Rattle.session.specs.Road.{Asks, refuses, tells, makes, due, Said, kept, done, settled}
+use Rattle.session.specs.laws.Road.{made-full, made-done}
 use Rattle.session.specs.declared.Session.{Session}
-use Rattle.occ_call.specs.Occ.{OccResult, answered, kept, says, knownSender, refusalOf, occRefusal, carriedSays, occMade, toldOf, verdictSays, judgedSays, askedFor, askedOf, occRead, occFrom, occCall, faultFor, whyRead, whyFrom, occWhy, besideOf, occLeft, occOn}
+use Rattle.occ_call.specs.Occ.{knownSender, refusalOf, occRefusal, toldOf, verdictAsks, judgedAsks, askedFor, askedOf, occRead, occAsks, occCall, faultFor, whyRead, whyFrom, occWhy, besideOf, occLeft, occHeard, occOn}
 use Rattle.wire.specs.Wire.{Bytes}
 use Rattle.image.specs.declared.Head.{Head}
-use Rattle.image.specs.Image.{imageOf, headIn, sessionIn}
+use Rattle.image.specs.Image.{headIn, sessionIn}
 use Rattle.layout.specs.Layout.{imageLength}
 use Rattle.inplace.specs.declared.Told.{Told}
 use Rattle.inplace.specs.InPlace.{HeadStands, carriedIn}
-use Rattle.inplace.specs.laws.InPlace.{Parts, parts, as-read, stands}
+use Rattle.inplace.specs.laws.InPlace.{Parts, parts, stands, on-read, carried-kept, carried-new}
+use Rattle.inplace.specs.laws.InPlace as inplace
 
 -- no refusal is due: the session is well formed, the sender known and both buffers are long enough
-due : (a b c d : Bool) → cond {A = ℕ} (not a) 1 (cond (not b) 2 (cond c 3 (cond d 4 0))) ≡ 0 → (a ≡ true) × (c ≡ false) × (d ≡ false)
-due true true false false h = (refl, refl, refl)
-due true true false true h = let z : ⊥ = omega (arith, h) in absurd z
-due true true true d h = let z : ⊥ = omega (arith, h) in absurd z
-due true false c d h = let z : ⊥ = omega (arith, h) in absurd z
-due false b c d h = let z : ⊥ = omega (arith, h) in absurd z
+none-due : (a b c d : Bool) → cond {A = ℕ} (not a) 1 (cond (not b) 2 (cond c 3 (cond d 4 0))) ≡ 0 → (a ≡ true) × (c ≡ false) × (d ≡ false)
+none-due true true false false h = (refl, refl, refl)
+none-due true true false true h = let z : ⊥ = omega (arith, h) in absurd z
+none-due true true true d h = let z : ⊥ = omega (arith, h) in absurd z
+none-due true false c d h = let z : ⊥ = omega (arith, h) in absurd z
+none-due false b c d h = let z : ⊥ = omega (arith, h) in absurd z
 
 pub met : (s : Session) (f : Bool) (n sender command reply : ℕ) → f ≡ wellFormed s → n ≡ refusalOf f sender command reply → n ≡ 0 → (wellFormed s ≡ true) × (4 ≤ command)
 unfolding refusalOf
 met s f n sender command reply e is none =
-    let m = due f (knownSender sender) (ltb reply 4096) (ltb command 4) (sym is ∙ none) in
+    let m = none-due f (knownSender sender) (ltb reply 4096) (ltb command 4) (sym is ∙ none) in
     (sym e ∙ m .0, ltb-false command 4 (m .2))
 
--- ---- what a verdict says
+-- ---- what a verdict asks
 
-told : (s : Session) (seq kind : ℕ) (d : List ℕ) (t : Tables) (v : Verdict) → (tagOf the-type v ≡ 2 → ⊥)
-    → says s (toldOf v (s .held) (s .worked) seq kind d) ≡ verdictSays s seq kind d t v
-unfolding verdictSays
-told s seq kind d t (Refuse status) h = refl
-told s seq kind d t Poll h = refl
-told s seq kind d t (Make ch) h = absurd (h refl)
+told : (held : Record) (worked : Worked) (seq kind : ℕ) (d : List ℕ) (t : Tables) (v : Verdict) → (tagOf the-type v ≡ 2 → ⊥)
+    → tells 0 (toldOf v held worked seq kind d) ≡ verdictAsks held worked seq kind d t v
+unfolding verdictAsks
+told held worked seq kind d t (Refuse status) h = refl
+told held worked seq kind d t Poll h = refl
+told held worked seq kind d t (Make ch) h = absurd (h refl)
 
-pub tells : (held : Record) (worked : Worked) (seq kind : ℕ) (d : List ℕ) {v w : Verdict} {y : List ℕ} → v ≡ w → y ≡ toldOf w held worked seq kind d → y ≡ toldOf v held worked seq kind d
-tells held worked seq kind d = said-of (λ (u : Verdict). toldOf u held worked seq kind d)
+pub replies : (held : Record) (worked : Worked) (seq kind : ℕ) (d : List ℕ) {v w : Verdict} {y : List ℕ} → v ≡ w → y ≡ toldOf w held worked seq kind d → y ≡ toldOf v held worked seq kind d
+replies held worked seq kind d = said-of (λ (u : Verdict). toldOf u held worked seq kind d)
 
 -- what doesn't refuse has no fault beside it
 pub faultless : (v : Verdict) (held : Record) (kind : ℕ) (d : List ℕ) → (tagOf the-type v ≡ 0 → ⊥) → Nothing ≡ faultFor v held kind d
@@ -72,46 +76,50 @@ module _ (h : Head) (b : List ℕ) (here : HeadStands h b) (sender : ℕ) (c d :
   s = sessionIn h b
 
   abbrev Hears : Told → List ℕ → List ℕ → Type 0
-  Hears t y z = Parts t y z (occLeft (occRead s sender c d) (whyRead s sender c))
+  Hears t y z = Parts t y z (occHeard s sender c d)
 
   abbrev faultBeside : Verdict → Blame
   faultBeside v = faultFor v (h .held) (getD c 1 0) (dataOf c)
 
   module _ (j : Judged) (asked : j ≡ askedOf (h .held) (h .worked) (h .next) sender c) where
-    by-verdict : (q : OccResult) (f : Blame) → q ≡ verdictSays s (getD c 0 0) (getD c 1 0) d (j .tables) (j .verdict) → f ≡ faultBeside (j .verdict)
-        → occLeft q f ≡ occLeft (occRead s sender c d) (whyRead s sender c)
-    unfolding occRead whyRead judgedSays sessionIn
-    by-verdict q f e g = λ i. occLeft ((e ∙ ap (judgedSays s (getD c 0 0) (getD c 1 0) d) asked) i) ((g ∙ ap (λ (k : Judged). faultBeside (k .verdict)) asked) i)
+    abbrev asks : Asks
+    asks = verdictAsks (h .held) (h .worked) (getD c 0 0) (getD c 1 0) d (j .tables) (j .verdict)
+
+    by-verdict : (q : Said) (f : Blame) → q ≡ settled s d asks → f ≡ faultBeside (j .verdict) → occLeft q f ≡ occHeard s sender c d
+    unfolding occHeard occRead whyRead judgedAsks sessionIn
+    by-verdict q f e g = λ i.
+        occLeft ((e ∙ ap (λ (k : Judged). settled s d (judgedAsks (h .held) (h .worked) (getD c 0 0) (getD c 1 0) d k)) asked) i)
+        ((g ∙ ap (λ (k : Judged). faultBeside (k .verdict)) asked) i)
 
     pub told-in : (t : Told) (z : List ℕ) (f : Blame) → t ≡ besideOf 0 f → f ≡ faultBeside (j .verdict) → (tagOf the-type (j .verdict) ≡ 2 → ⊥)
         → z ≡ toldOf (j .verdict) (h .held) (h .worked) (getD c 0 0) (getD c 1 0) d → Hears t b z
-    unfolding occLeft says answered sessionIn
+    unfolding occLeft settled done
     told-in t z f p g n q =
         parts t b z _ ((λ i. record { told = p i; image = here .image i; reply = q i })
-        ∙ by-verdict _ f (told s (getD c 0 0) (getD c 1 0) d (j .tables) (j .verdict) n) g)
+        ∙ by-verdict _ f (ap (settled s d) (told (h .held) (h .worked) (getD c 0 0) (getD c 1 0) d (j .tables) (j .verdict) n)) g)
 
     -- a change: y are the lent bytes after it
     module _ (ch : Change) (v : j .verdict ≡ Make ch) (t : Told) (full : Bool) (y : List ℕ)
         (room : full ≡ carriedOf s (record { change = ch; tables = j .tables }) .full) (left : y ≡ carriedIn b (carriedOf s (record { change = ch; tables = j .tables }))) where
-      abbrev after : Carried
-      after = carriedOf s (record { change = ch; tables = j .tables })
+      abbrev edit : Edit
+      edit = record { change = ch; tables = j .tables }
 
-      by-carried : (q : OccResult) → q ≡ carriedSays after s (getD c 0 0) (getD c 1 0) d → occLeft q Nothing ≡ occLeft (occRead s sender c d) (whyRead s sender c)
-      unfolding verdictSays occMade faultFor
-      by-carried q e = by-verdict q Nothing (e ∙ sym (ap (verdictSays s (getD c 0 0) (getD c 1 0) d (j .tables)) v)) (sym (ap faultBeside v))
+      by-made : (q : Said) → q ≡ settled s d (makes edit 0 (replied (getD c 0 0) (getD c 1 0) 0x00 [] d)) → occLeft q Nothing ≡ occHeard s sender c d
+      unfolding verdictAsks faultFor
+      by-made q e =
+          by-verdict q Nothing (e ∙ sym (ap (λ (u : Verdict). settled s d (verdictAsks (h .held) (h .worked) (getD c 0 0) (getD c 1 0) d (j .tables) u)) v)) (sym (ap faultBeside v))
 
       pub full-in : t ≡ record { answer = 5; small = 0; beside = 0 } → full ≡ true → Hears t y d
-      unfolding occLeft besideOf kept answered carriedSays carriedIn
+      unfolding occLeft besideOf kept
       full-in p g =
-          let same = left ∙ sym (if-b b (imageOf (after .session)) (sym room ∙ g) refl) ∙ here .image in
-          parts t y d _ ((λ i. record { told = p i; image = same i; reply = d }) ∙ by-carried (kept 5 s d) (if-b _ _ (sym room ∙ g) refl))
+          parts t y d _ ((λ i. record { told = p i; image = carried-kept h b here edit full y room left g i; reply = d })
+          ∙ by-made (kept 5 s d) (sym (made-full s d edit 0 _ (sym room ∙ g))))
 
       pub done-in : t ≡ record { answer = 0; small = 0; beside = 0 } → full ≡ false → (z : List ℕ) → z ≡ replied (getD c 0 0) (getD c 1 0) 0x00 [] d → Hears t y z
-      unfolding occLeft besideOf says answered carriedSays carriedIn
+      unfolding occLeft besideOf done
       done-in p g z q =
-          let image = left ∙ sym (else-b b (imageOf (after .session)) (sym room ∙ g) refl) in
-          parts t y z _ ((λ i. record { told = p i; image = image i; reply = q i })
-          ∙ by-carried (says (after .session) (replied (getD c 0 0) (getD c 1 0) 0x00 [] d)) (else-b _ _ (sym room ∙ g) refl))
+          parts t y z _ ((λ i. record { told = p i; image = carried-new h b here edit full y room left g i; reply = q i })
+          ∙ by-made (done (carriedOf s edit .session) 0 0 (replied (getD c 0 0) (getD c 1 0) 0x00 [] d)) (sym (made-done s d edit 0 _ (sym room ∙ g))))
 
 -- ---- the whole call: f says whether the session is well formed, n is the refusal that is due
 
@@ -121,32 +129,36 @@ module _ (b : List ℕ) (long : length b ≡ imageLength) (h : Head) (read : h �
   pub met-in : n ≡ 0 → (wellFormed (sessionIn h b) ≡ true) × (4 ≤ length c)
   met-in none = met (sessionIn h b) f n sender (length c) (length d) formed is none
 
-  by-refusal : occLeft (occFrom n (sessionIn h b) sender c d) (whyFrom n (sessionIn h b) sender c) ≡ occOn b sender c d
-  unfolding occOn occCall occWhy occRefusal
+  abbrev s₀ : Session
+  s₀ = sessionIn h b
+
+  abbrev asked-first : ℕ → Asks
+  asked-first k = due k (occRead (s₀ .held) (s₀ .worked) (s₀ .next) sender c d)
+
+  by-refusal : occLeft (settled s₀ d (asked-first n)) (whyFrom n s₀ sender c) ≡ occOn b sender c d
+  unfolding occOn occCall occAsks occWhy occRefusal
   by-refusal =
-      ap (λ (k : ℕ). occLeft (occFrom k (sessionIn h b) sender c d) (whyFrom k (sessionIn h b) sender c)) (is ∙ ap (λ (g : Bool). refusalOf g sender (length c) (length d)) formed)
-      ∙ ap (λ (x : Session). occLeft (occCall x sender c d) (occWhy x sender c d)) (as-read b long h read)
-      ∙ else-ne _ _ long refl
+      ap (λ (k : ℕ). occLeft (settled s₀ d (asked-first k)) (whyFrom k s₀ sender c)) (is ∙ ap (λ (g : Bool). refusalOf g sender (length c) (length d)) formed)
+      ∙ on-read (λ (x : Session). occLeft (occCall x sender c d) (occWhy x sender c d)) d b long h read
 
   pub refused-in : Bytes b → (t : Told) → t ≡ record { answer = n; small = 0; beside = 0 } → (n ≡ 0 → ⊥) → Parts t b d (occOn b sender c d)
-  unfolding occFrom whyFrom occLeft besideOf kept answered
+  unfolding due whyFrom settled occLeft besideOf kept
   refused-in bytes t p z =
       parts t b d _ ((λ i. record { told = p i; image = stands b long h read bytes .image i; reply = d })
-      ∙ (λ i. occLeft (if-ne (kept n (sessionIn h b) d) (occRead (sessionIn h b) sender c d) z refl i) (if-ne Nothing (whyRead (sessionIn h b) sender c) z refl i))
+      ∙ (λ i. occLeft (settled s₀ d (if-ne (refuses n) (occRead (s₀ .held) (s₀ .worked) (s₀ .next) sender c d) z refl i)) (if-ne Nothing (whyRead s₀ sender c) z refl i))
       ∙ by-refusal)
 
-  pub heard-in : n ≡ 0 → (t : Told) (y z : List ℕ) → Parts t y z (occLeft (occRead (sessionIn h b) sender c d) (whyRead (sessionIn h b) sender c))
-      → Parts t y z (occOn b sender c d)
-  unfolding occFrom whyFrom
+  pub heard-in : n ≡ 0 → (t : Told) (y z : List ℕ) → Parts t y z (occHeard s₀ sender c d) → Parts t y z (occOn b sender c d)
+  unfolding occHeard due whyFrom
   heard-in none t y z q =
       parts t y z _ ((λ i. record { told = q .0 i; image = q .1 .0 i; reply = q .1 .1 i })
-      ∙ (λ i. occLeft (else-ne (kept n (sessionIn h b) d) (occRead (sessionIn h b) sender c d) none refl i) (else-ne Nothing (whyRead (sessionIn h b) sender c) none refl i))
+      ∙ (λ i. occLeft (settled s₀ d (else-ne (refuses n) (occRead (s₀ .held) (s₀ .worked) (s₀ .next) sender c d) none refl i)) (else-ne Nothing (whyRead s₀ sender c) none refl i))
       ∙ by-refusal)
 
 -- bytes that are no image
 pub no-image : (b : List ℕ) → (length b ≡ imageLength → ⊥) → (sender : ℕ) (c d : List ℕ) (t : Told) → t ≡ record { answer = 1; small = 0; beside = 0 } → Parts t b d (occOn b sender c d)
 unfolding occOn
-no-image b z sender c d t p = parts t b d _ (if-ne _ _ z (λ i. record { told = p i; image = b; reply = d }))
+no-image b z sender c d t p = inplace.no-image (λ (s : Session). occLeft (occCall s sender c d) (occWhy s sender c d)) d b z t p
 
 -- ---- what a command asks for
 

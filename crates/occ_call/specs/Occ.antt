@@ -7,7 +7,6 @@ use lib.ListN.{length, getD}
 use lib.Dec.{ltb, eqb}
 use Rattle.wire.specs.Conditions.{_and_}
 use Rattle.change.specs.declared.Tables.{Tables}
-use Rattle.change.specs.declared.Edit.{Edit}
 use Rattle.packet.specs.Packet.{packetStatus, dataOf, noLogId, replied}
 use Rattle.poll.specs.Poll.{pollData}
 use Rattle.record.specs.declared.Record.{Record}
@@ -20,32 +19,12 @@ use Rattle.places.specs.Reasons.{named}
 use Rattle.places.specs.Places.{faultOf}
 use Rattle.places.specs.declared.Blame.{Blame}
 use Rattle.places.specs.declared.Blame.the-variants.{Nothing, Wrong}
-use Rattle.session.specs.Session.{Carried, wellFormed, carriedOf}
+use Rattle.session.specs.Session.{wellFormed}
+use Rattle.session.specs.Road.{Asks, tells, makes, due, Said, settled}
 use Rattle.session.specs.declared.Session.{Session}
-use Rattle.image.specs.Image.{imageOf, sessionOf}
-use Rattle.layout.specs.Layout.{imageLength}
+use Rattle.image.specs.Image.{imageOf}
 use Rattle.inplace.specs.declared.Told.{Told}
-use Rattle.inplace.specs.InPlace.{Left, noImage}
-
-pub record Outcome : Type 0 where
-  pub answer : ℕ
-  pub session : Session
-
--- answer and session, and the reply buffer as it is left
-pub record OccResult : Type 0 where
-  pub outcome : Outcome
-  pub reply : List ℕ
-
-unfoldable pub answered : ℕ → Session → Outcome
-answered n s = record { answer = n; session = s }
-
--- "Every answer but 0 returns the session unchanged": and keeps the buffer
-unfoldable pub kept : ℕ → Session → List ℕ → OccResult
-kept n s d = record { outcome = answered n s; reply = d }
-
--- answer 0: "a reply, good or error, is written"
-unfoldable pub says : Session → List ℕ → OccResult
-says s d = record { outcome = answered 0 s; reply = d }
+use Rattle.inplace.specs.InPlace.{Left, onImage}
 
 -- 1: session not well formed; 2: "OCC sender neither 0x10 (HTMGT) nor 0x20 (BMC)"; 3: reply buffer under 4,096 bytes; 4: command under 4
 unfoldable pub knownSender : ℕ → Bool
@@ -61,29 +40,22 @@ refusalOf formed sender command reply =
 unfoldable pub occRefusal : Session → ℕ → ℕ → ℕ → ℕ
 occRefusal s sender command reply = refusalOf (wellFormed s) sender command reply
 
--- 5: "an otherwise accepted change whose entry is longer than the unused journal"; else it is carried out, and "success has no data"
-unfoldable pub carriedSays : Carried → Session → ℕ → ℕ → List ℕ → OccResult
-carriedSays c s seq kind d = cond (c .full) (kept 5 s d) (says (c .session) (replied seq kind 0x00 [] d))
-
-unfoldable pub occMade : Session → Edit → ℕ → ℕ → List ℕ → OccResult
-occMade s e seq kind d = carriedSays (carriedOf s e) s seq kind d
-
 -- the reply to what is no change
 unfoldable pub toldOf : Verdict → Record → Worked → ℕ → ℕ → List ℕ → List ℕ
 toldOf (Refuse status) held worked seq kind d = replied seq kind status noLogId d
 toldOf Poll held worked seq kind d = replied seq 0x00 0x00 (pollData held worked) d
 toldOf (Make change) held worked seq kind d = d
 
--- "every error reply returns the session unchanged", and so does a poll's
-unfoldable pub verdictSays : Session → ℕ → ℕ → List ℕ → Tables → Verdict → OccResult
-verdictSays s seq kind d t (Refuse status) = says s (toldOf (Refuse status) (s .held) (s .worked) seq kind d)
-verdictSays s seq kind d t Poll = says s (toldOf Poll (s .held) (s .worked) seq kind d)
-verdictSays s seq kind d t (Make change) = occMade s (record { change = change; tables = t }) seq kind d
+-- "every error reply returns the session unchanged", and so does a poll's; "success has no data"
+unfoldable pub verdictAsks : Record → Worked → ℕ → ℕ → List ℕ → Tables → Verdict → Asks
+verdictAsks held worked seq kind d t (Refuse status) = tells 0 (toldOf (Refuse status) held worked seq kind d)
+verdictAsks held worked seq kind d t Poll = tells 0 (toldOf Poll held worked seq kind d)
+verdictAsks held worked seq kind d t (Make change) = makes (record { change = change; tables = t }) 0 (replied seq kind 0x00 [] d)
 
-unfoldable pub judgedSays : Session → ℕ → ℕ → List ℕ → Judged → OccResult
-judgedSays s seq kind d j = verdictSays s seq kind d (j .tables) (j .verdict)
+unfoldable pub judgedAsks : Record → Worked → ℕ → ℕ → List ℕ → Judged → Asks
+judgedAsks held worked seq kind d j = verdictAsks held worked seq kind d (j .tables) (j .verdict)
 
--- what a command asks for: the packet's own statuses 0x12 and 0x14 come first, then its type and data are judged
+-- how a command is judged: the packet's own statuses 0x12 and 0x14 come first, then its type and data
 unfoldable pub askedFor : ℕ → Record → Worked → ℕ → ℕ → List ℕ → Judged
 askedFor status held worked next sender c =
     cond (not (eqb status 0)) (plainly (Refuse status)) (judgeOf held worked next sender (getD c 1 0) (dataOf c))
@@ -91,15 +63,15 @@ askedFor status held worked next sender c =
 unfoldable pub askedOf : Record → Worked → ℕ → ℕ → List ℕ → Judged
 askedOf held worked next sender c = askedFor (packetStatus c) held worked next sender c
 
-unfoldable pub occRead : Session → ℕ → List ℕ → List ℕ → OccResult
-occRead s sender c d = judgedSays s (getD c 0 0) (getD c 1 0) d (askedOf (s .held) (s .worked) (s .next) sender c)
+unfoldable pub occRead : Record → Worked → ℕ → ℕ → List ℕ → List ℕ → Asks
+occRead held worked next sender c d = judgedAsks held worked (getD c 0 0) (getD c 1 0) d (askedOf held worked next sender c)
 
 -- "Numbers 1 to 4 are tested in that order, first"
-unfoldable pub occFrom : ℕ → Session → ℕ → List ℕ → List ℕ → OccResult
-occFrom n s sender c d = cond (not (eqb n 0)) (kept n s d) (occRead s sender c d)
+unfoldable pub occAsks : Session → ℕ → List ℕ → List ℕ → Asks
+occAsks s sender c d = due (occRefusal s sender (length c) (length d)) (occRead (s .held) (s .worked) (s .next) sender c d)
 
-unfoldable pub occCall : Session → ℕ → List ℕ → List ℕ → OccResult
-occCall s sender c d = occFrom (occRefusal s sender (length c) (length d)) s sender c d
+unfoldable pub occCall : Session → ℕ → List ℕ → List ℕ → Said
+occCall s sender c d = settled s d (occAsks s sender c d)
 
 -- ---- document 02, c: beside answer 0 stands the first data byte that is wrong, and why
 
@@ -126,12 +98,15 @@ besideOf n (Wrong x) = record { answer = n; small = named (x .reason) .number; b
 
 -- ---- on a session that is lent as its image's bytes
 
-unfoldable pub occLeft : OccResult → Blame → Left
-occLeft q why = record { told = besideOf (q .outcome .answer) why; image = imageOf (q .outcome .session); reply = q .reply }
+unfoldable pub occLeft : Said → Blame → Left
+occLeft q why = record { told = besideOf (q .answer) why; image = imageOf (q .session); reply = q .reply }
+
+-- a command that is due an answer
+unfoldable pub occHeard : Session → ℕ → List ℕ → List ℕ → Left
+occHeard s sender c d = occLeft (settled s d (occRead (s .held) (s .worked) (s .next) sender c d)) (whyRead s sender c)
 
 unfoldable pub occOn : List ℕ → ℕ → List ℕ → List ℕ → Left
-occOn b sender c d =
-    cond (not (eqb (length b) imageLength)) (noImage b d) (occLeft (occCall (sessionOf b) sender c d) (occWhy (sessionOf b) sender c d))
+occOn b sender c d = onImage b d (λ (s : Session). occLeft (occCall s sender c d) (occWhy s sender c d))
 
 -- what the contract allows: what is told, and the lent bytes and the reply buffer as they are left
 abbrev pub OccAllows : List ℕ → ℕ → List ℕ → List ℕ → Told → List ℕ → List ℕ → Type 0

@@ -1,2 +1,2 @@
-pub mod Came
+pub mod Speaks
 pub mod Why

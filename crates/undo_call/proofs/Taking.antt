@@ -32,34 +32,36 @@ use Rattle.journal.specs.declared.Way.{Way}
 use Rattle.journal.specs.declared.Way.the-variants.{Before, After}
 use Rattle.journal.specs.declared.Found.the-variants.{Good, Bad}
 use Rattle.journal.specs.declared.Got.{Got}
-use Rattle.session.specs.Session.{wellFormed, withHeld}
+use Rattle.session.specs.Session.{wellFormed, renewed}
+use Rattle.session.specs.Road.{Asks, refuses, moves, storeOf, usedOf, lessened, grown, grownTo, sessionMoved, kept, done, settled}
 use Rattle.session.specs.laws.Session.{formed}
 use Rattle.session.specs.declared.Session.{Session}
 use Rattle.links.specs.laws.Links.{kind-of-back}
 use Rattle.image.specs.declared.Head.{Head}
-use Rattle.image.specs.Image.{imageOf, partAt, headIn, storeAt, storeIn, withStore, journalIn, redoIn, sessionIn, sessionOf}
-use Rattle.layout.specs.Layout.{imageLength}
+use Rattle.image.specs.Image.{headRenewed, imageOf, partAt, headIn, storeAt, storeIn, withStore, journalIn, redoIn, sessionIn, sessionOf}
+use Rattle.layout.specs.Layout.{journalAt, redoAt, imageLength}
 use Rattle.image.specs.laws.Stores.{store-low, store-long, store-back, store-above, store-below}
 use Rattle.image.proofs.Standing.{length-store}
 use Rattle.inplace.specs.declared.Told.{Told}
-use Rattle.inplace.specs.InPlace.{Left, HeadStands, noImage}
-use Rattle.inplace.specs.laws.InPlace.{as-read, stands}
-use Rattle.undo_call.specs.Undo.{storeOf, usedOf, noneLeft, lessened, grown, grownTo, headMoved, sessionMoved, Moved, notMoved, moved, movedPut, movedWith, movedFound, movedGot, movedAt, movedRead, movedNewest, moveCall, movedLeft, moveOn}
+use Rattle.inplace.specs.InPlace.{Left, HeadStands}
+use Rattle.inplace.specs.laws.InPlace.{stands, on-read}
+use Rattle.inplace.specs.laws.InPlace as inplace
+use Rattle.undo_call.specs.Undo.{putAsks, editAsks, foundAsks, gotAsks, entryAsks, readAsks, noneLeft, newestAsks, moveAsks, moveCall, headMoved, movedLeft, movedBy, moveOn}
 
-read-unknown : (w : Way) (s : Session) (at : ℕ) → notMoved 1 s ≡ movedRead w s (Unknown at)
-unfolding movedRead
+read-unknown : (w : Way) (s : Session) (at : ℕ) → refuses 1 ≡ readAsks w s (Unknown at)
+unfolding readAsks
 read-unknown w s at = refl
 
-read-cut : (w : Way) (s : Session) (at : ℕ) → notMoved 1 s ≡ movedRead w s (Cut at)
-unfolding movedRead
+read-cut : (w : Way) (s : Session) (at : ℕ) → refuses 1 ≡ readAsks w s (Cut at)
+unfolding readAsks
 read-cut w s at = refl
 
-abbrev Tells : Told → List ℕ → Moved → Type 0
-Tells t y u = (t ≡ movedLeft u .told) × (y ≡ movedLeft u .image)
+abbrev Tells : Session → Told → List ℕ → Asks → Type 0
+Tells s t y a = (t ≡ movedBy s a .told) × (y ≡ movedBy s a .image)
 
-tells : (u v : Moved) (t : Told) (y : List ℕ) → t ≡ record { answer = u .answer; small = 0; beside = u .kind } → y ≡ imageOf (u .session) → u ≡ v → Tells t y v
-unfolding movedLeft
-tells u v t y p q e = (p ∙ ap (λ (x : Moved). movedLeft x .told) e, q ∙ ap (λ (x : Moved). movedLeft x .image) e)
+-- the same of what is the same
+tells-same : (s : Session) (t : Told) (y : List ℕ) {a c : Asks} → a ≡ c → Tells s t y a → Tells s t y c
+tells-same s t y e q = (q .0 ∙ ap (λ (x : Asks). movedBy s x .told) e, q .1 ∙ ap (λ (x : Asks). movedBy s x .image) e)
 
 -- ---- the two stores
 
@@ -184,11 +186,11 @@ module _ (w : Way) (h : Head) (b : List ℕ) (at : ℕ) (e : Edit) (after : Reco
 
     pub session-moved : (d y : List ℕ) (head : Head) → storeIn w d ≡ cutFrom at from (storeIn w b) → storeIn (other w) d ≡ pasted to (entryBytes back) (storeIn (other w) b)
         → head ≡ headMoved h w after at (to + n) → y ≡ imageOf (sessionIn head d) → y ≡ imageOf (sessionMoved w before at e after)
-    unfolding sessionIn headMoved sessionMoved withHeld
+    unfolding sessionIn headMoved headRenewed sessionMoved renewed
     session-moved d y head one two hp yp =
         let js = stores-are w d (lessened w before at) (grown w before e) (one ∙ less-is) (two ∙ more-is) in
         yp ∙ ap (λ (k : Head). imageOf (sessionIn k d)) hp
-        ∙ (λ i. imageOf (record { held = after; worked = workedOf after; next = h .next; used = byWay w at (end-is i); ahead = byWay w (end-is i) at; journal = js .0 i; redo = js .1 i }))
+        ∙ (λ i. imageOf (renewed before after (h .next) (js .0 i) (byWay w at (end-is i)) (js .1 i) (byWay w (end-is i) at)))
 
 -- h is the head that stands in the lent bytes b
 module _ (w : Way) (h : Head) (b : List ℕ) (here : HeadStands h b) where
@@ -196,33 +198,33 @@ module _ (w : Way) (h : Head) (b : List ℕ) (here : HeadStands h b) where
   s = sessionIn h b
 
   -- refused by the number n
-  by-number : (n : ℕ) (t : Told) (v : Moved) → t ≡ record { answer = n; small = 0; beside = 0 } → notMoved n s ≡ v → Tells t b v
-  unfolding notMoved
-  by-number n t v p e = tells (notMoved n s) v t b p (here .image) e
+  by-number : (n : ℕ) (t : Told) {a : Asks} → t ≡ record { answer = n; small = 0; beside = 0 } → refuses n ≡ a → Tells s t b a
+  unfolding movedBy movedLeft settled kept
+  by-number n t p e = tells-same s t b e (p, here .image)
 
   -- ---- a change put into the record, or refused
 
   module _ (at : ℕ) (e : Edit) (p : Changed) (is : p ≡ putOf (h .held) e) where
-    by-put : (x : Moved) → x ≡ movedPut w s at e p → x ≡ movedWith w s at e
-    unfolding movedWith sessionIn
-    by-put x q = q ∙ ap (movedPut w s at e) is
+    by-put : (x : Asks) → x ≡ putAsks w (h .next) at e p → x ≡ editAsks w s at e
+    unfolding editAsks sessionIn
+    by-put x q = q ∙ ap (putAsks w (h .next) at e) is
 
-    pub put-refused : (t : Told) → t ≡ record { answer = 7; small = 0; beside = 0 } → not (p .ok) ≡ true → Tells t b (movedWith w s at e)
-    unfolding movedPut
-    put-refused t q failed = by-number 7 t _ q (by-put _ (if-b _ _ failed refl))
+    pub put-refused : (t : Told) → t ≡ record { answer = 7; small = 0; beside = 0 } → not (p .ok) ≡ true → Tells s t b (editAsks w s at e)
+    unfolding putAsks
+    put-refused t q failed = by-number 7 t q (by-put _ (if-b _ _ failed refl))
 
     module _ (fits : not (p .ok) ≡ false) (g : Bool) (judged : g ≡ recordOk (p .after) (h .next)) where
-      pub put-ill : (t : Told) → t ≡ record { answer = 7; small = 0; beside = 0 } → not g ≡ true → Tells t b (movedWith w s at e)
-      unfolding movedPut sessionIn
-      put-ill t q ill = by-number 7 t _ q (by-put _ (else-b _ _ fits (if-b _ _ (sym (ap not judged) ∙ ill) refl)))
+      pub put-ill : (t : Told) → t ≡ record { answer = 7; small = 0; beside = 0 } → not g ≡ true → Tells s t b (editAsks w s at e)
+      unfolding putAsks
+      put-ill t q ill = by-number 7 t q (by-put _ (else-b _ _ fits (if-b _ _ (sym (ap not judged) ∙ ill) refl)))
 
       -- y are the lent bytes after it
       pub put-done : (k : ℕ) (y : List ℕ) (t : Told) → not g ≡ false → k ≡ kindOf (e .change) → t ≡ record { answer = 0; small = 0; beside = k }
-          → y ≡ imageOf (sessionMoved w s at e (p .after)) → Tells t y (movedWith w s at e)
-      unfolding movedPut moved sessionIn
+          → y ≡ imageOf (sessionMoved w s at e (p .after)) → Tells s t y (editAsks w s at e)
+      unfolding putAsks movedBy movedLeft settled done sessionIn
       put-done k y t ok kp tp yp =
-          tells (moved w s at e p) _ t y (tp ∙ (λ i. record { answer = 0; small = 0; beside = kp i })) yp
-          (by-put _ (else-b _ _ fits (else-b _ _ (sym (ap not judged) ∙ ok) refl)))
+          tells-same s t y (by-put (moves w at e) (else-b _ _ fits (else-b _ _ (sym (ap not judged) ∙ ok) refl)))
+          (tp ∙ (λ i. record { answer = 0; small = 0; beside = kp i }), yp ∙ ap (λ (x : Changed). imageOf (sessionMoved w s at e (x .after))) is)
 
   -- ---- the entry at a place of its store
 
@@ -241,17 +243,16 @@ module _ (w : Way) (h : Head) (b : List ℕ) (here : HeadStands h b) where
       got-is : g ≡ gotOf w (take (usedOf w s - at) (drop at (storeOf w s)))
       got-is = is ∙ ap (gotOf w) newest-part
 
-      pub entry-bad : (t : Told) (r : Reading) (count : ℕ) → t ≡ record { answer = 1; small = 0; beside = 0 } → g .found ≡ Bad → r ≡ Whole count at → Tells t b (movedRead w s r)
-      unfolding movedRead movedAt movedGot movedFound
+      pub entry-bad : (t : Told) (r : Reading) (count : ℕ) → t ≡ record { answer = 1; small = 0; beside = 0 } → g .found ≡ Bad → r ≡ Whole count at → Tells s t b (readAsks w s r)
+      unfolding readAsks entryAsks gotAsks foundAsks
       entry-bad t r count p bad whole =
-          by-number 1 t _ p (sym (ap (movedFound w s at (g .tables)) bad) ∙ ap (movedGot w s at) got-is ∙ sym (ap (movedRead w s) whole))
+          by-number 1 t p (sym (ap (foundAsks w s at (g .tables)) bad) ∙ ap (gotAsks w s at) got-is ∙ sym (ap (readAsks w s) whole))
 
       pub entry-good : (t : Told) (y : List ℕ) (r : Reading) (count : ℕ) (ch : Change) → g .found ≡ Good ch → r ≡ Whole count at
-          → Tells t y (movedWith w s at (record { change = ch; tables = g .tables })) → Tells t y (movedRead w s r)
-      unfolding movedRead movedAt movedGot movedFound
+          → Tells s t y (editAsks w s at (record { change = ch; tables = g .tables })) → Tells s t y (readAsks w s r)
+      unfolding readAsks entryAsks gotAsks foundAsks
       entry-good t y r count ch good whole q =
-          let same = sym (ap (movedFound w s at (g .tables)) good) ∙ ap (movedGot w s at) got-is ∙ sym (ap (movedRead w s) whole) in
-          (q .0 ∙ ap (λ (u : Moved). movedLeft u .told) same, q .1 ∙ ap (λ (u : Moved). movedLeft u .image) same)
+          tells-same s t y (sym (ap (foundAsks w s at (g .tables)) good) ∙ ap (gotAsks w s at) got-is ∙ sym (ap (readAsks w s) whole)) q
 
       -- it ends where the used bytes do
       pub entry-ends : (ch : Change) → g .found ≡ Good ch → at + entryLen (record { change = ch; tables = g .tables }) ≡ used
@@ -274,9 +275,9 @@ module _ (w : Way) (h : Head) (b : List ℕ) (here : HeadStands h b) where
     pub count-fits : (n : ℕ) → n ≡ used → n ≤ 2048
     count-fits n counted = omega (arith, counted, used-fits)
 
-    pub none-held : (n : ℕ) → n ≡ used → (k : ℕ) (t : Told) → k ≡ noneLeft w → t ≡ record { answer = k; small = 0; beside = 0 } → n ≡ 0 → Tells t b (movedNewest w s)
-    unfolding movedNewest
-    none-held n counted k t kp p z = by-number (noneLeft w) t _ (p ∙ (λ i. record { answer = kp i; small = 0; beside = 0 })) (if-eq _ _ (used-is w h b ∙ sym counted ∙ z) refl)
+    pub none-held : (n : ℕ) → n ≡ used → (k : ℕ) (t : Told) → k ≡ noneLeft w → t ≡ record { answer = k; small = 0; beside = 0 } → n ≡ 0 → Tells s t b (newestAsks w s)
+    unfolding newestAsks
+    none-held n counted k t kp p z = by-number (noneLeft w) t (p ∙ (λ i. record { answer = kp i; small = 0; beside = 0 })) (if-eq _ _ (used-is w h b ∙ sym counted ∙ z) refl)
 
     module _ (m : ℕ) (there : m ≡ storeAt w) (n : ℕ) (counted : n ≡ used) where
       used-part : take (m + n - m) (drop m b) ≡ take (usedOf w s) (storeOf w s)
@@ -286,21 +287,21 @@ module _ (w : Way) (h : Head) (b : List ℕ) (here : HeadStands h b) where
           ∙ (λ i. take ((counted ∙ sym (used-is w h b)) i) (partAt 2048 (there i) b)) ∙ ap (take (usedOf w s)) (sym (store-is w h b))
 
       module _ (some : n ≡ 0 → ⊥) (r : Reading) (is : r ≡ readingOf (scan (take (m + n - m) (drop m b)))) where
-        reading-is : movedRead w s r ≡ movedNewest w s
-        unfolding movedNewest
+        reading-is : readAsks w s r ≡ newestAsks w s
+        unfolding newestAsks
         reading-is =
-            else-eq (notMoved (noneLeft w) s) _ (λ z. some (counted ∙ sym (used-is w h b) ∙ z)) (ap (movedRead w s) (is ∙ ap (λ (l : List ℕ). readingOf (scan l)) used-part))
+            else-eq (refuses (noneLeft w)) _ (λ z. some (counted ∙ sym (used-is w h b) ∙ z)) (ap (readAsks w s) (is ∙ ap (λ (l : List ℕ). readingOf (scan l)) used-part))
 
-        pub not-whole : (t : Told) → t ≡ record { answer = 1; small = 0; beside = 0 } → (tagOf the-type r ≡ 0 → ⊥) → Tells t b (movedNewest w s)
-        not-whole t p k = by-number 1 t _ p (no-entries r k ∙ reading-is)
+        pub not-whole : (t : Told) → t ≡ record { answer = 1; small = 0; beside = 0 } → (tagOf the-type r ≡ 0 → ⊥) → Tells s t b (newestAsks w s)
+        not-whole t p k = by-number 1 t p (no-entries r k ∙ reading-is)
           where
-            no-entries : (x : Reading) → (tagOf the-type x ≡ 0 → ⊥) → notMoved 1 s ≡ movedRead w s x
+            no-entries : (x : Reading) → (tagOf the-type x ≡ 0 → ⊥) → refuses 1 ≡ readAsks w s x
             no-entries (Whole count newest) k = absurd (k refl)
             no-entries (Unknown at) k = read-unknown w s at
             no-entries (Cut at) k = read-cut w s at
 
-        pub by-reading : (t : Told) (y : List ℕ) → Tells t y (movedRead w s r) → Tells t y (movedNewest w s)
-        by-reading t y q = (q .0 ∙ ap (λ (u : Moved). movedLeft u .told) reading-is, q .1 ∙ ap (λ (u : Moved). movedLeft u .image) reading-is)
+        pub by-reading : (t : Told) (y : List ℕ) → Tells s t y (readAsks w s r) → Tells s t y (newestAsks w s)
+        by-reading t y q = tells-same s t y reading-is q
 
         pub newest-fits : readingFits (length (take (m + n - m) (drop m b))) r → (count newest : ℕ) → r ≡ Whole count newest → newest ≤ n
         newest-fits f count newest e =
@@ -312,27 +313,23 @@ module _ (w : Way) (h : Head) (b : List ℕ) (here : HeadStands h b) where
 
 pub no-image : (w : Way) (b : List ℕ) → (length b ≡ imageLength → ⊥) → (t : Told) → t ≡ record { answer = 1; small = 0; beside = 0 } → (t ≡ moveOn w b .told) × (b ≡ moveOn w b .image)
 unfolding moveOn
-no-image w b z t p =
-    let e : _≡_ {A = Left} (noImage b []) (moveOn w b) = if-ne (noImage b []) (movedLeft (moveCall w (sessionOf b))) z refl in
-    (p ∙ ap (λ (q : Left). q .told) e, ap (λ (q : Left). q .image) e)
+no-image w b z t p = let q = inplace.no-image (λ (s : Session). movedLeft (moveCall w s)) [] b z t p in (q .0, q .1 .0)
 
 module _ (w : Way) (b : List ℕ) (long : length b ≡ imageLength) (h : Head) (read : h ≡ headIn b) (g : Bool) (formed : g ≡ wellFormed (sessionIn h b)) where
-  on-image : (u : Moved) → u ≡ moveCall w (sessionIn h b) → movedLeft u ≡ moveOn w b
-  unfolding moveOn
-  on-image u e = ap movedLeft (e ∙ ap (moveCall w) (as-read b long h read)) ∙ else-ne _ _ long refl
+  on-bytes : (t : Told) (y : List ℕ) {a : Asks} → a ≡ moveAsks w (sessionIn h b) → Tells (sessionIn h b) t y a → (t ≡ moveOn w b .told) × (y ≡ moveOn w b .image)
+  unfolding movedBy moveOn moveCall
+  on-bytes t y e q =
+      let p = tells-same (sessionIn h b) t y e q in
+      let r = on-read (λ (s : Session). movedLeft (moveCall w s)) [] b long h read in
+      (p .0 ∙ ap (λ (l : Left). l .told) r, p .1 ∙ ap (λ (l : Left). l .image) r)
 
   pub ill-formed : Bytes b → (t : Told) → t ≡ record { answer = 1; small = 0; beside = 0 } → not g ≡ true → (t ≡ moveOn w b .told) × (b ≡ moveOn w b .image)
-  unfolding moveCall
-  ill-formed bytes t p ill =
-      let e = on-image (notMoved 1 (sessionIn h b)) (if-b _ _ (sym (ap not formed) ∙ ill) refl) in
-      let q = by-number w h b (stands b long h read bytes) 1 t (notMoved 1 (sessionIn h b)) p refl in
-      (q .0 ∙ ap (λ (l : Left). l .told) e, q .1 ∙ ap (λ (l : Left). l .image) e)
+  unfolding moveAsks
+  ill-formed bytes t p ill = on-bytes t b (if-b _ _ (sym (ap not formed) ∙ ill) refl) (by-number w h b (stands b long h read bytes) 1 t p refl)
 
   pub well-formed-is : not g ≡ false → wellFormed (sessionIn h b) ≡ true
   well-formed-is ok = sym formed ∙ not-false g ok
 
-  pub newest-taken : (t : Told) (y : List ℕ) → not g ≡ false → Tells t y (movedNewest w (sessionIn h b)) → (t ≡ moveOn w b .told) × (y ≡ moveOn w b .image)
-  unfolding moveCall
-  newest-taken t y ok q =
-      let e = on-image (movedNewest w (sessionIn h b)) (else-b _ _ (sym (ap not formed) ∙ ok) refl) in
-      (q .0 ∙ ap (λ (l : Left). l .told) e, q .1 ∙ ap (λ (l : Left). l .image) e)
+  pub newest-taken : (t : Told) (y : List ℕ) → not g ≡ false → Tells (sessionIn h b) t y (newestAsks w (sessionIn h b)) → (t ≡ moveOn w b .told) × (y ≡ moveOn w b .image)
+  unfolding moveAsks
+  newest-taken t y ok q = on-bytes t y (else-b _ _ (sym (ap not formed) ∙ ok) refl) q

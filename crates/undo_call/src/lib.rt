@@ -12,7 +12,8 @@ ghost use Rattle.session.specs.Session.{wellFormed};
 ghost use Rattle.image.specs.Image.{imageOf, storeIn, sessionIn};
 ghost use Rattle.layout.specs.Layout.{imageLength};
 ghost use Rattle.inplace.specs.InPlace.{HeadStands};
-ghost use Rattle.undo_call.specs.Undo.{noneLeft, headMoved, sessionMoved, movedWith, movedNewest, movedLeft, MoveAllows, UndoAllows, RedoAllows};
+ghost use Rattle.session.specs.Road.{sessionMoved};
+ghost use Rattle.undo_call.specs.Undo.{noneLeft, headMoved, editAsks, newestAsks, movedBy, MoveAllows, UndoAllows, RedoAllows};
 use change::Edit;
 use entries::Reading;
 use image::Head;
@@ -70,16 +71,9 @@ fn head_moved(h: Head, way: Way, after: Record, at: usize, end: usize) -> Head
     requires { ⌜ (at ≤ 2048) × (end ≤ 2048) ⌝ }
     ensures { λ x. ⌜ x ≡ headMoved h way after at end ⌝ }
 {
-    let worked = record::work_out(after);
     let used = by_way(way, at, end);
     let ahead = by_way(way, end, at);
-    Head {
-        held: after,
-        worked: worked,
-        next: h.next,
-        used: used as u16,
-        ahead: ahead as u16,
-    }
+    image::renewed(h, after, h.next, used as u16, ahead as u16)
 }
 
 fn carry_on(lent: &mut [u8], h: Head, way: Way, at: usize, e: Edit, after: Record)
@@ -99,8 +93,8 @@ fn carry_on(lent: &mut [u8], h: Head, way: Way, at: usize, e: Edit, after: Recor
 // It is put into the record, or refused.
 fn take(lent: &mut [u8], h: Head, way: Way, at: usize, e: Edit) -> Told
     requires { ⌜ HeadStands h (now lent) × (at + entryLen e ≡ byWay way (h .used) (h .ahead)) × (h .used + h .ahead ≤ 2048) ⌝ }
-    ensures { λ x. ⌜ x ≡ movedLeft (movedWith way (sessionIn h (now (lent .entry))) at e) .told ⌝ }
-    ensures { λ _. ⌜ now (lent .exit) ≡ movedLeft (movedWith way (sessionIn h (now (lent .entry))) at e) .image ⌝ }
+    ensures { λ x. ⌜ x ≡ movedBy (sessionIn h (now (lent .entry))) (editAsks way (sessionIn h (now (lent .entry))) at e) .told ⌝ }
+    ensures { λ _. ⌜ now (lent .exit) ≡ movedBy (sessionIn h (now (lent .entry))) (editAsks way (sessionIn h (now (lent .entry))) at e) .image ⌝ }
 {
     let change = e.change;
     let put = change::put(h.held, e);
@@ -118,8 +112,8 @@ fn take(lent: &mut [u8], h: Head, way: Way, at: usize, e: Edit) -> Told
 // A well-formed session reads as entries with good values; what the two `else` answer can't come.
 fn take_newest(lent: &mut [u8], h: Head, way: Way) -> Told
     requires { ⌜ HeadStands h (now lent) × (wellFormed (sessionIn h (now lent)) ≡ true) ⌝ }
-    ensures { λ x. ⌜ x ≡ movedLeft (movedNewest way (sessionIn h (now (lent .entry)))) .told ⌝ }
-    ensures { λ _. ⌜ now (lent .exit) ≡ movedLeft (movedNewest way (sessionIn h (now (lent .entry)))) .image ⌝ }
+    ensures { λ x. ⌜ x ≡ movedBy (sessionIn h (now (lent .entry))) (newestAsks way (sessionIn h (now (lent .entry)))) .told ⌝ }
+    ensures { λ _. ⌜ now (lent .exit) ≡ movedBy (sessionIn h (now (lent .entry))) (newestAsks way (sessionIn h (now (lent .entry)))) .image ⌝ }
 {
     let used = by_way(way, h.used as usize, h.ahead as usize);
     if used == 0 {

@@ -1,4 +1,4 @@
-use Rattle.occ_call.proofs.Answering.{tells}
+use Rattle.occ_call.proofs.Answering.{replies}
 use Rattle.occ_call.specs.Occ.{toldOf}
 use mathlib.Core.Path.{refl}
 use borrow.Author.Needs.{needs}
@@ -25,18 +25,18 @@ same-length c = search needs
 
 returns : tie.Need-returns
 unfolding toldOf
-returns c = tells _ _ _ _ _ (c .before .before .before .before .before .verdict .given .1) (c .before .before .error-reply .ensures)
+returns c = replies _ _ _ _ _ (c .before .before .before .before .before .verdict .given .1) (c .before .before .error-reply .ensures)
 
 same-length-2 : tie.Need-same-length-2
 same-length-2 c = search needs
 
 returns-2 : tie.Need-returns-2
 unfolding toldOf
-returns-2 c = tells _ _ _ _ _ (c .before .before .before .before .enum-told .given .1) (c .before .before .poll-reply .ensures)
+returns-2 c = replies _ _ _ _ _ (c .before .before .before .before .enum-told .given .1) (c .before .before .poll-reply .ensures)
 
 returns-3 : tie.Need-returns-3
 unfolding toldOf
-returns-3 c = tells _ _ _ _ _ (c .enum-told2 .given .1) refl
+returns-3 c = replies _ _ _ _ _ (c .enum-told2 .given .1) refl
 
 pub tell-spec : {M : Type 1} → statement M
 tell-spec =

@@ -1,4 +1,4 @@
-use Rattle.sbe_call.proofs.Answering.{tells}
+use Rattle.sbe_call.proofs.Answering.{replies}
 use Rattle.sbe_call.specs.Sbe.{toldOf}
 use mathlib.Core.Path.{refl}
 use borrow.Author.Needs.{needs}
@@ -19,11 +19,11 @@ same-length c = search needs
 
 returns : tie.Need-returns
 unfolding toldOf
-returns c = tells _ _ (c .before .before .before .before .before .ruling .given .1) (c .before .before .respond .ensures)
+returns c = replies _ _ (c .before .before .before .before .before .ruling .given .1) (c .before .before .respond .ensures)
 
 returns-2 : tie.Need-returns-2
 unfolding toldOf
-returns-2 c = tells _ _ (c .enum-told .given .1) refl
+returns-2 c = replies _ _ (c .enum-told .given .1) refl
 
 pub tell-spec : {M : Type 1} → statement M
 tell-spec =

@@ -26,7 +26,7 @@ use Rattle.session.specs.Session.{wellFormed, carriedOf}
 use Rattle.session.specs.Road.{Asks, refuses, tells, makes, due, Said, kept, done, settled}
 use Rattle.session.specs.laws.Road.{made-full, made-done}
 use Rattle.session.specs.declared.Session.{Session}
-use Rattle.occ_call.specs.Occ.{knownSender, refusalOf, occRefusal, toldOf, verdictAsks, judgedAsks, askedFor, askedOf, occRead, occAsks, occCall, faultFor, whyRead, whyFrom, occWhy, besideOf, occLeft, occHeard, occOn}
+use Rattle.occ_call.specs.Occ.{knownSender, refusalOf, occRefusal, toldOf, verdictAsks, judgedAsks, askedFor, askedOf, occRead, occAsks, occCall, faultFor, whyRead, whyFrom, occWhy, besideOf, occLeft, occReadLeft, occOn}
 use Rattle.wire.specs.Wire.{Bytes}
 use Rattle.image.specs.declared.Head.{Head}
 use Rattle.image.specs.Image.{headIn, sessionIn}
@@ -76,7 +76,7 @@ module _ (h : Head) (b : List ℕ) (here : HeadStands h b) (sender : ℕ) (c d :
   s = sessionIn h b
 
   abbrev Hears : Told → List ℕ → List ℕ → Type 0
-  Hears t y z = Parts t y z (occHeard s sender c d)
+  Hears t y z = Parts t y z (occReadLeft s sender c d)
 
   abbrev faultBeside : Verdict → Blame
   faultBeside v = faultFor v (h .held) (getD c 1 0) (dataOf c)
@@ -85,8 +85,8 @@ module _ (h : Head) (b : List ℕ) (here : HeadStands h b) (sender : ℕ) (c d :
     abbrev asks : Asks
     asks = verdictAsks (h .held) (h .worked) (getD c 0 0) (getD c 1 0) d (j .tables) (j .verdict)
 
-    by-verdict : (q : Said) (f : Blame) → q ≡ settled s d asks → f ≡ faultBeside (j .verdict) → occLeft q f ≡ occHeard s sender c d
-    unfolding occHeard occRead whyRead judgedAsks sessionIn
+    by-verdict : (q : Said) (f : Blame) → q ≡ settled s d asks → f ≡ faultBeside (j .verdict) → occLeft q f ≡ occReadLeft s sender c d
+    unfolding occReadLeft occRead whyRead judgedAsks sessionIn
     by-verdict q f e g = λ i.
         occLeft ((e ∙ ap (λ (k : Judged). settled s d (judgedAsks (h .held) (h .worked) (getD c 0 0) (getD c 1 0) d k)) asked) i)
         ((g ∙ ap (λ (k : Judged). faultBeside (k .verdict)) asked) i)
@@ -104,7 +104,7 @@ module _ (h : Head) (b : List ℕ) (here : HeadStands h b) (sender : ℕ) (c d :
       abbrev edit : Edit
       edit = record { change = ch; tables = j .tables }
 
-      by-made : (q : Said) → q ≡ settled s d (makes edit 0 (replied (getD c 0 0) (getD c 1 0) 0x00 [] d)) → occLeft q Nothing ≡ occHeard s sender c d
+      by-made : (q : Said) → q ≡ settled s d (makes edit 0 (replied (getD c 0 0) (getD c 1 0) 0x00 [] d)) → occLeft q Nothing ≡ occReadLeft s sender c d
       unfolding verdictAsks faultFor
       by-made q e =
           by-verdict q Nothing (e ∙ sym (ap (λ (u : Verdict). settled s d (verdictAsks (h .held) (h .worked) (getD c 0 0) (getD c 1 0) d (j .tables) u)) v)) (sym (ap faultBeside v))
@@ -148,8 +148,8 @@ module _ (b : List ℕ) (long : length b ≡ imageLength) (h : Head) (read : h �
       ∙ (λ i. occLeft (settled s₀ d (if-ne (refuses n) (occRead (s₀ .held) (s₀ .worked) (s₀ .next) sender c d) z refl i)) (if-ne Nothing (whyRead s₀ sender c) z refl i))
       ∙ by-refusal)
 
-  pub heard-in : n ≡ 0 → (t : Told) (y z : List ℕ) → Parts t y z (occHeard s₀ sender c d) → Parts t y z (occOn b sender c d)
-  unfolding occHeard due whyFrom
+  pub heard-in : n ≡ 0 → (t : Told) (y z : List ℕ) → Parts t y z (occReadLeft s₀ sender c d) → Parts t y z (occOn b sender c d)
+  unfolding occReadLeft due whyFrom
   heard-in none t y z q =
       parts t y z _ ((λ i. record { told = q .0 i; image = q .1 .0 i; reply = q .1 .1 i })
       ∙ (λ i. occLeft (settled s₀ d (else-ne (refuses n) (occRead (s₀ .held) (s₀ .worked) (s₀ .next) sender c d) none refl i)) (else-ne Nothing (whyRead s₀ sender c) none refl i))

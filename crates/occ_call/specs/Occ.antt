@@ -102,8 +102,8 @@ unfoldable pub occLeft : Said → Blame → Left
 occLeft q why = record { told = besideOf (q .answer) why; image = imageOf (q .session); reply = q .reply }
 
 -- a command that is due an answer
-unfoldable pub occHeard : Session → ℕ → List ℕ → List ℕ → Left
-occHeard s sender c d = occLeft (settled s d (occRead (s .held) (s .worked) (s .next) sender c d)) (whyRead s sender c)
+unfoldable pub occReadLeft : Session → ℕ → List ℕ → List ℕ → Left
+occReadLeft s sender c d = occLeft (settled s d (occRead (s .held) (s .worked) (s .next) sender c d)) (whyRead s sender c)
 
 unfoldable pub occOn : List ℕ → ℕ → List ℕ → List ℕ → Left
 occOn b sender c d = onImage b d (λ (s : Session). occLeft (occCall s sender c d) (occWhy s sender c d))

@@ -3,7 +3,7 @@ ghost use mathlib.Core.Bool.{true};
 ghost use mathlib.Core.Path.{_≡_};
 ghost use Prim.Native.Nat.{_≤_};
 ghost use lib.ListN.{length, getD};
-ghost use Rattle.occ_call.specs.Occ.{knownSender, refusalOf, askedOf, toldOf, faultFor, besideOf, occHeard, OccAllows};
+ghost use Rattle.occ_call.specs.Occ.{knownSender, refusalOf, askedOf, toldOf, faultFor, besideOf, occReadLeft, OccAllows};
 ghost use Rattle.packet.specs.Packet.{dataOf};
 ghost use Rattle.session.specs.Session.{wellFormed};
 ghost use Rattle.image.specs.Image.{sessionIn};
@@ -104,9 +104,9 @@ fn answer_why(found: Blame) -> Told
 // A command that is due an answer: judged, carried out if it asks for a change, and replied to.
 fn hear(lent: &mut [u8], h: Head, sender: u8, command: &[u8], reply: &mut [u8]) -> Told
     requires { ⌜ HeadStands h (now lent) × (wellFormed (sessionIn h (now lent)) ≡ true) × (4 ≤ length (now command)) ⌝ }
-    ensures { λ x. ⌜ x ≡ occHeard (sessionIn h (now (lent .entry))) sender (now (command .entry)) (now (reply .entry)) .told ⌝ }
-    ensures { λ _. ⌜ now (lent .exit) ≡ occHeard (sessionIn h (now (lent .entry))) sender (now (command .entry)) (now (reply .entry)) .image ⌝ }
-    ensures { λ _. ⌜ now (reply .exit) ≡ occHeard (sessionIn h (now (lent .entry))) sender (now (command .entry)) (now (reply .entry)) .reply ⌝ }
+    ensures { λ x. ⌜ x ≡ occReadLeft (sessionIn h (now (lent .entry))) sender (now (command .entry)) (now (reply .entry)) .told ⌝ }
+    ensures { λ _. ⌜ now (lent .exit) ≡ occReadLeft (sessionIn h (now (lent .entry))) sender (now (command .entry)) (now (reply .entry)) .image ⌝ }
+    ensures { λ _. ⌜ now (reply .exit) ≡ occReadLeft (sessionIn h (now (lent .entry))) sender (now (command .entry)) (now (reply .entry)) .reply ⌝ }
 {
     let held = h.held;
     let worked = h.worked;

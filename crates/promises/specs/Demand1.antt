@@ -18,9 +18,7 @@ use Rattle.sbe.specs.Conditions.{Accepted}
 use Rattle.sbe.specs.Statuses.{Status}
 use Rattle.session.specs.Session.{wellFormed}
 use Rattle.session.specs.declared.Session.{Session}
-use Rattle.occ_call.specs.Occ.{OccResult, says}
-use Rattle.sbe_call.specs.Sbe.{SbeResult, rung}
-use Rattle.undo_call.specs.Undo.{usedOf}
+use Rattle.session.specs.Road.{usedOf, Said, done}
 use Rattle.promises.specs.Demand2.{atFront, entryLength, KnownSender, WellAsked, occKind, NotPoll, sbeKind, Newest, Movable}
 
 -- ---- session answers
@@ -90,8 +88,8 @@ abbrev pub errorReply : ℕ → ℕ → ℕ → List ℕ
 errorReply seq type status = errorBytes seq type status ++ toBE 2 (packetSum (errorBytes seq type status))
 
 -- answer 0 with an error reply: the session as it was, the reply at the front of the buffer, and the doorbell rung as asked
-abbrev pub occError : Session → List ℕ → List ℕ → ℕ → OccResult
-occError s c d status = says s (atFront (errorReply (getD c 0 0) (getD c 1 0) status) d)
+abbrev pub occError : Session → List ℕ → List ℕ → ℕ → Said
+occError s c d status = done s 0 0 (atFront (errorReply (getD c 0 0) (getD c 1 0) status) d)
 
-abbrev pub sbeError : Session → List ℕ → List ℕ → Status → SbeResult
-sbeError s r d status = record { outcome = rung 0 (bellOf r) s; reply = atFront (responseBytes (status .0) (status .1) r) d }
+abbrev pub sbeError : Session → List ℕ → List ℕ → Status → Said
+sbeError s r d status = done s (bellOf r) 0 (atFront (responseBytes (status .0) (status .1) r) d)

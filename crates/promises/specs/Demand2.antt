@@ -29,7 +29,7 @@ use Rattle.sbe.specs.Conditions.{Accepted}
 use Rattle.session.specs.declared.Session.{Session}
 use Rattle.occ_call.specs.Occ.{occCall}
 use Rattle.sbe_call.specs.Sbe.{sbeCall}
-use Rattle.undo_call.specs.Undo.{storeOf, usedOf}
+use Rattle.session.specs.Road.{storeOf, usedOf}
 
 -- "reply; bytes past it kept": a reply at the front of the buffer
 abbrev pub atFront : List ℕ → List ℕ → List ℕ
@@ -81,7 +81,7 @@ successReply s c = replyBytes (getD c 0 0) (getD c 1 0) 0x00 (successData s (get
 -- answer 0 with the reply of success
 unfoldable pub OccSucceeds : Session → ℕ → List ℕ → List ℕ → Type 0
 OccSucceeds s sender c d =
-    (occCall s sender c d .outcome .answer ≡ 0) and (occCall s sender c d .reply ≡ atFront (successReply s c) d)
+    (occCall s sender c d .answer ≡ 0) and (occCall s sender c d .reply ≡ atFront (successReply s c) d)
 
 -- ---- SBE
 
@@ -93,7 +93,7 @@ unfoldable pub SbeAccepted : Session → List ℕ → List ℕ → Type 0
 SbeAccepted s r d = (32 ≤ length d) and (32 ≤ length r) and Accepted r and HasRoom s (sbeKind r)
 
 unfoldable pub SbeSucceeds : Session → List ℕ → List ℕ → Type 0
-SbeSucceeds s r d = (sbeCall s r d .outcome .answer ≡ 0) and (sbeCall s r d .reply ≡ atFront (responseBytes 0x00 0x00 r) d)
+SbeSucceeds s r d = (sbeCall s r d .answer ≡ 0) and (sbeCall s r d .reply ≡ atFront (responseBytes 0x00 0x00 r) d)
 
 -- ---- undo and redo (document 02, d): one road walked both ways, Before is undo and After redo (undo_call/specs/Undo.antt)
 

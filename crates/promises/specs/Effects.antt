@@ -22,15 +22,15 @@ use Rattle.sets.specs.Conditions.{SentPairs, SentFrus}
 use Rattle.occ.specs.Commands.{sentCaps}
 use Rattle.sbe.specs.Mailbox.{flagsOf, wordAt}
 use Rattle.sbe.specs.Conditions.{Names, startAsked, stopAsked, areasAsked}
-use Rattle.session.specs.Session.{withHeld}
+use Rattle.session.specs.Session.{renewed}
+use Rattle.session.specs.Road.{Said}
 use Rattle.session.specs.declared.Session.{Session}
-use Rattle.undo_call.specs.Undo.{Moved}
 use Rattle.promises.specs.Demand2.{Newest}
 
 -- the session with this record, what is worked out of it, this next id, and one entry more after the used journal; d: "Any accepted change empties the
 -- store", the redo store
 abbrev pub becomes : Session → Record → ℕ → List ℕ → Session
-becomes s held next entry = withHeld held next (pasted (s .used) entry (s .journal)) (s .used + length entry) (replicate 2048 0) 0
+becomes s held next entry = renewed s held next (pasted (s .used) entry (s .journal)) (s .used + length entry) (replicate 2048 0) 0
 
 -- "A log is made for reason 1, and for 2 on a master"
 abbrev pub LogDue : ℕ → ℕ → Type 0
@@ -84,9 +84,9 @@ zeroedFrom at used bytes = pasted at (replicate (used - at) 0) bytes
 -- redo store; redo: the other way round
 abbrev pub movesTo : Way → Session → Record → ℕ → List ℕ → Session
 movesTo Before s held at entry =
-    withHeld held (s .next) (zeroedFrom at (s .used) (s .journal)) at (pasted (s .ahead) entry (s .redo)) (s .ahead + length entry)
+    renewed s held (s .next) (zeroedFrom at (s .used) (s .journal)) at (pasted (s .ahead) entry (s .redo)) (s .ahead + length entry)
 movesTo After s held at entry =
-    withHeld held (s .next) (pasted (s .used) entry (s .journal)) (s .used + length entry) (zeroedFrom at (s .ahead) (s .redo)) at
+    renewed s held (s .next) (pasted (s .used) entry (s .journal)) (s .used + length entry) (zeroedFrom at (s .ahead) (s .redo)) at
 
 -- what goes to the other store: the entry that takes a change back, with the values now in the record; "for kind 08 that is the log's id and reason, 0
 -- and 0 without one" (`backOf` in change/specs/Change.antt)
@@ -95,7 +95,7 @@ entryBack s e = entryFor (inverseOf (s .held) e)
 
 -- an accepted undo or redo: what the newest entry says is put into the record, the entry is zeroed, its kind reported; "An undone change moves to a redo
 -- store .. in the same kinds and lengths, but holding what was after", and a redone one to the journal, holding what was before
-pub record MoveEffect (w : Way) (s : Session) (q : Moved) : Type 0 where
+pub record MoveEffect (w : Way) (s : Session) (q : Said) : Type 0 where
   pub edit : Edit
   pub newest : Newest w s edit
   pub kind-is : q .kind ≡ newest .entry .kind
@@ -103,8 +103,8 @@ pub record MoveEffect (w : Way) (s : Session) (q : Moved) : Type 0 where
   pub same-length : length (entryBack s edit .body) ≡ length (newest .entry .body)
   pub session-is : q .session ≡ movesTo w s (putOf (s .held) edit .after) (length (written (newest .older))) (bytesOf (entryBack s edit))
 
-abbrev pub UndoEffect : Session → Moved → Type 0
+abbrev pub UndoEffect : Session → Said → Type 0
 UndoEffect s q = MoveEffect Before s q
 
-abbrev pub RedoEffect : Session → Moved → Type 0
+abbrev pub RedoEffect : Session → Said → Type 0
 RedoEffect s q = MoveEffect After s q

@@ -7,7 +7,8 @@ use Rattle.wire.specs.Wire.{toBE, packetSum}
 use Rattle.record.specs.Record.{noLog}
 use Rattle.session.specs.Session.{freshSession}
 use Rattle.session.specs.declared.Session.{Session}
-use Rattle.promises.specs.Calls.{Call, occ, sbe, undo, Said, said}
+use Rattle.promises.specs.Calls.{Call, occ, sbe, undo, said}
+use Rattle.session.specs.Road.{Said}
 
 -- calls on a fresh session, what is looked at after the last of them, and what is seen there
 pub record Row : Type 0 where

@@ -1,28 +1,19 @@
 -- Demand 3, as a statement over any calls, each session handed on unchanged: the changes made, those struck out, and what the others give.
 use Prim.Native.Nat.{ℕ, suc}
-use mathlib.Core.Bool.{cond, not}
+use mathlib.Core.Bool.{cond}
 use mathlib.Core.Path.{_≡_}
 use mathlib.Core.List.{List, [], _∷_}
-use lib.Dec.{eqb}
-use lib.ListN.{length}
 use Rattle.wire.specs.Wire.{Bytes}
 use Rattle.record.specs.Record.{workedOf}
 use Rattle.record.specs.declared.Record.{Record}
-use Rattle.change.specs.Change.{noTables, putOf}
-use Rattle.change.specs.declared.Tables.{Tables}
+use Rattle.change.specs.Change.{putOf}
 use Rattle.change.specs.declared.Edit.{Edit}
-use Rattle.occ.specs.declared.Judged.{Judged}
-use Rattle.occ.specs.declared.Verdict.{Verdict}
-use Rattle.occ.specs.declared.Verdict.the-variants.{Refuse, Poll, Make}
-use Rattle.sbe.specs.Mailbox as mailbox
-use Rattle.sbe.specs.declared.Ruling.{Ruling}
-use Rattle.sbe.specs.declared.Ruling.the-variants.{Decline, Grant}
+use Rattle.journal.specs.Ways.{byWay}
+use Rattle.session.specs.Road.{Asks, refuses, tells, makes, moves}
 use Rattle.session.specs.Session.{carriedOf}
 use Rattle.session.specs.declared.Session.{Session}
-use Rattle.occ_call.specs.Occ.{occRefusal, askedOf}
-use Rattle.sbe_call.specs.Sbe.{sbeRefusal}
 use Rattle.undo_call.specs.Undo.{undoCall, redoCall}
-use Rattle.promises.specs.Calls.{Call, occ, sbe, undo, redo, said}
+use Rattle.promises.specs.Calls.{Call, occ, sbe, undo, redo, asks, said}
 use Rattle.promises.specs.Marks.{Mark, strike, latest, unstrike, left, logsMade, undoAnswer, redoAnswer}
 
 -- ---- the change that a call makes
@@ -38,25 +29,15 @@ pub data Deed : Type 0 where
 unfoldable pub adding : Session → Edit → Deed
 adding s e = cond (carriedOf s e .full) keeps (adds e)
 
-unfoldable pub occVerdict : Session → Tables → Verdict → Deed
-occVerdict s t (Refuse status) = keeps
-occVerdict s t Poll = keeps
-occVerdict s t (Make change) = adding s (record { change = change; tables = t })
+-- by what the call asks: the accepted calls that make an entry, and the accepted undos and redos
+unfoldable pub deedBy : Session → Asks → Deed
+deedBy s (refuses n) = keeps
+deedBy s (tells bell reply) = keeps
+deedBy s (makes e bell reply) = adding s e
+deedBy s (moves w at e) = byWay w strikes unstrikes
 
-unfoldable pub occJudgement : Session → Judged → Deed
-occJudgement s j = occVerdict s (j .tables) (j .verdict)
-
-unfoldable pub sbeRuling : Session → Ruling → Deed
-sbeRuling s (Decline primary secondary) = keeps
-sbeRuling s (Grant change) = adding s (record { change = change; tables = noTables })
-
--- the accepted calls that make an entry, and the accepted undos and redos
 unfoldable pub deed : Session → Call → Deed
-deed s (occ sender c d) =
-    cond (not (eqb (occRefusal s sender (length c) (length d)) 0)) keeps (occJudgement s (askedOf (s .held) (s .worked) (s .next) sender c))
-deed s (sbe r d) = cond (not (eqb (sbeRefusal s (length r) (length d)) 0)) keeps (sbeRuling s (mailbox.requestRuling r))
-deed s undo = cond (eqb (undoCall s .answer) 0) strikes keeps
-deed s redo = cond (eqb (redoCall s .answer) 0) unstrikes keeps
+deed s c = deedBy s (asks s c)
 
 -- ---- the changes, newest first, and which of them are struck out (Marks.antt): so many undos were accepted before the call
 

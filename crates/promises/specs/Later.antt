@@ -11,9 +11,10 @@ use Rattle.change.specs.declared.Change.the-variants.{Reset}
 use Rattle.packet.specs.Packet.{packetStatus, dataOf, replied}
 use Rattle.poll.specs.Poll.{pollData}
 use Rattle.occ.specs.declared.Verdict.the-variants.{Refuse, Make}
+use Rattle.session.specs.Road.{Said}
 use Rattle.session.specs.declared.Session.{Session}
 use Rattle.occ_call.specs.Occ.{occRefusal, askedOf}
-use Rattle.promises.specs.Calls.{Call, occ, sbe, undo, Said, said}
+use Rattle.promises.specs.Calls.{Call, occ, sbe, undo, said}
 use Rattle.promises.specs.History.{OfBytes}
 use Rattle.promises.specs.Shifted.{shifted, shiftedRecord}
 

@@ -8,23 +8,15 @@ use Rattle.wire.specs.Conditions.{_and_}
 use Rattle.change.specs.declared.Edit.{Edit}
 use Rattle.journal.specs.Add.{entryLen}
 use Rattle.journal.specs.Bytes.{entryBytes}
-use Rattle.session.specs.Session.{freshSession, madeOf}
+use Rattle.session.specs.Session.{freshSession, madeOf, renewed}
+use Rattle.session.specs.Road.{Said}
 use Rattle.session.specs.declared.Session.{Session}
-use Rattle.promises.specs.Calls.{Call, occ, sbe, undo, redo, Said, said}
+use Rattle.promises.specs.Calls.{Call, occ, sbe, undo, redo, said}
 use Rattle.promises.specs.History.{Run, run, next-run, start, OfBytes}
 
 -- the session as it was, but for the next id, where a log was made, and for the redo store: it holds the one change that was taken back
 unfoldable pub leaves : Session → Edit → Session
-leaves s e =
-    record {
-      held = s .held;
-      worked = s .worked;
-      next = s .next + madeOf (e .change);
-      journal = s .journal;
-      used = s .used;
-      redo = pasted 0 (entryBytes e) (replicate 2048 0);
-      ahead = entryLen e;
-    }
+leaves s e = renewed s (s .held) (s .next + madeOf (e .change)) (s .journal) (s .used) (pasted 0 (entryBytes e) (replicate 2048 0)) (entryLen e)
 
 -- calls made one after the other, from a fresh session
 abbrev pub after : List Call → Run

@@ -25,12 +25,13 @@ use Rattle.inplace.specs.declared.Told.{Told}
 use Rattle.places.specs.Faults.{CommandFaults, NotAfter}
 use Rattle.places.specs.declared.Fault.{Fault}
 use Rattle.places.specs.declared.Blame.the-variants.{Wrong}
-use Rattle.occ_call.specs.Occ.{occCall, occWhy, OccAllows}
-use Rattle.occ_call.specs.laws.Came as occ-came
-use Rattle.sbe_call.specs.Sbe.{sbeCall, SbeAllows}
-use Rattle.sbe_call.specs.laws.Came as sbe-came
-use Rattle.undo_call.specs.Undo.{usedOf, moveCall, undoCall, redoCall, UndoAllows, RedoAllows}
-use Rattle.undo_call.specs.laws.Came as undo-came
+use Rattle.session.specs.Road.{usedOf}
+use Rattle.session.specs.laws.Road.{refusal-keeps, worked-after, error-keeps, bell-rung}
+use Rattle.occ_call.specs.Occ.{occAsks, occCall, occWhy, OccAllows}
+use Rattle.occ_call.specs.laws.Speaks.{occ-speaks}
+use Rattle.sbe_call.specs.Sbe.{sbeAsks, sbeCall, SbeAllows}
+use Rattle.sbe_call.specs.laws.Speaks.{sbe-speaks}
+use Rattle.undo_call.specs.Undo.{moveAsks, moveCall, undoCall, redoCall, UndoAllows, RedoAllows}
 use Rattle.text.specs.Text.{joined}
 use Rattle.trace.specs.Trace.{traceScan}
 use Rattle.parting.specs.Parting.{Longest, sharedPart, refusalOf, PlayersRefusal, partingOf}
@@ -79,10 +80,10 @@ use Rattle.promises.specs.laws.Examples.{examples}
 -- ---- demand 1, document 01's tables (Demand1.antt): a number is given exactly when its row holds and none before it
 
 -- the session answers; 1 exactly when the session isn't well formed, from every call
-pub answer-of-occ : (s : Session) → TypedSession s → (sender : ℕ) (c d : List ℕ) (n : ℕ) → (occCall s sender c d .outcome .answer ≡ n) ↔ OccAnswer s sender c d n
+pub answer-of-occ : (s : Session) → TypedSession s → (sender : ℕ) (c d : List ℕ) (n : ℕ) → (occCall s sender c d .answer ≡ n) ↔ OccAnswer s sender c d n
 answer-of-occ = occ-answers
 
-pub answer-of-sbe : (s : Session) → TypedSession s → (r d : List ℕ) (n : ℕ) → (sbeCall s r d .outcome .answer ≡ n) ↔ SbeAnswer s r d n
+pub answer-of-sbe : (s : Session) → TypedSession s → (r d : List ℕ) (n : ℕ) → (sbeCall s r d .answer ≡ n) ↔ SbeAnswer s r d n
 answer-of-sbe = sbe-answers
 
 pub answer-of-undo : (s : Session) (n : ℕ) → (undoCall s .answer ≡ n) ↔ UndoAnswer s n
@@ -114,44 +115,51 @@ pub wrong-byte-is-the-least : (s : Session) → TypedSession s → (sender : ℕ
 wrong-byte-is-the-least = byte-least
 
 -- answer 0: a reply, good or error, is written, and stands at the front of the buffer
-pub reply-of-occ : (s : Session) → TypedSession s → (sender : ℕ) (c d : List ℕ) → occCall s sender c d .outcome .answer ≡ 0
+pub reply-of-occ : (s : Session) → TypedSession s → (sender : ℕ) (c d : List ℕ) → occCall s sender c d .answer ≡ 0
     → (occCall s sender c d .reply ≡ atFront (successReply s c) d) ⊎ ((n : ℕ) × (occCall s sender c d ≡ occError s c d n))
 reply-of-occ = occ-reply
 
-pub reply-of-sbe : (s : Session) → TypedSession s → (r d : List ℕ) → sbeCall s r d .outcome .answer ≡ 0
+pub reply-of-sbe : (s : Session) → TypedSession s → (r d : List ℕ) → sbeCall s r d .answer ≡ 0
     → (sbeCall s r d .reply ≡ atFront (mailbox.responseBytes 0x00 0x00 r) d) ⊎ ((n : Status) × (sbeCall s r d ≡ sbeError s r d n))
 reply-of-sbe = sbe-reply
 
 -- ---- demand 1: a refusal changes nothing, for every session, right or damaged
 
-pub refusal-of-occ-keeps : (s : Session) (sender : ℕ) (c d : List ℕ) → (occCall s sender c d .outcome .answer ≡ 0 → ⊥)
-    → (occCall s sender c d .outcome .session ≡ s) × (occCall s sender c d .reply ≡ d)
-refusal-of-occ-keeps s sender c d = occ-came.refusal-keeps s sender c d (occCall s sender c d) (occ-came.came s sender c d)
+pub refusal-of-occ-keeps : (s : Session) (sender : ℕ) (c d : List ℕ) → (occCall s sender c d .answer ≡ 0 → ⊥)
+    → (occCall s sender c d .session ≡ s) × (occCall s sender c d .reply ≡ d)
+unfolding occCall
+refusal-of-occ-keeps s sender c d h = let k = refusal-keeps s d (occAsks s sender c d) h in (k .0, k .1)
 
-pub refusal-of-sbe-keeps : (s : Session) (r d : List ℕ) → (sbeCall s r d .outcome .answer ≡ 0 → ⊥)
-    → (sbeCall s r d .outcome .session ≡ s) × (sbeCall s r d .reply ≡ d) × (sbeCall s r d .outcome .bell ≡ 0)
-refusal-of-sbe-keeps s r d = sbe-came.refusal-keeps s r d (sbeCall s r d) (sbe-came.came s r d)
+pub refusal-of-sbe-keeps : (s : Session) (r d : List ℕ) → (sbeCall s r d .answer ≡ 0 → ⊥)
+    → (sbeCall s r d .session ≡ s) × (sbeCall s r d .reply ≡ d) × (sbeCall s r d .bell ≡ 0)
+unfolding sbeCall
+refusal-of-sbe-keeps s r d h = let k = refusal-keeps s d (sbeAsks s r d) h in (k .0, k .1, k .2)
 
 pub refusal-of-undo-keeps : (s : Session) → (undoCall s .answer ≡ 0 → ⊥) → (undoCall s .session ≡ s) × (undoCall s .kind ≡ 0)
-refusal-of-undo-keeps s = undo-came.refusal-keeps Before s (undoCall s) (undo-came.came Before s)
+unfolding moveCall
+refusal-of-undo-keeps s h = let k = refusal-keeps s [] (moveAsks Before s) h in (k .0, k .3)
 
 pub refusal-of-redo-keeps : (s : Session) → (redoCall s .answer ≡ 0 → ⊥) → (redoCall s .session ≡ s) × (redoCall s .kind ≡ 0)
-refusal-of-redo-keeps s = undo-came.refusal-keeps After s (redoCall s) (undo-came.came After s)
+unfolding moveCall
+refusal-of-redo-keeps s h = let k = refusal-keeps s [] (moveAsks After s) h in (k .0, k .3)
 
 -- a session that isn't the one handed in comes with the reply of success, so every error reply returns it as it was
 pub error-of-occ-keeps : (s : Session) (sender : ℕ) (c d : List ℕ)
-    → (occCall s sender c d .outcome .session ≡ s) ⊎ (occCall s sender c d .reply ≡ replied (getD c 0 0) (getD c 1 0) 0x00 [] d)
-error-of-occ-keeps s sender c d = occ-came.error-keeps s sender c d (occCall s sender c d) (occ-came.came s sender c d)
+    → (occCall s sender c d .session ≡ s) ⊎ (occCall s sender c d .reply ≡ replied (getD c 0 0) (getD c 1 0) 0x00 [] d)
+unfolding occCall
+error-of-occ-keeps s sender c d = error-keeps s d 0 _ (occAsks s sender c d) (occ-speaks s sender c d)
 
 -- the same of the SBE's error statuses
 pub error-of-sbe-keeps : (s : Session) (r d : List ℕ)
-    → (sbeCall s r d .outcome .session ≡ s) ⊎ (sbeCall s r d .reply ≡ pasted 0 (mailbox.responseBytes 0x00 0x00 r) d)
-error-of-sbe-keeps s r d = sbe-came.error-keeps s r d (sbeCall s r d) (sbe-came.came s r d)
+    → (sbeCall s r d .session ≡ s) ⊎ (sbeCall s r d .reply ≡ pasted 0 (mailbox.responseBytes 0x00 0x00 r) d)
+unfolding sbeCall
+error-of-sbe-keeps s r d = error-keeps s d _ _ (sbeAsks s r d) (sbe-speaks s r d)
 
 -- the doorbell is rung as asked on every answer 0, refused or not, and never else
 pub bell-rung-as-asked : (s : Session) (r d : List ℕ)
-    → (sbeCall s r d .outcome .answer ≡ 0 → sbeCall s r d .outcome .bell ≡ mailbox.bellOf r) × ((sbeCall s r d .outcome .answer ≡ 0 → ⊥) → sbeCall s r d .outcome .bell ≡ 0)
-bell-rung-as-asked s r d = (sbe-came.bell-rung s r d (sbeCall s r d) (sbe-came.came s r d), λ h. refusal-of-sbe-keeps s r d h .2)
+    → (sbeCall s r d .answer ≡ 0 → sbeCall s r d .bell ≡ mailbox.bellOf r) × ((sbeCall s r d .answer ≡ 0 → ⊥) → sbeCall s r d .bell ≡ 0)
+unfolding sbeCall
+bell-rung-as-asked s r d = (bell-rung s d _ _ (sbeAsks s r d) (sbe-speaks s r d), λ h. refusal-of-sbe-keeps s r d h .2)
 
 -- ---- the contracts determine everything: two outcomes that one allows are equal. b is the lent session; for C the result is one number
 
@@ -193,10 +201,10 @@ one-outcome-of-play b t d = one-triple _ _ _
 
 -- ---- well-formed in, well-formed out, on every session of the type; and what is worked out is the record's
 
-pub occ-stays-well-formed : (s : Session) → TypedSession s → wellFormed s ≡ true → (sender : ℕ) (c d : List ℕ) → Bytes c → wellFormed (occCall s sender c d .outcome .session) ≡ true
+pub occ-stays-well-formed : (s : Session) → TypedSession s → wellFormed s ≡ true → (sender : ℕ) (c d : List ℕ) → Bytes c → wellFormed (occCall s sender c d .session) ≡ true
 occ-stays-well-formed = occ-formed
 
-pub sbe-stays-well-formed : (s : Session) → TypedSession s → wellFormed s ≡ true → (r d : List ℕ) → Bytes r → wellFormed (sbeCall s r d .outcome .session) ≡ true
+pub sbe-stays-well-formed : (s : Session) → TypedSession s → wellFormed s ≡ true → (r d : List ℕ) → Bytes r → wellFormed (sbeCall s r d .session) ≡ true
 sbe-stays-well-formed = sbe-formed
 
 pub undo-stays-well-formed : (s : Session) → TypedSession s → wellFormed s ≡ true → wellFormed (undoCall s .session) ≡ true
@@ -206,17 +214,21 @@ pub redo-stays-well-formed : (s : Session) → TypedSession s → wellFormed s �
 redo-stays-well-formed = redo-formed
 
 pub worked-out-after-occ : (s : Session) (sender : ℕ) (c d : List ℕ) → wellFormed s ≡ true
-    → occCall s sender c d .outcome .session .worked ≡ workedOf (occCall s sender c d .outcome .session .held)
-worked-out-after-occ s sender c d = occ-came.worked-after s sender c d (occCall s sender c d) (occ-came.came s sender c d)
+    → occCall s sender c d .session .worked ≡ workedOf (occCall s sender c d .session .held)
+unfolding occCall
+worked-out-after-occ s sender c d w = worked-after s d w (occAsks s sender c d)
 
-pub worked-out-after-sbe : (s : Session) (r d : List ℕ) → wellFormed s ≡ true → sbeCall s r d .outcome .session .worked ≡ workedOf (sbeCall s r d .outcome .session .held)
-worked-out-after-sbe s r d = sbe-came.worked-after s r d (sbeCall s r d) (sbe-came.came s r d)
+pub worked-out-after-sbe : (s : Session) (r d : List ℕ) → wellFormed s ≡ true → sbeCall s r d .session .worked ≡ workedOf (sbeCall s r d .session .held)
+unfolding sbeCall
+worked-out-after-sbe s r d w = worked-after s d w (sbeAsks s r d)
 
 pub worked-out-after-undo : (s : Session) → wellFormed s ≡ true → undoCall s .session .worked ≡ workedOf (undoCall s .session .held)
-worked-out-after-undo s = undo-came.worked-after Before s (undoCall s) (undo-came.came Before s)
+unfolding moveCall
+worked-out-after-undo s w = worked-after s [] w (moveAsks Before s)
 
 pub worked-out-after-redo : (s : Session) → wellFormed s ≡ true → redoCall s .session .worked ≡ workedOf (redoCall s .session .held)
-worked-out-after-redo s = undo-came.worked-after After s (redoCall s) (undo-came.came After s)
+unfolding moveCall
+worked-out-after-redo s w = worked-after s [] w (moveAsks After s)
 
 -- ---- demand 2: accepted exactly when (the conditions: Demand2.antt), and what is then done (Effects.antt)
 
@@ -234,10 +246,10 @@ pub redo-accepted-exactly-when : (s : Session) → wellFormed s ≡ true → (re
 redo-accepted-exactly-when = redo-accepted
 
 pub effect-of-occ : (s : Session) → TypedSession s → (sender : ℕ) (c d : List ℕ) → Bytes c → OccSucceeds s sender c d
-    → OccEffect s (getD c 1 0) (dataOf c) (occCall s sender c d .outcome .session)
+    → OccEffect s (getD c 1 0) (dataOf c) (occCall s sender c d .session)
 effect-of-occ = occ-effect
 
-pub effect-of-sbe : (s : Session) → TypedSession s → (r d : List ℕ) → Bytes r → SbeSucceeds s r d → SbeEffect s r (sbeCall s r d .outcome .session)
+pub effect-of-sbe : (s : Session) → TypedSession s → (r d : List ℕ) → Bytes r → SbeSucceeds s r d → SbeEffect s r (sbeCall s r d .session)
 effect-of-sbe = sbe-effect
 
 pub effect-of-undo : (s : Session) → TypedSession s → undoCall s .answer ≡ 0 → UndoEffect s (undoCall s)
@@ -261,7 +273,7 @@ pub counted-of-sbe : (s : Session) → TypedSession s → (r d : List ℕ) → (
 counted-of-sbe = sbe-deed
 
 pub counted-is-shown : (s : Session) → TypedSession s → (e : Edit) (c : Call) → deed s c ≡ adds e → said s c .session .held ≡ putOf (s .held) e .after
-counted-is-shown = deed-shown
+counted-is-shown s typed e c = deed-shown s e c
 
 -- ---- demand 3: start fresh, and hand each session on unchanged through any calls
 

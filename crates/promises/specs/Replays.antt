@@ -9,7 +9,8 @@ use Rattle.trace.specs.Trace.{traceScan}
 use Rattle.image.specs.Image.{imageOf}
 use Rattle.playing.specs.Playing.{Heard, ifWritten, line}
 use Rattle.playing.specs.Steps.{oldestFirst}
-use Rattle.promises.specs.Calls.{Call, occ, sbe, undo, redo, Said, said}
+use Rattle.session.specs.Road.{Said}
+use Rattle.promises.specs.Calls.{Call, occ, sbe, undo, redo, said}
 use Rattle.promises.specs.History.{Run, next-run}
 
 -- "01 is sender and 64 command bytes, 02 sender and 4,096 command bytes, 03 the 32 request bytes, 04 undo with no body"

@@ -5,6 +5,9 @@ pub mod Asked
 pub mod Ids
 pub mod Struck
 pub mod Marks
+pub mod ByTest
+pub mod Sound
+pub mod Settled
 pub mod Demand3
 pub mod Aside
 pub mod NoTrace

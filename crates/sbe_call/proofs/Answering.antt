@@ -19,7 +19,7 @@ use Rattle.session.specs.Session.{wellFormed, carriedOf}
 use Rattle.session.specs.Road.{Asks, refuses, tells, makes, due, Said, kept, done, settled}
 use Rattle.session.specs.laws.Road.{made-full, made-done}
 use Rattle.session.specs.declared.Session.{Session}
-use Rattle.sbe_call.specs.Sbe.{refusalOf, sbeRefusal, toldOf, rulingAsks, sbeRead, sbeAsks, sbeCall, sbeLeft, sbeHeard, sbeOn}
+use Rattle.sbe_call.specs.Sbe.{refusalOf, sbeRefusal, toldOf, rulingAsks, sbeRead, sbeAsks, sbeCall, sbeLeft, sbeReadLeft, sbeOn}
 use Rattle.image.specs.declared.Head.{Head}
 use Rattle.image.specs.Image.{headIn, sessionIn}
 use Rattle.layout.specs.Layout.{imageLength}
@@ -61,11 +61,11 @@ module _ (h : Head) (b : List ℕ) (here : HeadStands h b) (r d : List ℕ) wher
   s = sessionIn h b
 
   abbrev Hears : Told → List ℕ → List ℕ → Type 0
-  Hears t y z = Parts t y z (sbeHeard s r d)
+  Hears t y z = Parts t y z (sbeReadLeft s r d)
 
   module _ (v : Ruling) (judged : v ≡ requestRuling r) (bell : ℕ) (rings : bell ≡ bellOf r) where
-    by-ruling : (q : Said) → q ≡ settled s d (rulingAsks r d v) → sbeLeft q ≡ sbeHeard s r d
-    unfolding sbeHeard sbeRead
+    by-ruling : (q : Said) → q ≡ settled s d (rulingAsks r d v) → sbeLeft q ≡ sbeReadLeft s r d
+    unfolding sbeReadLeft sbeRead
     by-ruling q e = ap sbeLeft (e ∙ ap (λ (u : Ruling). settled s d (rulingAsks r d u)) judged)
 
     pub told-in : (t : Told) (z : List ℕ) → t ≡ record { answer = 0; small = 0; beside = bell } → (tagOf the-type v ≡ 1 → ⊥) → z ≡ toldOf v r d → Hears t b z
@@ -80,7 +80,7 @@ module _ (h : Head) (b : List ℕ) (here : HeadStands h b) (r d : List ℕ) wher
       abbrev edit : Edit
       edit = record { change = ch; tables = tables }
 
-      by-made : (q : Said) → q ≡ settled s d (makes edit (bellOf r) (pasted 0 (responseBytes 0x00 0x00 r) d)) → sbeLeft q ≡ sbeHeard s r d
+      by-made : (q : Said) → q ≡ settled s d (makes edit (bellOf r) (pasted 0 (responseBytes 0x00 0x00 r) d)) → sbeLeft q ≡ sbeReadLeft s r d
       unfolding rulingAsks
       by-made q e =
           by-ruling q (e
@@ -121,8 +121,8 @@ module _ (b : List ℕ) (long : length b ≡ imageLength) (h : Head) (read : h �
       ∙ ap (λ (a : Asks). sbeLeft (settled (sessionIn h b) d a)) (if-ne (refuses n) (sbeRead r d) z refl)
       ∙ by-refusal)
 
-  pub heard-in : n ≡ 0 → (t : Told) (y z : List ℕ) → Parts t y z (sbeHeard (sessionIn h b) r d) → Parts t y z (sbeOn b r d)
-  unfolding sbeHeard due
+  pub heard-in : n ≡ 0 → (t : Told) (y z : List ℕ) → Parts t y z (sbeReadLeft (sessionIn h b) r d) → Parts t y z (sbeOn b r d)
+  unfolding sbeReadLeft due
   heard-in none t y z q =
       parts t y z _ ((λ i. record { told = q .0 i; image = q .1 .0 i; reply = q .1 .1 i })
       ∙ ap (λ (a : Asks). sbeLeft (settled (sessionIn h b) d a)) (else-ne (refuses n) (sbeRead r d) none refl)

@@ -50,8 +50,8 @@ unfoldable pub sbeLeft : Said → Left
 sbeLeft q = record { told = record { answer = q .answer; small = 0; beside = q .bell }; image = imageOf (q .session); reply = q .reply }
 
 -- a request that is due an answer
-unfoldable pub sbeHeard : Session → List ℕ → List ℕ → Left
-sbeHeard s r d = sbeLeft (settled s d (sbeRead r d))
+unfoldable pub sbeReadLeft : Session → List ℕ → List ℕ → Left
+sbeReadLeft s r d = sbeLeft (settled s d (sbeRead r d))
 
 unfoldable pub sbeOn : List ℕ → List ℕ → List ℕ → Left
 sbeOn b r d = onImage b d (λ (s : Session). sbeLeft (sbeCall s r d))

@@ -3,7 +3,7 @@ ghost use mathlib.Core.Bool.{true};
 ghost use mathlib.Core.Path.{_≡_};
 ghost use Prim.Native.Nat.{_≤_};
 ghost use lib.ListN.{length};
-ghost use Rattle.sbe_call.specs.Sbe.{refusalOf, toldOf, sbeHeard, SbeAllows};
+ghost use Rattle.sbe_call.specs.Sbe.{refusalOf, toldOf, sbeReadLeft, SbeAllows};
 ghost use Rattle.session.specs.Session.{wellFormed};
 ghost use Rattle.image.specs.Image.{sessionIn};
 ghost use Rattle.inplace.specs.InPlace.{HeadStands};
@@ -42,9 +42,9 @@ fn tell(ruling: Ruling, request: &[u8], reply: &mut [u8])
 // A request that is due an answer: judged, carried out if it asks for a change, and responded to.
 fn hear(lent: &mut [u8], h: Head, request: &[u8], reply: &mut [u8]) -> Told
     requires { ⌜ HeadStands h (now lent) × (wellFormed (sessionIn h (now lent)) ≡ true) × (32 ≤ length (now request)) × (32 ≤ length (now reply)) ⌝ }
-    ensures { λ x. ⌜ x ≡ sbeHeard (sessionIn h (now (lent .entry))) (now (request .entry)) (now (reply .entry)) .told ⌝ }
-    ensures { λ _. ⌜ now (lent .exit) ≡ sbeHeard (sessionIn h (now (lent .entry))) (now (request .entry)) (now (reply .entry)) .image ⌝ }
-    ensures { λ _. ⌜ now (reply .exit) ≡ sbeHeard (sessionIn h (now (lent .entry))) (now (request .entry)) (now (reply .entry)) .reply ⌝ }
+    ensures { λ x. ⌜ x ≡ sbeReadLeft (sessionIn h (now (lent .entry))) (now (request .entry)) (now (reply .entry)) .told ⌝ }
+    ensures { λ _. ⌜ now (lent .exit) ≡ sbeReadLeft (sessionIn h (now (lent .entry))) (now (request .entry)) (now (reply .entry)) .image ⌝ }
+    ensures { λ _. ⌜ now (reply .exit) ≡ sbeReadLeft (sessionIn h (now (lent .entry))) (now (request .entry)) (now (reply .entry)) .reply ⌝ }
 {
     let ruling = sbe::judge(request);
     let bell = sbe::bell(request);

@@ -84,7 +84,7 @@ unfoldable pub headMoved : Head → Way → Record → ℕ → ℕ → Head
 headMoved h w held at end = headRenewed h held (h .next) (byWay w at end) (byWay w end at)
 
 unfoldable pub movedLeft : Said → Left
-movedLeft q = record { told = record { answer = q .answer; small = 0; beside = q .kind }; image = imageOf (q .session); reply = [] }
+movedLeft q = record { told = record { answer = q .answer; small = 0; beside = q .kind }; image = imageOf (q .session); reply = q .reply }
 
 -- what is asked of a session, settled on its image
 unfoldable pub movedBy : Session → Asks → Left

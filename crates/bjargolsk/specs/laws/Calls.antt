@@ -12,19 +12,17 @@ use Rattle.wire.specs.laws.Cases.{cond-cases}
 use Rattle.wire.specs.Wire.{Bytes}
 use Rattle.journal.specs.declared.Way.{Way}
 use Rattle.journal.specs.declared.Way.the-variants.{Before, After}
+use Rattle.session.specs.laws.Road.{refusal-keeps}
 use Rattle.session.specs.declared.Session.{Session}
-use Rattle.image.specs.Image.{imageOf, sessionOf}
 use Rattle.layout.specs.Layout.{imageLength}
+use Rattle.image.specs.Image.{imageOf, sessionOf}
 use Rattle.image.specs.laws.Image.{image-session}
-use Rattle.inplace.specs.InPlace.{Left}
+use Rattle.inplace.specs.InPlace.{Left, onImage}
 use Rattle.inplace.specs.declared.Told.{Told}
-use Rattle.occ_call.specs.Occ.{occLeft, occOn}
-use Rattle.occ_call.specs.laws.Came as occ
+use Rattle.occ_call.specs.Occ.{occAsks, occCall, occWhy, occLeft, occOn}
 use Rattle.occ_call.specs.laws.Why.{answer-beside}
-use Rattle.sbe_call.specs.Sbe.{sbeLeft, sbeOn}
-use Rattle.sbe_call.specs.laws.Came as sbe
-use Rattle.undo_call.specs.Undo.{movedLeft, moveOn, undoOn, redoOn}
-use Rattle.undo_call.specs.laws.Came as undo
+use Rattle.sbe_call.specs.Sbe.{sbeAsks, sbeCall, sbeLeft, sbeOn}
+use Rattle.undo_call.specs.Undo.{moveAsks, moveCall, movedLeft, moveOn, undoOn, redoOn}
 use Rattle.bjargolsk.specs.Calls.{packed, answerIn}
 
 -- a call that answered 0 has answer 0 in its result
@@ -35,36 +33,34 @@ answered-zero t e =
     ap (λ (k : ℕ). k % 256) above ∙ digits-mod (t .beside * 256 + t .small) (lit< tt)
 
 module _ (b : List ℕ) (bytes : Bytes b) where
-  -- the image of the session that was read is the bytes that it was read from
-  same-image : (s : Session) → length b ≡ imageLength → s ≡ sessionOf b → imageOf s ≡ b
-  same-image s long e = ap imageOf e ∙ image-session b bytes long
-
   abbrev Kept : Left → List ℕ → Type 0
   Kept q d = (answerIn (packed (q .told)) ≡ 0 → ⊥) → (q .image ≡ b) × (q .reply ≡ d)
 
-  pub occ-refused : (sender : ℕ) (c d : List ℕ) → Kept (occOn b sender c d) d
-  unfolding occOn occLeft
-  occ-refused sender c d =
+  -- any call: one that keeps the session and the buffer, unless it answers 0, keeps the bytes
+  refused : (call : Session → Left) (d : List ℕ) → ((call (sessionOf b) .told .answer ≡ 0 → ⊥) → (s : Session) × ((s ≡ sessionOf b) × (call (sessionOf b) .image ≡ imageOf s) × (call (sessionOf b) .reply ≡ d)))
+      → Kept (onImage b d call) d
+  unfolding onImage
+  refused call d keeps =
       cond-cases (λ (q : Left). Kept q d) (not (eqb (length b) imageLength)) (λ e h. (refl, refl))
       (λ e h.
-      let k = occ.refusal-keeps (sessionOf b) sender c d _ (occ.came (sessionOf b) sender c d) (λ z. h (answered-zero _ (answer-beside _ _ ∙ z))) in
-      (same-image _ (eqb-true (length b) imageLength (not-false _ e)) (k .0), k .1))
+      let k = keeps (λ z. h (answered-zero _ z)) in
+      (k .1 .1 ∙ ap imageOf (k .1 .0) ∙ image-session b bytes (eqb-true (length b) imageLength (not-false _ e)), k .1 .2))
+
+  pub occ-refused : (sender : ℕ) (c d : List ℕ) → Kept (occOn b sender c d) d
+  unfolding occOn occLeft occCall
+  occ-refused sender c d =
+      refused (λ (s : Session). occLeft (occCall s sender c d) (occWhy s sender c d)) d
+      (λ h. let k = refusal-keeps (sessionOf b) d (occAsks (sessionOf b) sender c d) (λ z. h (answer-beside _ _ ∙ z)) in (_, (k .0, refl, k .1)))
 
   pub sbe-refused : (r d : List ℕ) → Kept (sbeOn b r d) d
-  unfolding sbeOn sbeLeft
+  unfolding sbeOn sbeLeft sbeCall
   sbe-refused r d =
-      cond-cases (λ (q : Left). Kept q d) (not (eqb (length b) imageLength)) (λ e h. (refl, refl))
-      (λ e h.
-      let k = sbe.refusal-keeps (sessionOf b) r d _ (sbe.came (sessionOf b) r d) (λ z. h (answered-zero _ z)) in
-      (same-image _ (eqb-true (length b) imageLength (not-false _ e)) (k .0), k .1))
+      refused (λ (s : Session). sbeLeft (sbeCall s r d)) d (λ h. let k = refusal-keeps (sessionOf b) d (sbeAsks (sessionOf b) r d) h in (_, (k .0, refl, k .1)))
 
   move-refused : (w : Way) → Kept (moveOn w b) []
-  unfolding moveOn movedLeft
+  unfolding moveOn movedLeft moveCall
   move-refused w =
-      cond-cases (λ (q : Left). Kept q []) (not (eqb (length b) imageLength)) (λ e h. (refl, refl))
-      (λ e h.
-      let k = undo.refusal-keeps w (sessionOf b) _ (undo.came w (sessionOf b)) (λ z. h (answered-zero _ z)) in
-      (same-image _ (eqb-true (length b) imageLength (not-false _ e)) (k .0), refl))
+      refused (λ (s : Session). movedLeft (moveCall w s)) [] (λ h. let k = refusal-keeps (sessionOf b) [] (moveAsks w (sessionOf b)) h in (_, (k .0, refl, k .1)))
 
   pub undo-refused : Kept (undoOn b) []
   undo-refused = move-refused Before

@@ -11,7 +11,10 @@ use Rattle.journal.specs.declared.Way.the-variants.{Before, After}
 use Rattle.session.specs.Session.{wellFormed}
 use Rattle.session.specs.declared.Session.{Session}
 use Rattle.links.specs.Typed.{TypedSession}
-use Rattle.promises.specs.Calls.{Call, occ, sbe, undo, redo, said}
+use Rattle.occ_call.specs.Occ.{occCall}
+use Rattle.sbe_call.specs.Sbe.{sbeCall}
+use Rattle.undo_call.specs.Undo.{moveCall}
+use Rattle.promises.specs.Calls.{Call, occ, sbe, undo, redo, bufferOf, asks, said}
 use Rattle.promises.specs.Demand1.{OccAnswer, SbeAnswer, MoveAnswer}
 use Rattle.promises.specs.laws.OccDemands.{occ-answers}
 use Rattle.promises.specs.laws.SbeDemands.{sbe-answers}
@@ -47,7 +50,7 @@ module _ (s : Session) (typed : TypedSession s) where
   move-one w empty z (later _ (later _ (later _ e))) = absurd (omega (arith, e))
 
   pub one-exactly : (c : Call) → (said s c .answer ≡ 1) ↔ IllFormed
-  unfolding said OccAnswer SbeAnswer MoveAnswer
+  unfolding said asks bufferOf occCall sbeCall moveCall OccAnswer SbeAnswer MoveAnswer
   one-exactly (occ sender c d) = Iff·trans (occ-answers s typed sender c d 1) (occ-one sender c d, λ h. here h refl)
   one-exactly (sbe r d) = Iff·trans (sbe-answers s typed r d 1) (sbe-one r d, λ h. here h refl)
   one-exactly undo = Iff·trans (undo-answers s 1) (move-one Before 6 (λ z. omega (arith, z)), λ h. here h refl)

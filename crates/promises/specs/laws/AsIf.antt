@@ -14,25 +14,29 @@ use Rattle.change.specs.declared.Edit.{Edit}
 use Rattle.entries.specs.Entries.{bodyLen}
 use Rattle.journal.specs.Bytes.{entryBytes}
 use Rattle.journal.specs.laws.Ends.{length-entry}
-use Rattle.session.specs.Session.{withHeld, madeOf, carriedOf}
+use Rattle.session.specs.Session.{madeOf, carriedOf}
+use Rattle.session.specs.Road.{Asks}
 use Rattle.session.specs.declared.Session.{Session}
 use Rattle.journal.specs.declared.Way.the-variants.{Before}
-use Rattle.journal.specs.Ways.{byWay}
-use Rattle.undo_call.specs.Undo.{Moved, notMoved, undoCall}
+use Rattle.undo_call.specs.Undo.{moveAsks}
 use Rattle.promises.specs.Calls.{Call, said}
 use Rattle.promises.specs.Marks.{left, logsMade}
 use Rattle.promises.specs.History.{Deed, keeps, adds, strikes, unstrikes, deed, applied, Run, did, next-run, OfBytes}
 use Rattle.promises.specs.NoTrace.{ButRedo}
 use Rattle.promises.specs.laws.Stores.{length-padded, flat}
-use Rattle.promises.specs.laws.ByHistory.{standing, backs, journalOf, byHistory, Kept, Sane}
-use Rattle.promises.specs.laws.Steps.{undo-history, undo-nothing}
+use Rattle.promises.specs.laws.ByHistory.{backs, journalOf, byHistory, Kept, Sane}
+use Rattle.promises.specs.laws.Steps.{undo-asks, undo-nothing}
 use Rattle.promises.specs.laws.Marks.{tail}
-use Rattle.promises.specs.laws.Demand3.{redoable, Inv, next-inv, formed, held-is, next-is, worked-is}
+use Rattle.promises.specs.laws.Demand3.{redoable, Inv, next-inv, formed, held-is, next-is, worked-is, journal-is, used-is}
 use Rattle.promises.specs.laws.Aside.{not-redo, leftAfter, madeAfter, left-after, made-after}
 use Rattle.promises.specs.laws.Shifted.{shiftedEdit, kind-shifted, applied-shifted, logs-shifted}
 use Rattle.promises.specs.Shifted.{shiftedRecord}
-use Rattle.promises.specs.laws.Heard.{shiftedDeed, noRoom, full-by-kind, heard}
+use Rattle.promises.specs.laws.Heard.{shiftedDeed, AlikeAsks, both-refuse, both-move, heard}
+use Rattle.promises.specs.laws.Settled.{noRoom, full-by-kind}
 use Rattle.promises.specs.Later.{SameWish, occ-same, occ-clears, sbe-same, undo-same, Wish, Twins, Alike, IdsEnd, AsIf}
+
+both-asked : {k : ℕ} (u : Session) {a a′ b b′ : Asks} → a ≡ a′ → b ≡ b′ → AlikeAsks k u a′ b′ → AlikeAsks k u a b
+both-asked {k} u {b = b} p q h = subst (λ (x : Asks). AlikeAsks k u x b) (sym p) (subst (AlikeAsks k u _) (sym q) h)
 
 module _ (base : Record) (k : ℕ) (low : 1 ≤ k) (still : shiftedRecord k base ≡ base) where
   abbrev there-edits : List Edit → List Edit
@@ -58,19 +62,14 @@ module _ (base : Record) (k : ℕ) (low : 1 ≤ k) (still : shiftedRecord k base
       ∙ sym (length-append (journalOf base es) (entryBytes b))
 
   -- rs, rs′: what can be redone, which doesn't matter here
-  undo-shifted : (es : List Edit) (n : ℕ) (rs rs′ : List Edit) → Sane base es n rs → Sane base (there-edits es) (suc n) rs′
-      → (undoCall (byHistory base (there-edits es) (suc n) rs′) .answer ≡ undoCall (byHistory base es n rs) .answer)
-      × (undoCall (byHistory base (there-edits es) (suc n) rs′) .kind ≡ undoCall (byHistory base es n rs) .kind)
-  unfolding notMoved shiftedEdit inverseOf
-  undo-shifted [] n rs rs′ g g′ =
-      let here = undo-nothing base n rs g in
-      let there = undo-nothing base (suc n) rs′ g′ in
-      (ap (λ (u : Moved). u .answer) there ∙ sym (ap (λ (u : Moved). u .answer) here), ap (λ (u : Moved). u .kind) there ∙ sym (ap (λ (u : Moved). u .kind) here))
-  undo-shifted (e ∷ es) n rs rs′ g g′ =
-      let here = undo-history base e es n rs g in
-      let there = undo-history base (shiftedEdit k e) (there-edits es) (suc n) rs′ g′ in
-      let kinds = g′ .kept .0 .links .kind-back ∙ kind-shifted k (e .change) ∙ sym (g .kept .0 .links .kind-back) in
-      (ap (λ (u : Moved). u .answer) there ∙ sym (ap (λ (u : Moved). u .answer) here), ap (λ (u : Moved). u .kind) there ∙ kinds ∙ sym (ap (λ (u : Moved). u .kind) here))
+  undo-shifted : (s u t : Session) (es : List Edit) (next : ℕ) (rs rs′ : List Edit) → Sane base es next rs → Sane base (there-edits es) (suc next) rs′
+      → AlikeAsks k u (moveAsks Before (byHistory base s es next rs)) (moveAsks Before (byHistory base t (there-edits es) (suc next) rs′))
+  unfolding shiftedEdit inverseOf
+  undo-shifted s u t [] next rs rs′ g g′ =
+      both-asked u (undo-nothing base s next rs g) (undo-nothing base t (suc next) rs′ g′) (both-refuse 6)
+  undo-shifted s u t (e ∷ es) next rs rs′ g g′ =
+      both-asked u (undo-asks base s e es next rs g) (undo-asks base t (shiftedEdit k e) (there-edits es) (suc next) rs′ g′)
+      (both-move Before _ _ _ _ (g′ .kept .0 .links .kind-back ∙ kind-shifted k (e .change) ∙ sym (g .kept .0 .links .kind-back)))
 
   worked-shifted : (r : Record) → workedOf (shiftedRecord k r) ≡ workedOf r
   unfolding workedOf shiftedRecord withLogs
@@ -89,57 +88,53 @@ module _ (base : Record) (k : ℕ) (low : 1 ≤ k) (still : shiftedRecord k base
     abbrev rs′ : List Edit
     rs′ = redoable base q
 
-    here : p .session ≡ byHistory base es n rs
-    here = b .inv .is
+    there-is : q .session ≡ byHistory base (q .session) (there-edits es) (suc (suc n)) rs′
+    there-is = b .inv′ .is ∙ (λ i. byHistory base (q .session) (b .left-is i) (suc (b .made-is i)) rs′)
 
-    there-is : q .session ≡ byHistory base (there-edits es) (suc n) rs′
-    there-is = b .inv′ .is ∙ (λ i. byHistory base (b .left-is i) (b .made-is i) rs′)
+    sane′ : Sane base (there-edits es) (suc (suc n)) rs′
+    sane′ = subst (λ (x : List Edit). Sane base x (suc (suc n)) rs′) (b .left-is) (subst (λ (m : ℕ). Sane base (left (q .marks)) (suc m) rs′) (b .made-is) (b .inv′ .sane))
 
-    sane′ : Sane base (there-edits es) (suc n) rs′
-    sane′ = subst (λ (x : List Edit). Sane base x (suc n) rs′) (b .left-is) (subst (λ (m : ℕ). Sane base (left (q .marks)) m rs′) (b .made-is) (b .inv′ .sane))
+    record-there : applied base (left (q .marks)) ≡ shiftedRecord k (applied base es)
+    record-there = ap (applied base) (b .left-is) ∙ applied-shifted k low base still es
 
-    both-sides : Twins k (byHistory base es n rs) (byHistory base (there-edits es) (suc n) rs′)
-    unfolding byHistory standing byWay withHeld
-    both-sides =
-        let held = applied-shifted k low base still es in
-        record {
-          held-is = held;
-          worked-is = ap workedOf held ∙ worked-shifted (applied base es);
-          next-is = refl;
-          used-is = used-shifted (suc n) (suc (suc n)) es (b .inv .sane .kept) (sane′ .kept);
-        }
+    used-there : q .session .used ≡ p .session .used
+    used-there =
+        used-is base q (b .inv′)
+        ∙ ap (λ (l : List Edit). length (journalOf base l)) (b .left-is)
+        ∙ used-shifted (suc n) (suc (suc n)) es (b .inv .sane .kept) (sane′ .kept)
+        ∙ sym (used-is base p (b .inv))
 
     pub twins : Twins k (p .session) (q .session)
-    twins = subst (λ (s : Session). Twins k s (q .session)) (sym here) (subst (Twins k (byHistory base es n rs)) (sym there-is) both-sides)
+    twins = record {
+      held-is = held-is base q (b .inv′) ∙ record-there ∙ ap (shiftedRecord k) (sym (held-is base p (b .inv)));
+      worked-is = worked-is base q (b .inv′) ∙ ap workedOf record-there ∙ worked-shifted (applied base es) ∙ sym (worked-is base p (b .inv));
+      next-is = next-is base q (b .inv′) ∙ ap suc (b .made-is) ∙ ap suc (sym (next-is base p (b .inv)));
+      used-is = used-there;
+    }
 
-    rooms : (e : Edit) → noRoom (length (byHistory base (there-edits es) (suc n) rs′ .journal)) (byHistory base (there-edits es) (suc n) rs′ .used) (kindOf (shiftedEdit k e .change))
-        ≡ noRoom (length (byHistory base es n rs .journal)) (byHistory base es n rs .used) (kindOf (e .change))
-    unfolding byHistory standing byWay withHeld shiftedEdit
-    rooms e =
-        let long = length-padded (journalOf base (there-edits es)) (omega (arith, sane′ .fits)) ∙ sym (length-padded (journalOf base es) (omega (arith, b .inv .sane .fits))) in
-        λ i. noRoom (long i) (both-sides .used-is i) (kind-shifted k (e .change) i)
+    -- both journals are as long
+    journal-long : (r : Run) (v : Inv base r) → length (r .session .journal) ≡ 2048
+    journal-long r v = ap length (journal-is base r v) ∙ length-padded (journalOf base (left (r .marks))) (omega (arith, v .sane .fits))
 
     full-is : (e : Edit) → carriedOf (q .session) (shiftedEdit k e) .full ≡ carriedOf (p .session) e .full
+    unfolding shiftedEdit
     full-is e =
-        ap (λ (s : Session). carriedOf s (shiftedEdit k e) .full) there-is
-        ∙ full-by-kind (byHistory base (there-edits es) (suc n) rs′) (shiftedEdit k e)
-        ∙ rooms e
-        ∙ sym (full-by-kind (byHistory base es n rs) e)
-        ∙ ap (λ (s : Session). carriedOf s e .full) (sym here)
+        full-by-kind (q .session) (shiftedEdit k e)
+        ∙ (λ i. noRoom ((journal-long q (b .inv′) ∙ sym (journal-long p (b .inv))) i) (used-there i) (kind-shifted k (e .change) i))
+        ∙ sym (full-by-kind (p .session) e)
 
     from-next : k ≤ p .session .next
     from-next = omega (arith, b .from-k, next-is base p (b .inv))
 
-    answers : undoCall (q .session) .answer ≡ undoCall (p .session) .answer
-    answers = ap (λ (s : Session). undoCall s .answer) there-is ∙ undo-shifted es n rs rs′ (b .inv .sane) sane′ .0 ∙ ap (λ (s : Session). undoCall s .answer) (sym here)
-
-    kinds : undoCall (q .session) .kind ≡ undoCall (p .session) .kind
-    kinds = ap (λ (s : Session). undoCall s .kind) there-is ∙ undo-shifted es n rs rs′ (b .inv .sane) sane′ .1 ∙ ap (λ (s : Session). undoCall s .kind) (sym here)
+    undo-both : AlikeAsks k (p .session) (moveAsks Before (p .session)) (moveAsks Before (q .session))
+    undo-both =
+        both-asked (p .session) (ap (moveAsks Before) (b .inv .is)) (ap (moveAsks Before) there-is)
+        (undo-shifted (p .session) (p .session) (q .session) es (suc n) rs rs′ (b .inv .sane) sane′)
 
     -- one call
     both-hear : (c c′ : Call) → SameWish k c c′ → OfBytes c
         → IdsEnd (p .session) (q .session) c c′ ⊎ (Alike k (p .session) (said (p .session) c) (said (q .session) c′) × (deed (q .session) c′ ≡ shiftedDeed k (deed (p .session) c)))
-    both-hear = heard k low (p .session) (q .session) twins from-next (formed base p (b .inv)) (formed base q (b .inv′)) full-is answers kinds
+    both-hear = heard k low (p .session) (q .session) twins from-next (formed base p (b .inv)) (formed base q (b .inv′)) full-is undo-both
 
   -- ---- the marks after it
 

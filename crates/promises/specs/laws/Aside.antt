@@ -1,39 +1,36 @@
--- Two sessions that differ in what can be redone: any call but redo says and does the same on both. Assumes nothing.
+-- Two sessions that differ in what can be redone: any call but redo asks, says and does the same on both. Assumes nothing.
 use Prim.Native.Nat.{ℕ, suc, _+_}
-use mathlib.Core.Bool.{Bool, true, false, cond, not, true≢false}
 use mathlib.Core.Path.{_≡_, refl, sym, ap, ap₂, subst, _∙_}
 use mathlib.Core.List.{List, [], _∷_}
 use native.Mathlib.Omega.{arith}
-use lib.Dec.{eqb}
-use lib.ListN.{length, getD}
+use lib.ListN.{length}
 use Rattle.wire.specs.laws.Cases.{cond-elim}
+use Rattle.record.specs.Record.{workedOf}
 use Rattle.record.specs.declared.Record.{Record}
-use Rattle.change.specs.Change.{noTables, inverseOf}
+use Rattle.change.specs.Change.{kindOf}
 use Rattle.change.specs.declared.Edit.{Edit}
-use Rattle.change.specs.declared.Tables.{Tables}
-use Rattle.journal.specs.Add.{endOf}
 use Rattle.journal.specs.Ways.{byWay}
-use Rattle.journal.specs.declared.End.{End}
-use Rattle.journal.specs.declared.End.the-variants.{At, Full}
-use Rattle.occ.specs.declared.Judged.{Judged}
-use Rattle.occ.specs.declared.Verdict.{Verdict}
-use Rattle.occ.specs.declared.Verdict.the-variants.{Refuse, Poll, Make}
-use Rattle.sbe.specs.Mailbox as mailbox
-use Rattle.sbe.specs.declared.Ruling.{Ruling}
-use Rattle.sbe.specs.declared.Ruling.the-variants.{Decline, Grant}
-use Rattle.session.specs.Session.{wellFormed, withHeld, carriedTo, carriedOf, madeOf}
+use Rattle.journal.specs.declared.Way.the-variants.{Before, After}
+use Rattle.session.specs.Session.{wellFormed, carriedOf, madeOf}
+use Rattle.session.specs.Road.{Asks, refuses, tells, makes, moves, due, settled}
+use Rattle.session.specs.laws.Road.{Speaks}
 use Rattle.session.specs.declared.Session.{Session}
 use Rattle.occ_call.specs.Occ as occs
+use Rattle.occ_call.specs.laws.Speaks.{occ-speaks}
 use Rattle.sbe_call.specs.Sbe as sbes
-use Rattle.undo_call.specs.Undo.{Moved, notMoved, undoCall}
-use Rattle.promises.specs.Calls.{Call, occ, sbe, undo, redo, said}
+use Rattle.sbe_call.specs.laws.Speaks.{sbe-speaks}
+use Rattle.undo_call.specs.Undo.{moveAsks}
+use Rattle.promises.specs.Calls.{Call, occ, sbe, undo, redo, bufferOf, asks, said}
 use Rattle.promises.specs.Marks.{Mark, left, logsMade}
-use Rattle.promises.specs.History.{Deed, keeps, adds, strikes, unstrikes, adding, occVerdict, occJudgement, sbeRuling, deed, marked, Run, did, next-run, OfBytes}
+use Rattle.promises.specs.History.{Deed, keeps, adds, strikes, unstrikes, adding, deedBy, deed, marked, applied, Run, did, next-run, OfBytes}
 use Rattle.promises.specs.NoTrace.{ButRedo, SameSaid, AsBefore, AllButRedo}
 use Rattle.promises.specs.laws.Marks.{tail, left-change, left-strike, logs-strike}
-use Rattle.promises.specs.laws.ByHistory.{standing, byHistory, Sane}
-use Rattle.promises.specs.laws.Steps.{undo-history, undo-nothing}
-use Rattle.promises.specs.laws.Demand3.{redoable, Inv, formed, next-inv}
+use Rattle.promises.specs.laws.Stores.{padded}
+use Rattle.promises.specs.laws.ByHistory.{journalOf, byHistory, Sane}
+use Rattle.promises.specs.laws.Steps.{undo-asks, undo-nothing}
+use Rattle.promises.specs.laws.Settled.{noRoom, full-by-kind, same-settled}
+use Rattle.promises.specs.laws.UndoDemands.{Called, ill-formed, empty, barred, goes, called}
+use Rattle.promises.specs.laws.Demand3.{redoable, Inv, formed, held-is, next-is, worked-is, journal-is, used-is, next-inv}
 
 -- ---- a call but redo doesn't unstrike
 
@@ -43,26 +40,25 @@ NotRedo (adds e) = Unit {0}
 NotRedo strikes = Unit {0}
 NotRedo unstrikes = ⊥
 
-adding-not : (s : Session) (e : Edit) → NotRedo (adding s e)
-unfolding adding
-adding-not s e = cond-elim NotRedo (carriedOf s e .full) tt tt
+deed-not : (s : Session) (d : List ℕ) (bell : ℕ) (y : List ℕ) (a : Asks) → Speaks s d bell y a → NotRedo (deedBy s a)
+unfolding deedBy adding
+deed-not s d bell y (refuses n) h = tt
+deed-not s d bell y (tells b z) h = tt
+deed-not s d bell y (makes e b z) h = cond-elim NotRedo (carriedOf s e .full) tt tt
+deed-not s d bell y (moves w at e) h = absurd h
 
-verdict-not : (s : Session) (t : Tables) (v : Verdict) → NotRedo (occVerdict s t v)
-unfolding occVerdict
-verdict-not s t (Refuse status) = tt
-verdict-not s t Poll = tt
-verdict-not s t (Make ch) = adding-not s (record { change = ch; tables = t })
-
-request-not : (s : Session) (v : Ruling) → NotRedo (sbeRuling s v)
-unfolding sbeRuling
-request-not s (Decline primary secondary) = tt
-request-not s (Grant ch) = adding-not s (record { change = ch; tables = noTables })
+undo-not : (s : Session) (a : Asks) → Called Before s a → NotRedo (deedBy s a)
+unfolding deedBy byWay
+undo-not s a (ill-formed h) = tt
+undo-not s a (empty x z) = tt
+undo-not s a (barred x e n bar) = tt
+undo-not s a (goes x e n u) = tt
 
 pub not-redo : (s : Session) (c : Call) → ButRedo c → NotRedo (deed s c)
-unfolding deed occJudgement
-not-redo s (occ sender c d) h = cond-elim NotRedo (not (eqb (occs.occRefusal s sender (length c) (length d)) 0)) tt (verdict-not s _ _)
-not-redo s (sbe r d) h = cond-elim NotRedo (not (eqb (sbes.sbeRefusal s (length r) (length d)) 0)) tt (request-not s _)
-not-redo s undo h = cond-elim NotRedo (eqb (undoCall s .answer) 0) tt tt
+unfolding deed asks
+not-redo s (occ sender c d) h = deed-not s d _ _ _ (occ-speaks s sender c d)
+not-redo s (sbe r d) h = deed-not s d _ _ _ (sbe-speaks s r d)
+not-redo s undo h = undo-not s (moveAsks Before s) (called Before s)
 not-redo s redo h = absurd h
 
 -- ---- what is left and the logs made after it go by what was left and made
@@ -93,113 +89,6 @@ made-after undos ms (adds e) h = refl
 made-after undos ms strikes h = logs-strike (suc undos) ms
 made-after undos ms unstrikes h = absurd h
 
--- ---- one call on two sessions that differ in the redo store
-
-by-same : {A : Type 0} (Q : A → A → Type 0) (x y : Bool) → y ≡ x → {a b c d : A} → Q a c → Q b d → Q (cond x a b) (cond y c d)
-by-same Q true true e p q = p
-by-same Q false false e p q = q
-by-same Q true false e p q = absurd (true≢false (sym e))
-by-same Q false true e p q = absurd (true≢false e)
-
-unfoldable pub withRedo : Session → List ℕ → ℕ → Session
-withRedo s store used = record { held = s .held; worked = s .worked; next = s .next; journal = s .journal; used = s .used; redo = store; ahead = used }
-
-module _ (s : Session) (r : List ℕ) (a : ℕ) (formed-s : wellFormed s ≡ true) (formed-t : wellFormed (withRedo s r a) ≡ true) where
-  abbrev t : Session
-  t = withRedo s r a
-
-  same-full : (e : Edit) → carriedOf t e .full ≡ carriedOf s e .full
-  unfolding carriedOf carriedTo withRedo
-  same-full e = go (endOf (length (s .journal)) (s .used) (inverseOf (s .held) e))
-    where
-      go : (x : End) → carriedTo t e x .full ≡ carriedTo s e x .full
-      go (At used) = refl
-      go Full = refl
-
-  same-adding : (e : Edit) → adding t e ≡ adding s e
-  unfolding adding
-  same-adding e = ap (λ (b : Bool). cond b keeps (adds e)) (same-full e)
-
-  -- ---- OCC
-
-  abbrev OccAlike : occs.OccResult → occs.OccResult → Type 0
-  OccAlike x y = (y .outcome .answer ≡ x .outcome .answer) × (y .reply ≡ x .reply)
-
-  abbrev OccSame : occs.OccResult → Deed → occs.OccResult → Deed → Type 0
-  OccSame x d y d′ = OccAlike x y × (d′ ≡ d)
-
-  module _ (sender : ℕ) (c d : List ℕ) where
-    abbrev j : Judged
-    j = occs.askedOf (s .held) (s .worked) (s .next) sender c
-
-    occ-makes : (e : Edit) → OccSame (occs.occMade s e (getD c 0 0) (getD c 1 0) d) (adding s e) (occs.occMade t e (getD c 0 0) (getD c 1 0) d) (adding t e)
-    unfolding occs.occMade occs.carriedSays occs.kept occs.says occs.answered
-    occ-makes e = (by-same OccAlike (carriedOf s e .full) (carriedOf t e .full) (same-full e) (refl, refl) (refl, refl), same-adding e)
-
-    occ-verdict : (b : Tables) (v : Verdict)
-        → OccSame (occs.verdictSays s (getD c 0 0) (getD c 1 0) d b v) (occVerdict s b v) (occs.verdictSays t (getD c 0 0) (getD c 1 0) d b v) (occVerdict t b v)
-    unfolding occs.verdictSays occs.says occs.answered occVerdict withRedo
-    occ-verdict b (Refuse status) = ((refl, refl), refl)
-    occ-verdict b Poll = ((refl, refl), refl)
-    occ-verdict b (Make ch) = occ-makes (record { change = ch; tables = b })
-
-    occ-from : (n : ℕ) → OccSame (occs.occFrom n s sender c d) (cond (not (eqb n 0)) keeps (occJudgement s j)) (occs.occFrom n t sender c d) (cond (not (eqb n 0)) keeps (occJudgement t j))
-    unfolding occs.occFrom occs.occRead occs.judgedSays occs.kept occs.answered occJudgement withRedo
-    occ-from n = go (not (eqb n 0))
-      where
-        go : (b : Bool) → OccSame (cond b (occs.kept n s d) (occs.judgedSays s (getD c 0 0) (getD c 1 0) d j)) (cond b keeps (occJudgement s j))
-            (cond b (occs.kept n t d) (occs.judgedSays t (getD c 0 0) (getD c 1 0) d j)) (cond b keeps (occJudgement t j))
-        go true = ((refl, refl), refl)
-        go false = occ-verdict (j .tables) (j .verdict)
-
-    occ-same : OccSame (occs.occCall s sender c d) (deed s (occ sender c d)) (occs.occCall t sender c d) (deed t (occ sender c d))
-    unfolding occs.occCall occs.occRefusal deed withRedo
-    occ-same =
-        subst (λ (b : Bool). OccSame (occs.occCall s sender c d) (deed s (occ sender c d)) (occs.occFrom (occs.refusalOf b sender (length c) (length d)) t sender c d)
-        (cond (not (eqb (occs.refusalOf b sender (length c) (length d)) 0)) keeps (occJudgement t j)))
-        (formed-s ∙ sym formed-t) (occ-from (occs.refusalOf (wellFormed s) sender (length c) (length d)))
-
-  -- ---- SBE
-
-  abbrev SbeAlike : sbes.SbeResult → sbes.SbeResult → Type 0
-  SbeAlike x y = (y .outcome .answer ≡ x .outcome .answer) × (y .outcome .bell ≡ x .outcome .bell) × (y .reply ≡ x .reply)
-
-  abbrev SbeSame : sbes.SbeResult → Deed → sbes.SbeResult → Deed → Type 0
-  SbeSame x d y d′ = SbeAlike x y × (d′ ≡ d)
-
-  module _ (q d : List ℕ) where
-    sbe-ruling : (v : Ruling) → SbeSame (sbes.rulingSays s q d v) (sbeRuling s v) (sbes.rulingSays t q d v) (sbeRuling t v)
-    unfolding sbes.rulingSays sbes.sbeMade sbes.carriedSays sbes.kept sbes.responds sbes.rung sbeRuling
-    sbe-ruling (Decline primary secondary) = ((refl, refl, refl), refl)
-    sbe-ruling (Grant ch) =
-        let e : Edit = record { change = ch; tables = noTables } in
-        (by-same SbeAlike (carriedOf s e .full) (carriedOf t e .full) (same-full e) (refl, refl, refl) (refl, refl, refl), same-adding e)
-
-    sbe-from : (n : ℕ) → SbeSame (sbes.sbeFrom n s q d) (cond (not (eqb n 0)) keeps (sbeRuling s (mailbox.requestRuling q))) (sbes.sbeFrom n t q d) (cond (not (eqb n 0)) keeps (sbeRuling t (mailbox.requestRuling q)))
-    unfolding sbes.sbeFrom sbes.sbeRead sbes.kept sbes.rung
-    sbe-from n = go (not (eqb n 0))
-      where
-        go : (b : Bool) → SbeSame (cond b (sbes.kept n s d) (sbes.rulingSays s q d (mailbox.requestRuling q))) (cond b keeps (sbeRuling s (mailbox.requestRuling q)))
-            (cond b (sbes.kept n t d) (sbes.rulingSays t q d (mailbox.requestRuling q))) (cond b keeps (sbeRuling t (mailbox.requestRuling q)))
-        go true = ((refl, refl, refl), refl)
-        go false = sbe-ruling (mailbox.requestRuling q)
-
-    sbe-same : SbeSame (sbes.sbeCall s q d) (deed s (sbe q d)) (sbes.sbeCall t q d) (deed t (sbe q d))
-    unfolding sbes.sbeCall sbes.sbeRefusal deed
-    sbe-same =
-        subst (λ (b : Bool). SbeSame (sbes.sbeCall s q d) (deed s (sbe q d)) (sbes.sbeFrom (sbes.refusalOf b (length q) (length d)) t q d)
-        (cond (not (eqb (sbes.refusalOf b (length q) (length d)) 0)) keeps (sbeRuling t (mailbox.requestRuling q))))
-        (formed-s ∙ sym formed-t) (sbe-from (sbes.refusalOf (wellFormed s) (length q) (length d)))
-
-  -- ---- any call but redo
-
-  pub same-said : undoCall t .answer ≡ undoCall s .answer → undoCall t .kind ≡ undoCall s .kind → (c : Call) → ButRedo c → SameSaid (said s c) (said t c) × (deed t c ≡ deed s c)
-  unfolding said deed
-  same-said answer kind (occ sender c d) h = let o = occ-same sender c d in (record { answer = o .0 .0; bell = refl; kind = refl; reply = o .0 .1 }, o .1)
-  same-said answer kind (sbe q d) h = let o = sbe-same q d in (record { answer = o .0 .0; bell = o .0 .1; kind = refl; reply = o .0 .2 }, o .1)
-  same-said answer kind undo h = (record { answer = answer; bell = refl; kind = kind; reply = refl }, ap (λ (n : ℕ). cond (eqb n 0) strikes keeps) answer)
-  same-said answer kind redo h = absurd h
-
 -- ---- two runs with the same changes left and as many logs made: any calls but redo
 
 module _ (base : Record) where
@@ -209,50 +98,63 @@ module _ (base : Record) where
     pub left-is : left (q .marks) ≡ left (p .marks)
     pub made-is : logsMade (q .marks) ≡ logsMade (p .marks)
 
-  -- undo says the same, whatever can be redone
-  undo-same : (es : List Edit) (n : ℕ) (rs rs′ : List Edit) → Sane base es n rs → Sane base es n rs′
-      → (undoCall (byHistory base es n rs′) .answer ≡ undoCall (byHistory base es n rs) .answer) × (undoCall (byHistory base es n rs′) .kind ≡ undoCall (byHistory base es n rs) .kind)
-  unfolding notMoved
-  undo-same [] n rs rs′ g g′ =
-      let x = undo-nothing base n rs g in
-      let y = undo-nothing base n rs′ g′ in
-      (ap (λ (m : Moved). m .answer) y ∙ sym (ap (λ (m : Moved). m .answer) x), ap (λ (m : Moved). m .kind) y ∙ sym (ap (λ (m : Moved). m .kind) x))
-  undo-same (e ∷ es) n rs rs′ g g′ =
-      let x = undo-history base e es n rs g in
-      let y = undo-history base e es n rs′ g′ in
-      (ap (λ (m : Moved). m .answer) y ∙ sym (ap (λ (m : Moved). m .answer) x), ap (λ (m : Moved). m .kind) y ∙ sym (ap (λ (m : Moved). m .kind) x))
+  -- undo asks the same, whatever can be redone
+  undo-same : (s t : Session) (es : List Edit) (next : ℕ) (rs rs′ : List Edit) → Sane base es next rs → Sane base es next rs′
+      → moveAsks Before (byHistory base t es next rs′) ≡ moveAsks Before (byHistory base s es next rs)
+  undo-same s t [] next rs rs′ g g′ = undo-nothing base t next rs′ g′ ∙ sym (undo-nothing base s next rs g)
+  undo-same s t (e ∷ es) next rs rs′ g g′ = undo-asks base t e es next rs′ g′ ∙ sym (undo-asks base s e es next rs g)
 
   module _ (p q : Run) (b : Aside p q) where
     abbrev es : List Edit
     es = left (p .marks)
 
-    abbrev n : ℕ
-    n = logsMade (p .marks)
+    abbrev next : ℕ
+    next = suc (logsMade (p .marks))
 
-    there-is : q .session ≡ byHistory base es n (redoable base q)
-    there-is = b .inv′ .is ∙ (λ i. byHistory base (b .left-is i) (b .made-is i) (redoable base q))
+    there-is : q .session ≡ byHistory base (q .session) es next (redoable base q)
+    there-is = b .inv′ .is ∙ (λ i. byHistory base (q .session) (b .left-is i) (suc (b .made-is i)) (redoable base q))
 
-    sane′ : Sane base es n (redoable base q)
-    sane′ = subst (λ (x : List Edit). Sane base x n (redoable base q)) (b .left-is) (subst (λ (m : ℕ). Sane base (left (q .marks)) m (redoable base q)) (b .made-is) (b .inv′ .sane))
+    sane′ : Sane base es next (redoable base q)
+    sane′ =
+        subst (λ (x : List Edit). Sane base x next (redoable base q)) (b .left-is)
+        (subst (λ (m : ℕ). Sane base (left (q .marks)) (suc m) (redoable base q)) (b .made-is) (b .inv′ .sane))
 
-    -- the second session is the first with another redo store
-    redo-only : q .session ≡ withRedo (p .session) (byHistory base es n (redoable base q) .redo) (byHistory base es n (redoable base q) .ahead)
-    unfolding byHistory standing byWay withHeld withRedo
-    redo-only = there-is ∙ sym (ap (λ (s : Session). withRedo s (byHistory base es n (redoable base q) .redo) (byHistory base es n (redoable base q) .ahead)) (b .inv .is))
+    -- the second session differs from the first in what can be redone
+    held-same : q .session .held ≡ p .session .held
+    held-same = held-is base q (b .inv′) ∙ ap (applied base) (b .left-is) ∙ sym (held-is base p (b .inv))
 
-    answers : undoCall (q .session) .answer ≡ undoCall (p .session) .answer
-    answers = ap (λ (s : Session). undoCall s .answer) there-is ∙ undo-same es n (redoable base p) (redoable base q) (b .inv .sane) sane′ .0 ∙ ap (λ (s : Session). undoCall s .answer) (sym (b .inv .is))
+    worked-same : q .session .worked ≡ p .session .worked
+    worked-same = worked-is base q (b .inv′) ∙ ap (λ (l : List Edit). workedOf (applied base l)) (b .left-is) ∙ sym (worked-is base p (b .inv))
 
-    kinds : undoCall (q .session) .kind ≡ undoCall (p .session) .kind
-    kinds = ap (λ (s : Session). undoCall s .kind) there-is ∙ undo-same es n (redoable base p) (redoable base q) (b .inv .sane) sane′ .1 ∙ ap (λ (s : Session). undoCall s .kind) (sym (b .inv .is))
+    next-same : q .session .next ≡ p .session .next
+    next-same = next-is base q (b .inv′) ∙ ap suc (b .made-is) ∙ sym (next-is base p (b .inv))
+
+    formed-same : wellFormed (q .session) ≡ wellFormed (p .session)
+    formed-same = formed base q (b .inv′) ∙ sym (formed base p (b .inv))
+
+    full-same : (e : Edit) → carriedOf (q .session) e .full ≡ carriedOf (p .session) e .full
+    full-same e =
+        full-by-kind (q .session) e
+        ∙ (λ i.
+        noRoom (length ((journal-is base q (b .inv′) ∙ ap (λ (l : List Edit). padded (journalOf base l)) (b .left-is) ∙ sym (journal-is base p (b .inv))) i))
+        ((used-is base q (b .inv′) ∙ ap (λ (l : List Edit). length (journalOf base l)) (b .left-is) ∙ sym (used-is base p (b .inv))) i) (kindOf (e .change)))
+        ∙ sym (full-by-kind (p .session) e)
+
+    -- so the same is asked of both
+    same-asks : (c : Call) → ButRedo c → asks (q .session) c ≡ asks (p .session) c
+    unfolding asks occs.occAsks occs.occRefusal sbes.sbeAsks sbes.sbeRefusal
+    same-asks (occ sender c d) h = λ i.
+        due (occs.refusalOf (formed-same i) sender (length c) (length d)) (occs.occRead (held-same i) (worked-same i) (next-same i) sender c d)
+    same-asks (sbe r d) h = λ i. due (sbes.refusalOf (formed-same i) (length r) (length d)) (sbes.sbeRead r d)
+    same-asks undo h =
+        ap (moveAsks Before) there-is ∙ undo-same (p .session) (q .session) es next (redoable base p) (redoable base q) (b .inv .sane) sane′ ∙ ap (moveAsks Before) (sym (b .inv .is))
+    same-asks redo h = absurd h
 
     aside-said : (c : Call) → ButRedo c → SameSaid (said (p .session) c) (said (q .session) c) × (deed (q .session) c ≡ deed (p .session) c)
+    unfolding said deed
     aside-said c h =
-        let r = byHistory base es n (redoable base q) .redo in
-        let a = byHistory base es n (redoable base q) .ahead in
-        subst (λ (t : Session). SameSaid (said (p .session) c) (said t c) × (deed t c ≡ deed (p .session) c)) (sym redo-only)
-        (same-said (p .session) r a (formed base p (b .inv)) (ap wellFormed (sym redo-only) ∙ formed base q (b .inv′))
-        (ap (λ (t : Session). undoCall t .answer) (sym redo-only) ∙ answers) (ap (λ (t : Session). undoCall t .kind) (sym redo-only) ∙ kinds) c h)
+        subst (λ (a : Asks). SameSaid (said (p .session) c) (settled (q .session) (bufferOf c) a) × (deedBy (q .session) a ≡ deed (p .session) c)) (sym (same-asks c h))
+        (same-settled (p .session) (q .session) full-same (bufferOf c) (asks (p .session) c))
 
     next-aside : (c : Call) → ButRedo c → OfBytes c → Aside (next-run p c) (next-run q c)
     unfolding next-run did

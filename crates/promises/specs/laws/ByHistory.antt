@@ -1,8 +1,8 @@
--- A session by its history: the changes that are left, those that can be redone and the number of logs ever made determine it, byte for byte.
--- Assumes nothing.
-use Prim.Native.Nat.{ℕ, suc, _+_, _≤_}
+-- A session by its history: the changes that are left, those that can be redone and the next id determine it, byte for byte, but for what no
+-- change touches. Assumes nothing.
+use Prim.Native.Nat.{ℕ, _+_, _≤_}
 use mathlib.Core.Bool.{true}
-use mathlib.Core.Path.{_≡_, refl}
+use mathlib.Core.Path.{_≡_, refl, sym, ap, _∙_}
 use mathlib.Core.List.{List, [], _∷_}
 use native.Mathlib.Omega.{arith}
 use lib.ListN.{length}
@@ -13,7 +13,7 @@ use Rattle.formed.specs.Formed.{recordOk}
 use Rattle.journal.specs.declared.Way.{Way}
 use Rattle.journal.specs.declared.Way.the-variants.{Before, After}
 use Rattle.journal.specs.Ways.{byWay}
-use Rattle.session.specs.Session.{wellFormed, withHeld, madeOf}
+use Rattle.session.specs.Session.{wellFormed, renewed, madeOf}
 use Rattle.session.specs.laws.Session.{formed-ok}
 use Rattle.session.specs.declared.Session.{Session}
 use Rattle.links.specs.Typed.{TypedRecord}
@@ -22,10 +22,10 @@ use Rattle.links.specs.laws.Links.{Link, next-up}
 use Rattle.promises.specs.History.{applied}
 use Rattle.promises.specs.laws.Stores.{padded, flat, AllStored, flat-formed}
 
--- a session with these entries in the store that a way takes from, and those in the other one
-unfoldable pub standing : Way → Record → ℕ → List Edit → List Edit → Session
-standing w r next from to =
-    withHeld r next (byWay w (padded (flat from)) (padded (flat to))) (byWay w (length (flat from)) (length (flat to)))
+-- the session s with these entries in the store that a way takes from, and those in the other one
+unfoldable pub standing : Way → Session → Record → ℕ → List Edit → List Edit → Session
+standing w s r next from to =
+    renewed s r next (byWay w (padded (flat from)) (padded (flat to))) (byWay w (length (flat from)) (length (flat to)))
     (byWay w (padded (flat to)) (padded (flat from))) (byWay w (length (flat to)) (length (flat from)))
 
 module _ (base : Record) where
@@ -38,8 +38,16 @@ module _ (base : Record) where
   journalOf es = flat (backs es)
 
   -- es are left; rs can be redone, the last struck first: what was after is the change itself
-  unfoldable pub byHistory : List Edit → ℕ → List Edit → Session
-  byHistory es n rs = standing Before (applied base es) (suc n) (backs es) rs
+  unfoldable pub byHistory : Session → List Edit → ℕ → List Edit → Session
+  byHistory s es next rs = standing Before s (applied base es) next (backs es) rs
+
+  -- what no change touches is the session's own
+  own-kept : (s : Session) (es : List Edit) (next : ℕ) (rs : List Edit) → byHistory s es next rs ≡ byHistory (byHistory s es next rs) es next rs
+  unfolding byHistory standing renewed
+  own-kept s es next rs = refl
+
+  pub own-history : (s t : Session) (es : List Edit) (next : ℕ) (rs : List Edit) → t ≡ byHistory s es next rs → t ≡ byHistory t es next rs
+  own-history s t es next rs e = e ∙ own-kept s es next rs ∙ ap (λ (x : Session). byHistory x es next rs) (sym e)
 
   -- each change that is left is undone by its entry, and the record before it is well formed at the next id hi
   pub record Step (hi : ℕ) (e : Edit) (es : List Edit) : Type 0 where
@@ -59,13 +67,13 @@ module _ (base : Record) where
   Again hi es [] = Unit {0}
   Again hi es (r ∷ rs) = Step hi r es × Again hi (r ∷ es) rs
 
-  pub record Sane (es : List Edit) (n : ℕ) (rs : List Edit) : Type 0 where
-    pub small : suc n ≤ 256
+  pub record Sane (es : List Edit) (next : ℕ) (rs : List Edit) : Type 0 where
+    pub small : next ≤ 256
     pub fits : length (journalOf es) + length (flat rs) ≤ 2048
-    pub ok : recordOk (applied base es) (suc n) ≡ true
+    pub ok : recordOk (applied base es) next ≡ true
     pub typed : TypedRecord (applied base es)
-    pub kept : Kept (suc n) es
-    pub again : Again (suc n) es rs
+    pub kept : Kept next es
+    pub again : Again next es rs
 
   pub kept-up : (hi hi′ : ℕ) (es : List Edit) → hi ≤ hi′ → hi′ ≤ 256 → Kept hi es → Kept hi′ es
   kept-up hi hi′ [] h k w = tt
@@ -83,13 +91,13 @@ module _ (base : Record) where
   again-stored hi es [] k = tt
   again-stored hi es (r ∷ rs) k = let l = k .0 .links in (record { writable = l .here-writable; good = l .redo-good; reads = l .redo-reads }, again-stored hi (r ∷ es) rs (k .1))
 
-  pub history-formed : (es : List Edit) (n : ℕ) (rs : List Edit) → Sane es n rs → wellFormed (byHistory es n rs) ≡ true
-  unfolding byHistory standing byWay withHeld
-  history-formed es n rs g =
-      formed-ok (byHistory es n rs) (record {
+  pub history-formed : (s : Session) (es : List Edit) (next : ℕ) (rs : List Edit) → Sane es next rs → wellFormed (byHistory s es next rs) ≡ true
+  unfolding byHistory standing byWay renewed
+  history-formed s es next rs g =
+      formed-ok (byHistory s es next rs) (record {
         record-ok = g .ok;
         worked-is = refl;
         both-fit = g .fits;
-        journal = flat-formed Before (backs es) (backs-stored (suc n) es (g .kept)) (omega (arith, g .fits));
-        redo = flat-formed After rs (again-stored (suc n) es rs (g .again)) (omega (arith, g .fits));
+        journal = flat-formed Before (backs es) (backs-stored next es (g .kept)) (omega (arith, g .fits));
+        redo = flat-formed After rs (again-stored next es rs (g .again)) (omega (arith, g .fits));
       })

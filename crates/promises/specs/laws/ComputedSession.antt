@@ -10,8 +10,9 @@ use Rattle.entries.specs.Entries.{bodyLen, bytesOf, written, withKind, journalT
 use Rattle.journal.specs.Add.{endOf, addedTo, cutFrom}
 use Rattle.journal.specs.Bytes.{clearedBody, capsBody, throttlesBody, deadmanBody, areaBytes, areasBody, bodyOf, entryFor, entryBytes}
 use Rattle.journal.specs.Read.{capsAt, areaAt, throttlesFrom, foundFor, tablesIn, badGot, gotFor, gotOf, valuesOk, gotOk, entryOk, allOk, scanOk, entriesOk, clearedAs, resetAs}
-use Rattle.session.specs.Session.{freshSession, workedFits, heldOk, storeOk, storesOk, wellFormed, madeOf, withHeld, carriedTo, carriedOf}
+use Rattle.session.specs.Session.{freshSession, workedFits, heldOk, storeOk, storesOk, wellFormed, madeOf, renewed, carriedTo, carriedOf}
+use Rattle.session.specs.Road.{due, storeOf, usedOf, lessened, grown, grownTo, sessionMoved, kept, done, carriedSays, settled}
 
 unfoldable pub computedSession : ℕ
-unfolding sumOf packetSum beOnto beNat toBE pasted allAre freshRecord clamped limitOf observationReady activeReady capsMissing wantedOf flagOf workedOf accepted clearOf unclearOf resetOf unresetOf putWith putOf lastOf madeBy madeAgain backOf kindOf tablesFor inverseOf pendingOf firstWith findOf removeAt insertAt pendsAt withState withRole withCaps withThrottles withUser withThermal withLogs withMask withDeadman withAreas stateOk flagOk roleOk capsOk deadmanOk pairOk pairsOk absentZero throttlesOk multipleOf128 inMemory areaOk areasOk fieldsOk inOrder thermalRule thermalOk nextOk reasonOk unused logOk logsAbove logsOk recordOk clearedOk madeOk unresetOk changeOk editOk bodyLen bytesOf written withKind journalTable opened eat scanFrom scanBy newestAt readingOf endOf addedTo cutFrom clearedBody capsBody throttlesBody deadmanBody areaBytes areasBody bodyOf entryFor entryBytes capsAt areaAt throttlesFrom foundFor tablesIn badGot gotFor gotOf valuesOk gotOk entryOk allOk scanOk entriesOk clearedAs resetAs freshSession workedFits heldOk storeOk storesOk wellFormed madeOf withHeld carriedTo carriedOf
+unfolding sumOf packetSum beOnto beNat toBE pasted allAre freshRecord clamped limitOf observationReady activeReady capsMissing wantedOf flagOf workedOf accepted clearOf unclearOf resetOf unresetOf putWith putOf lastOf madeBy madeAgain backOf kindOf tablesFor inverseOf pendingOf firstWith findOf removeAt insertAt pendsAt withState withRole withCaps withThrottles withUser withThermal withLogs withMask withDeadman withAreas stateOk flagOk roleOk capsOk deadmanOk pairOk pairsOk absentZero throttlesOk multipleOf128 inMemory areaOk areasOk fieldsOk inOrder thermalRule thermalOk nextOk reasonOk unused logOk logsAbove logsOk recordOk clearedOk madeOk unresetOk changeOk editOk bodyLen bytesOf written withKind journalTable opened eat scanFrom scanBy newestAt readingOf endOf addedTo cutFrom clearedBody capsBody throttlesBody deadmanBody areaBytes areasBody bodyOf entryFor entryBytes capsAt areaAt throttlesFrom foundFor tablesIn badGot gotFor gotOf valuesOk gotOk entryOk allOk scanOk entriesOk clearedAs resetAs freshSession workedFits heldOk storeOk storesOk wellFormed madeOf renewed carriedTo carriedOf due storeOf usedOf lessened grown grownTo sessionMoved kept done carriedSays settled
 computedSession = 0

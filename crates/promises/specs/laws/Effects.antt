@@ -26,21 +26,23 @@ use Rattle.journal.specs.Add.{endOf}
 use Rattle.journal.specs.laws.Ends.{length-entry, added}
 use Rattle.journal.specs.declared.End.{End}
 use Rattle.journal.specs.declared.End.the-variants.{At, Full}
-use Rattle.journal.specs.declared.Way.the-variants.{Before}
+use Rattle.journal.specs.declared.Way.the-variants.{Before, After}
+use Rattle.journal.specs.Ways.{byWay}
 use Rattle.packet.specs.Packet.{dataOf}
 use Rattle.occ.specs.declared.Verdict.the-variants.{Make}
 use Rattle.occ.specs.laws.Exactly.{found-there}
 use Rattle.sbe.specs.Mailbox.{responseBytes}
-use Rattle.session.specs.Session.{withHeld, madeOf, carriedTo, carriedOf}
+use Rattle.session.specs.Session.{renewed, madeOf, carriedTo, carriedOf}
+use Rattle.session.specs.Road.{Asks, refuses, tells, makes, moves, Said, kept, done, carriedSays, settled}
 use Rattle.session.specs.laws.Session.{Formed, formed}
 use Rattle.session.specs.declared.Session.{Session}
 use Rattle.occ_call.specs.Occ as occs
 use Rattle.sbe_call.specs.Sbe as sbes
-use Rattle.undo_call.specs.Undo.{undoCall, redoCall}
 use Rattle.links.specs.Typed.{TypedSession}
 use Rattle.links.specs.laws.Made.{Made}
-use Rattle.promises.specs.Calls.{Call, occ, sbe, undo, redo, said}
-use Rattle.promises.specs.History.{Deed, keeps, adds, strikes, unstrikes, deed}
+use Rattle.promises.specs.Calls.{Call, occ, sbe, bufferOf, asks, said}
+use Rattle.promises.specs.History.{Deed, keeps, adds, strikes, unstrikes, adding, deedBy, deed}
+use Rattle.promises.specs.laws.ByTest.{by-both}
 use Rattle.promises.specs.Demand1.{OccDue}
 use Rattle.promises.specs.Demand2.{atFront, NotPoll, successReply, OccSucceeds, SbeSucceeds}
 use Rattle.promises.specs.Effects.{becomes, OccEffect, poll, clear-log, set-state, set-role, set-caps, set-throttles, set-thermal, set-user, reset, reset-logged, SbeEffect, start-deadman, stop-deadman, set-mask, set-areas}
@@ -63,7 +65,7 @@ module _ (s : Session) (f : Formed s) (typed : TypedSession s) (e : Edit) (made 
       let w = l s f typed e made fits .back-writable in
       let j = added Before back (s .used) (s .journal) w (room s f typed e made fits) in
       session-is s f typed e made fits
-      ∙ (λ i. withHeld (putOf (s .held) e .after) (s .next + madeOf (e .change)) (j i) (s .used + sym (length-entry Before back w) i) (replicate 2048 0) 0)
+      ∙ (λ i. renewed s (putOf (s .held) e .after) (s .next + madeOf (e .change)) (j i) (s .used + sym (length-entry Before back w) i) (replicate 2048 0) 0)
 
   becomes-row : (held : Record) (next : ℕ) (entry : List ℕ) → putOf (s .held) e .after ≡ held → s .next + madeOf (e .change) ≡ next → entryBytes back ≡ entry
       → carriedOf s e .session ≡ becomes s held next entry
@@ -105,7 +107,7 @@ module _ (s : Session) (f : Formed s) (typed : TypedSession s) where
       unfolding putOf
       by-row held next entry p q x e = subst Effect (sym (becomes-row s f typed edit made fits held next entry p q x)) e
 
-    effect : (ch : Change) (t : Tables) → occ-asks.Asks r (s .next) type d (Make ch) t → Made r (s .next) t ch
+    effect : (ch : Change) (t : Tables) → occ-asks.CommandAsks r (s .next) type d (Make ch) t → Made r (s .next) t ch
         → (fits : carriedOf s (record { change = ch; tables = t }) .full ≡ false) → Effect (carriedOf s (record { change = ch; tables = t }) .session)
     unfolding putWith accepted madeOf entryBytes entryFor bytesOf bodyOf inverseOf backOf tablesFor kindOf resetOf madeBy
     effect ch t (occ-asks.clears e low) made fits =
@@ -123,26 +125,26 @@ module _ (s : Session) (f : Formed s) (typed : TypedSession s) where
         (reset-logged e due)
 
 -- two deeds that differ
-abbrev adding : Deed → Bool
-adding keeps = false
-adding (adds e) = true
-adding strikes = false
-adding unstrikes = false
+abbrev isAdded : Deed → Bool
+isAdded keeps = false
+isAdded (adds e) = true
+isAdded strikes = false
+isAdded unstrikes = false
 
 keeps-not : (e : Edit) → keeps ≡ adds e → ⊥
-keeps-not e p = false≢true (ap adding p)
+keeps-not e p = false≢true (ap isAdded p)
 
 strikes-not : (e : Edit) → strikes ≡ adds e → ⊥
-strikes-not e p = false≢true (ap adding p)
+strikes-not e p = false≢true (ap isAdded p)
 
 unstrikes-not : (e : Edit) → unstrikes ≡ adds e → ⊥
-unstrikes-not e p = false≢true (ap adding p)
+unstrikes-not e p = false≢true (ap isAdded p)
 
 same-edit : (a b : Edit) → adds a ≡ adds b → a ≡ b
 same-edit a b p = cc
 
 carried-held : (s : Session) (e : Edit) → carriedOf s e .full ≡ false → carriedOf s e .session .held ≡ putOf (s .held) e .after
-unfolding carriedOf carriedTo withHeld
+unfolding carriedOf carriedTo renewed
 carried-held s e fits = go (endOf (length (s .journal)) (s .used) (inverseOf (s .held) e)) fits
   where
     go : (x : End) → carriedTo s e x .full ≡ false → carriedTo s e x .session .held ≡ putOf (s .held) e .after
@@ -153,11 +155,11 @@ module _ (s : Session) (typed : TypedSession s) (sender : ℕ) (c d : List ℕ) 
   abbrev OccLeft : Session → Type 0
   OccLeft = OccEffect s (getD c 1 0) (dataOf c)
 
-  abbrev Done : occs.OccResult → Type 0
-  Done q = (q .outcome .answer ≡ 0) and (q .reply ≡ atFront (successReply s c) d)
+  abbrev Done : Said → Type 0
+  Done q = (q .answer ≡ 0) and (q .reply ≡ atFront (successReply s c) d)
 
-  heard-effect : Bytes c → OccDue s sender c d → (q : occs.OccResult) (e : Deed) → occ-ways.Heard s sender c d q e → Done q → OccLeft (q .outcome .session)
-  unfolding occs.kept occs.says occs.answered
+  heard-effect : Bytes c → OccDue s sender c d → (q : Said) (e : Deed) → occ-ways.Heard s sender c d q e → Done q → OccLeft (q .session)
+  unfolding kept done
   heard-effect b p q e (occ-ways.ill-read z) ok =
       absurd (z (well-read s typed sender c d p (heard-exactly s typed sender c d p q e (occ-ways.ill-read z) .0 ok .0)))
   heard-effect b p q e (occ-ways.declined z n v) ok =
@@ -169,15 +171,15 @@ module _ (s : Session) (typed : TypedSession s) (sender : ℕ) (c d : List ℕ) 
       effect s f typed (getD c 1 0) (dataOf c) ch _ (asked-as s typed sender c d p (Make ch) v)
       (occ-made (s .held) (s .worked) (s .next) sender (getD c 1 0) (dataOf c) (data-bytes c b) (f .record-ok) (typed .held) ch v) fits
 
-  called-effect : Bytes c → (q : occs.OccResult) (e : Deed) → occ-ways.Called s sender c d q e → Done q → OccLeft (q .outcome .session)
-  unfolding occs.kept occs.answered
+  called-effect : Bytes c → (q : Said) (e : Deed) → occ-ways.Called s sender c d q e → Done q → OccLeft (q .session)
+  unfolding kept
   called-effect b q e (occ-ways.ill-formed h) ok = absurd (omega (arith, ok .0))
   called-effect b q e (occ-ways.unknown w h) ok = absurd (omega (arith, ok .0))
   called-effect b q e (occ-ways.short-reply w k h) ok = absurd (omega (arith, ok .0))
   called-effect b q e (occ-ways.short-command w k g h) ok = absurd (omega (arith, ok .0))
-  called-effect b q e (occ-ways.due p x y h) ok = heard-effect b p x y h ok
+  called-effect b q e (occ-ways.answered p x y h) ok = heard-effect b p x y h ok
 
-  pub occ-effect : Bytes c → OccSucceeds s sender c d → OccLeft (occs.occCall s sender c d .outcome .session)
+  pub occ-effect : Bytes c → OccSucceeds s sender c d → OccLeft (occs.occCall s sender c d .session)
   unfolding OccSucceeds
   occ-effect b ok = called-effect b _ _ (occ-ways.called s sender c d) ok
 
@@ -189,19 +191,19 @@ module _ (s : Session) (typed : TypedSession s) (sender : ℕ) (c d : List ℕ) 
   kept-never : {P : Type 0} → Adds keeps → P
   kept-never a = absurd (keeps-not (a .0) (a .1))
 
-  called-deed : (q : occs.OccResult) (e : Deed) → occ-ways.Called s sender c d q e → Adds e ↔ (Done q and NotPoll c)
-  unfolding occs.kept occs.says occs.answered
+  called-deed : (q : Said) (e : Deed) → occ-ways.Called s sender c d q e → Adds e ↔ (Done q and NotPoll c)
+  unfolding kept done
   called-deed q e (occ-ways.ill-formed h) = (kept-never, λ x. absurd (omega (arith, x .0 .0)))
   called-deed q e (occ-ways.unknown w h) = (kept-never, λ x. absurd (omega (arith, x .0 .0)))
   called-deed q e (occ-ways.short-reply w k h) = (kept-never, λ x. absurd (omega (arith, x .0 .0)))
   called-deed q e (occ-ways.short-command w k g h) = (kept-never, λ x. absurd (omega (arith, x .0 .0)))
-  called-deed q e (occ-ways.due p y g (occ-ways.ill-read z)) =
+  called-deed q e (occ-ways.answered p y g (occ-ways.ill-read z)) =
       (kept-never, λ x. absurd (z (well-read s typed sender c d p (heard-exactly s typed sender c d p y g (occ-ways.ill-read z) .0 (x .0) .0))))
-  called-deed q e (occ-ways.due p y g (occ-ways.declined z n v)) =
+  called-deed q e (occ-ways.answered p y g (occ-ways.declined z n v)) =
       (kept-never, λ x. absurd (not-refused s typed sender c d p n v (heard-exactly s typed sender c d p y g (occ-ways.declined z n v) .0 (x .0) .0)))
-  called-deed q e (occ-ways.due p y g (occ-ways.polled z v)) = (kept-never, λ x. absurd (x .1 (polled-type s typed sender c d p v)))
-  called-deed q e (occ-ways.due p y g (occ-ways.no-room z ch v full)) = (kept-never, λ x. absurd (omega (arith, x .0 .0)))
-  called-deed q e (occ-ways.due p y g (occ-ways.carried z ch v fits)) =
+  called-deed q e (occ-ways.answered p y g (occ-ways.polled z v)) = (kept-never, λ x. absurd (x .1 (polled-type s typed sender c d p v)))
+  called-deed q e (occ-ways.answered p y g (occ-ways.no-room z ch v full)) = (kept-never, λ x. absurd (omega (arith, x .0 .0)))
+  called-deed q e (occ-ways.answered p y g (occ-ways.carried z ch v fits)) =
       let n = made-type s typed sender c d p ch v in
       (λ a. ((refl, done-is s typed sender c d p n), n), λ x. (occ-ways.edit s sender c d ch, refl))
 
@@ -218,7 +220,7 @@ module _ (s : Session) (typed : TypedSession s) (r d : List ℕ) where
     unfolding putOf
     by-request held entry p q x e = subst (SbeEffect s r) (sym (becomes-row s f typed (sbe-demands.edit ch) made fits held (s .next) entry p q x)) e
 
-  request-effect : (f : Formed s) (ch : Change) → sbe-demands.Asks r ch → Made (s .held) (s .next) noTables ch
+  request-effect : (f : Formed s) (ch : Change) → sbe-demands.RequestAsks r ch → Made (s .held) (s .next) noTables ch
       → (fits : carriedOf s (sbe-demands.edit ch) .full ≡ false) → SbeEffect s r (carriedOf s (sbe-demands.edit ch) .session)
   unfolding putWith accepted madeOf entryBytes entryFor bytesOf bodyOf inverseOf backOf tablesFor kindOf
   request-effect f ch (sbe-demands.starts n e) made fits = by-request f ch made fits _ _ refl (add-zero _) refl (start-deadman n e)
@@ -226,32 +228,32 @@ module _ (s : Session) (typed : TypedSession s) (r d : List ℕ) where
   request-effect f ch (sbe-demands.masks n) made fits = by-request f ch made fits _ _ refl (add-zero _) refl (set-mask n)
   request-effect f ch (sbe-demands.sets-areas n) made fits = by-request f ch made fits _ _ refl (add-zero _) refl (set-areas n)
 
-  abbrev Responded : sbes.SbeResult → Type 0
-  Responded q = (q .outcome .answer ≡ 0) and (q .reply ≡ atFront (responseBytes 0x00 0x00 r) d)
+  abbrev Responded : Said → Type 0
+  Responded q = (q .answer ≡ 0) and (q .reply ≡ atFront (responseBytes 0x00 0x00 r) d)
 
-  called-request : Bytes r → (q : sbes.SbeResult) (e : Deed) → sbe-demands.Called s typed r d q e → Responded q → SbeEffect s r (q .outcome .session)
-  unfolding sbes.kept sbes.responds sbes.rung
+  called-request : Bytes r → (q : Said) (e : Deed) → sbe-demands.Called s typed r d q e → Responded q → SbeEffect s r (q .session)
+  unfolding kept done
   called-request b q e (sbe-demands.ill-formed h) ok = absurd (omega (arith, ok .0))
   called-request b q e (sbe-demands.short-reply w h) ok = absurd (omega (arith, ok .0))
   called-request b q e (sbe-demands.short-request w g h) ok = absurd (omega (arith, ok .0))
-  called-request b q e (sbe-demands.due p y g (sbe-demands.declined m n v)) ok = absurd (sbe-demands.told-apart s typed r d m n v (sym (front-is _ d) ∙ ok .1))
-  called-request b q e (sbe-demands.due p y g (sbe-demands.no-room ch v full)) ok = absurd (omega (arith, ok .0))
-  called-request b q e (sbe-demands.due p y g (sbe-demands.carried ch v fits)) ok =
+  called-request b q e (sbe-demands.answered p y g (sbe-demands.declined m n v)) ok = absurd (sbe-demands.told-apart s typed r d m n v (sym (front-is _ d) ∙ ok .1))
+  called-request b q e (sbe-demands.answered p y g (sbe-demands.no-room ch v full)) ok = absurd (omega (arith, ok .0))
+  called-request b q e (sbe-demands.answered p y g (sbe-demands.carried ch v fits)) ok =
       request-effect (formed s (p .formed)) ch (sbe-demands.asks r ch v) (sbe-made (s .held) (s .next) r b ch v) fits
 
-  pub sbe-effect : Bytes r → SbeSucceeds s r d → SbeEffect s r (sbes.sbeCall s r d .outcome .session)
+  pub sbe-effect : Bytes r → SbeSucceeds s r d → SbeEffect s r (sbes.sbeCall s r d .session)
   unfolding SbeSucceeds
   sbe-effect b ok = called-request b _ _ (sbe-demands.called s typed r d) ok
 
-  request-deed : (q : sbes.SbeResult) (e : Deed) → sbe-demands.Called s typed r d q e → ((x : Edit) × (e ≡ adds x)) ↔ Responded q
-  unfolding sbes.kept sbes.responds sbes.rung
+  request-deed : (q : Said) (e : Deed) → sbe-demands.Called s typed r d q e → ((x : Edit) × (e ≡ adds x)) ↔ Responded q
+  unfolding kept done
   request-deed q e (sbe-demands.ill-formed h) = (λ a. absurd (keeps-not (a .0) (a .1)), λ x. absurd (omega (arith, x .0)))
   request-deed q e (sbe-demands.short-reply w h) = (λ a. absurd (keeps-not (a .0) (a .1)), λ x. absurd (omega (arith, x .0)))
   request-deed q e (sbe-demands.short-request w g h) = (λ a. absurd (keeps-not (a .0) (a .1)), λ x. absurd (omega (arith, x .0)))
-  request-deed q e (sbe-demands.due p y g (sbe-demands.declined m n v)) =
+  request-deed q e (sbe-demands.answered p y g (sbe-demands.declined m n v)) =
       (λ a. absurd (keeps-not (a .0) (a .1)), λ x. absurd (sbe-demands.told-apart s typed r d m n v (sym (front-is _ d) ∙ x .1)))
-  request-deed q e (sbe-demands.due p y g (sbe-demands.no-room ch v full)) = (λ a. absurd (keeps-not (a .0) (a .1)), λ x. absurd (omega (arith, x .0)))
-  request-deed q e (sbe-demands.due p y g (sbe-demands.carried ch v fits)) = (λ a. (refl, front-is _ d), λ x. (sbe-demands.edit ch, refl))
+  request-deed q e (sbe-demands.answered p y g (sbe-demands.no-room ch v full)) = (λ a. absurd (keeps-not (a .0) (a .1)), λ x. absurd (omega (arith, x .0)))
+  request-deed q e (sbe-demands.answered p y g (sbe-demands.carried ch v fits)) = (λ a. (refl, front-is _ d), λ x. (sbe-demands.edit ch, refl))
 
   pub sbe-deed : ((x : Edit) × (deed s (sbe r d) ≡ adds x)) ↔ SbeSucceeds s r d
   unfolding SbeSucceeds
@@ -259,42 +261,24 @@ module _ (s : Session) (typed : TypedSession s) (r d : List ℕ) where
 
 -- ---- the change that a call counts as is the one that its record shows
 
-module _ (s : Session) (typed : TypedSession s) (x : Edit) where
+module _ (s : Session) (x : Edit) where
   abbrev Shown : Session → Type 0
   Shown t = t .held ≡ putOf (s .held) x .after
 
   counted : (e : Edit) → adds e ≡ adds x → carriedOf s e .full ≡ false → Shown (carriedOf s e .session)
   counted e p fits = carried-held s e fits ∙ ap (λ (y : Edit). putOf (s .held) y .after) (same-edit e x p)
 
-  occ-shown : (sender : ℕ) (c d : List ℕ) (q : occs.OccResult) (e : Deed) → occ-ways.Called s sender c d q e → e ≡ adds x → Shown (q .outcome .session)
-  unfolding occs.says occs.answered
-  occ-shown sender c d q e (occ-ways.ill-formed h) p = absurd (keeps-not x p)
-  occ-shown sender c d q e (occ-ways.unknown w h) p = absurd (keeps-not x p)
-  occ-shown sender c d q e (occ-ways.short-reply w k h) p = absurd (keeps-not x p)
-  occ-shown sender c d q e (occ-ways.short-command w k g h) p = absurd (keeps-not x p)
-  occ-shown sender c d q e (occ-ways.due y g k (occ-ways.ill-read z)) p = absurd (keeps-not x p)
-  occ-shown sender c d q e (occ-ways.due y g k (occ-ways.declined z n v)) p = absurd (keeps-not x p)
-  occ-shown sender c d q e (occ-ways.due y g k (occ-ways.polled z v)) p = absurd (keeps-not x p)
-  occ-shown sender c d q e (occ-ways.due y g k (occ-ways.no-room z ch v full)) p = absurd (keeps-not x p)
-  occ-shown sender c d q e (occ-ways.due y g k (occ-ways.carried z ch v fits)) p = counted _ p fits
+  abbrev Showing : Said → Deed → Type 0
+  Showing q e = e ≡ adds x → Shown (q .session)
 
-  sbe-shown : (r d : List ℕ) (q : sbes.SbeResult) (e : Deed) → sbe-demands.Called s typed r d q e → e ≡ adds x → Shown (q .outcome .session)
-  unfolding sbes.responds sbes.rung
-  sbe-shown r d q e (sbe-demands.ill-formed h) p = absurd (keeps-not x p)
-  sbe-shown r d q e (sbe-demands.short-reply w h) p = absurd (keeps-not x p)
-  sbe-shown r d q e (sbe-demands.short-request w g h) p = absurd (keeps-not x p)
-  sbe-shown r d q e (sbe-demands.due y g k (sbe-demands.declined m n v)) p = absurd (keeps-not x p)
-  sbe-shown r d q e (sbe-demands.due y g k (sbe-demands.no-room ch v full)) p = absurd (keeps-not x p)
-  sbe-shown r d q e (sbe-demands.due y g k (sbe-demands.carried ch v fits)) p = counted _ p fits
-
-  -- undo and redo add none
-  never-adds : (d : Deed) → (d ≡ adds x → ⊥) → (b : Bool) → cond b d keeps ≡ adds x → ⊥
-  never-adds d h true p = h p
-  never-adds d h false p = keeps-not x p
+  asked-shown : (d : List ℕ) (a : Asks) → Showing (settled s d a) (deedBy s a)
+  unfolding settled carriedSays kept done deedBy adding byWay
+  asked-shown d (refuses n) = λ p. absurd (keeps-not x p)
+  asked-shown d (tells bell y) = λ p. absurd (keeps-not x p)
+  asked-shown d (makes e bell y) = by-both Showing (carriedOf s e .full) (λ f p. absurd (keeps-not x p)) (λ f p. counted e p f)
+  asked-shown d (moves Before at e) = λ p. absurd (strikes-not x p)
+  asked-shown d (moves After at e) = λ p. absurd (unstrikes-not x p)
 
   pub deed-shown : (c : Call) → deed s c ≡ adds x → said s c .session .held ≡ putOf (s .held) x .after
   unfolding said deed
-  deed-shown (occ sender c d) p = occ-shown sender c d _ _ (occ-ways.called s sender c d) p
-  deed-shown (sbe r d) p = sbe-shown r d _ _ (sbe-demands.called s typed r d) p
-  deed-shown undo p = absurd (never-adds strikes (strikes-not x) (eqb (undoCall s .answer) 0) p)
-  deed-shown redo p = absurd (never-adds unstrikes (unstrikes-not x) (eqb (redoCall s .answer) 0) p)
+  deed-shown c = asked-shown (bufferOf c) (asks s c)

@@ -23,7 +23,7 @@ use Rattle.journal.specs.laws.Bodies.{Writable}
 use Rattle.journal.specs.laws.Ends.{added, length-added, added-reads, added-unused}
 use Rattle.session.specs.laws.Session.{Store, Formed}
 use Rattle.session.specs.declared.Session.{Session}
-use Rattle.undo_call.specs.Undo.{storeOf, usedOf}
+use Rattle.session.specs.Road.{storeOf, usedOf}
 use Rattle.links.specs.Typed.{TypedSession}
 
 -- ---- what bytes whose values are good read as

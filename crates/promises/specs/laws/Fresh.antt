@@ -27,7 +27,7 @@ fresh-ok : recordOk freshRecord 1 ≡ true
 unfolding computedSession
 fresh-ok = refl
 
-fresh-sane : Sane freshRecord [] 0 []
+fresh-sane : Sane freshRecord [] 1 []
 unfolding backs flat applied
 fresh-sane = record { small = omega arith; fits = omega arith; ok = fresh-ok; typed = typed-fresh; kept = tt; again = tt }
 

@@ -30,7 +30,7 @@ use Rattle.promises.specs.laws.Shifted.{shiftedChange, shifted-low, shif
 use Rattle.promises.specs.Shifted.{shifted, shiftedLog, shiftedRecord}
 use Rattle.packet.specs.Packet.{packetStatus, dataOf}
 use Rattle.occ_call.specs.Occ.{askedFor, askedOf}
-use Rattle.promises.specs.laws.Demand3.{by-both}
+use Rattle.promises.specs.laws.ByTest.{by-both}
 use Rattle.promises.specs.Later.{named, Clears}
 
 unfoldable pub shiftedVerdict : ℕ → Verdict → Verdict

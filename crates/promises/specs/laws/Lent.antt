@@ -1,5 +1,5 @@
 -- The calls for C, one after the other on one lent image: what holds of sessions holds of images. Assumes nothing.
-use Prim.Native.Nat.{ℕ, _^_, _<_}
+use Prim.Native.Nat.{ℕ, suc, _^_, _<_}
 use mathlib.Core.Path.{_≡_, refl, sym, ap, subst, _∙_}
 use mathlib.Core.List.{List, [], _∷_}
 use native.Mathlib.Omega.{arith}
@@ -11,7 +11,8 @@ use Rattle.record.specs.declared.Caps.{Caps}
 use Rattle.record.specs.declared.Record.{Record}
 use Rattle.change.specs.declared.Edit.{Edit}
 use Rattle.record.specs.Widths.{CapsFit}
-use Rattle.session.specs.Session.{freshSession, withHeld}
+use Rattle.session.specs.Session.{freshSession, renewed}
+use Rattle.session.specs.Road.{settled}
 use Rattle.session.specs.declared.Session.{Session}
 use Rattle.occ_call.specs.Occ as occs
 use Rattle.sbe_call.specs.Sbe as sbes
@@ -19,12 +20,13 @@ use Rattle.journal.specs.declared.Way.{Way}
 use Rattle.journal.specs.declared.Way.the-variants.{Before, After}
 use Rattle.journal.specs.Ways.{byWay}
 use Rattle.undo_call.specs.Undo.{moveCall, movedLeft, moveOn}
-use Rattle.image.specs.Image.{imageOf, sessionOf}
+use Rattle.image.specs.Image.{imageOf}
 use Rattle.layout.specs.Layout.{imageLength}
-use Rattle.image.specs.laws.Image.{Typed, session-image, length-image}
+use Rattle.image.specs.laws.Image.{Typed}
 use Rattle.inplace.specs.InPlace.{Left}
+use Rattle.inplace.specs.laws.InPlace.{on-image}
 use Rattle.bjargolsk.specs.Calls.{packed, freshOn}
-use Rattle.promises.specs.Calls.{Call, occ, sbe, undo, redo, said}
+use Rattle.promises.specs.Calls.{Call, occ, sbe, undo, redo, bufferOf, asks, said}
 use Rattle.promises.specs.Marks.{left, logsMade}
 use Rattle.promises.specs.History.{applied, Run, did, next-run, run, AllOfBytes}
 use Rattle.promises.specs.laws.Stores.{length-padded, flat}
@@ -45,29 +47,23 @@ module _ (s : Session) (t : Typed s) where
   abbrev b : List ℕ
   b = imageOf s
 
-  long : length b ≡ imageLength
-  long = length-image s (t .session)
-
-  back : sessionOf b ≡ s
-  back = session-image s t
-
   pub occ-on : (sender : ℕ) (c d : List ℕ) → occs.occOn b sender c d ≡ occs.occLeft (occs.occCall s sender c d) (occs.occWhy s sender c d)
   unfolding occs.occOn
-  occ-on sender c d = sym (else-ne _ _ long refl) ∙ ap (λ (x : Session). occs.occLeft (occs.occCall x sender c d) (occs.occWhy x sender c d)) back
+  occ-on sender c d = on-image _ d s t
 
   pub sbe-on : (r d : List ℕ) → sbes.sbeOn b r d ≡ sbes.sbeLeft (sbes.sbeCall s r d)
   unfolding sbes.sbeOn
-  sbe-on r d = sym (else-ne _ _ long refl) ∙ ap (λ (x : Session). sbes.sbeLeft (sbes.sbeCall x r d)) back
+  sbe-on r d = on-image _ d s t
 
   pub move-on : (w : Way) → moveOn w b ≡ movedLeft (moveCall w s)
   unfolding moveOn
-  move-on w = sym (else-ne _ _ long refl) ∙ ap (λ (x : Session). movedLeft (moveCall w x)) back
+  move-on w = on-image _ [] s t
 
   abbrev as-lent : Left → Lent
   as-lent q = record { result = packed (q .told); image = q .image; reply = q .reply }
 
   pub lent-said : (c : Call) → lent b c ≡ carriedOver s c
-  unfolding lent carriedOver told said occs.occLeft sbes.sbeLeft movedLeft
+  unfolding lent carriedOver told said asks bufferOf occs.occLeft occs.occCall sbes.sbeLeft sbes.sbeCall movedLeft moveCall
   lent-said (occ sender c d) = ap as-lent (occ-on sender c d)
   lent-said (sbe r d) = ap as-lent (sbe-on r d)
   lent-said undo = ap as-lent (move-on Before)
@@ -84,9 +80,9 @@ limit-fits role got user caps f u =
     (cond-elim Small (eqb user 0) (f .max) (cond-elim Small (ltb user (caps .min)) (f .min) (cond-elim Small (ltb (caps .max) user) (f .max) u))))
 
 module _ (base : Record) where
-  history-typed : (es : List Edit) (n : ℕ) (rs : List Edit) → Sane base es n rs → Typed (byHistory base es n rs)
-  unfolding byHistory standing byWay withHeld workedOf
-  history-typed es n rs g =
+  history-typed : (s : Session) (es : List Edit) (next : ℕ) (rs : List Edit) → Sane base es next rs → Typed (byHistory base s es next rs)
+  unfolding byHistory standing byWay renewed workedOf
+  history-typed s es next rs g =
       let r = applied base es in
       record {
         session = record {
@@ -101,7 +97,7 @@ module _ (base : Record) where
       }
 
   pub run-typed : (p : Run) → Inv base p → Typed (p .session)
-  run-typed p v = subst Typed (sym (v .is)) (history-typed (left (p .marks)) (logsMade (p .marks)) (redoable base p) (v .sane))
+  run-typed p v = subst Typed (sym (v .is)) (history-typed (p .session) (left (p .marks)) (suc (logsMade (p .marks))) (redoable base p) (v .sane))
 
   pub lent-run : (cs : List Call) (p : Run) → AllOfBytes cs → Inv base p → lentRun (imageOf (p .session)) cs ≡ imageOf (run p cs .session)
   unfolding lentRun carriedOver run next-run did

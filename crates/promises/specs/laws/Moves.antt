@@ -2,7 +2,7 @@
 use Prim.Native.Nat.{ℕ, _+_, _≤_}
 use mathlib.Core.Bool.{true}
 use mathlib.Core.Path.{_≡_, refl, sym, ap, subst, _∙_}
-use mathlib.Core.List.{_∷_}
+use mathlib.Core.List.{[], _∷_}
 use native.Mathlib.Omega.{arith}
 use lib.ListN.{length, take}
 use Rattle.wire.specs.Conditions.{_and_}
@@ -24,25 +24,26 @@ use Rattle.journal.specs.declared.Way.the-variants.{Before, After}
 use Rattle.journal.specs.laws.Bodies.{Writable, length-body}
 use Rattle.journal.specs.laws.Ends.{length-entry}
 use Rattle.journal.specs.laws.Says.{Holds, Says, found-says}
-use Rattle.session.specs.Session.{wellFormed, withHeld}
+use Rattle.session.specs.Session.{wellFormed, renewed}
+use Rattle.session.specs.Road.{Asks, moves, storeOf, usedOf, lessened, grown, grownTo, sessionMoved, Said, kept, done, settled}
 use Rattle.session.specs.laws.Session.{Store, Formed, formed, formed-ok}
 use Rattle.session.specs.declared.Session.{Session}
-use Rattle.undo_call.specs.Undo.{storeOf, usedOf, lessened, grown, grownTo, sessionMoved, Moved, notMoved, moved, moveCall}
-use Rattle.undo_call.specs.laws.Came.{none-zero}
+use Rattle.undo_call.specs.Undo.{moveCall}
+use Rattle.undo_call.specs.laws.NoneLeft.{none-zero}
 use Rattle.links.specs.Typed.{TypedSession}
 use Rattle.links.specs.laws.Links.{kind-of-back, writable-back}
 use Rattle.links.specs.laws.Entry.{entry-ok}
 use Rattle.promises.specs.Demand2.{Newest}
 use Rattle.promises.specs.Effects.{zeroedFrom, movesTo, entryBack, MoveEffect}
 use Rattle.promises.specs.laws.FormedStores.{all-good, all-parts, more-pasted, cut-zeroed, used-is, one-less, store-of, both-used, long-store}
-use Rattle.promises.specs.laws.UndoDemands.{Called, ill-formed, empty, kept, moves, called}
+use Rattle.promises.specs.laws.UndoDemands.{Called, ill-formed, empty, barred, goes, called}
 
 -- ---- the session after it, store by store
 
 module _ (s : Session) (at : ℕ) (e : Edit) (held : Record) where
   stores-formed : (w : Way) → recordOk held (s .next) ≡ true → at + grownTo w s e ≤ 2048 → Store w (lessened w s at) at → Store (other w) (grown w s e) (grownTo w s e)
       → wellFormed (sessionMoved w s at e held) ≡ true
-  unfolding sessionMoved withHeld byWay other
+  unfolding sessionMoved renewed byWay other
   stores-formed Before ok fit less more =
       formed-ok (sessionMoved Before s at e held) (record { record-ok = ok; worked-is = refl; both-fit = fit; journal = less; redo = more })
   stores-formed After ok fit less more =
@@ -51,11 +52,11 @@ module _ (s : Session) (at : ℕ) (e : Edit) (held : Record) where
   stores-moved : (w : Way) → lessened w s at ≡ zeroedFrom at (usedOf w s) (storeOf w s) → grownTo w s e ≡ usedOf (other w) s + length (bytesOf (entryBack s e))
       → sessionMoved w s at e held ≡ movesTo w s held at (bytesOf (entryBack s e))
   unfolding sessionMoved grown entryBytes storeOf usedOf byWay other
-  stores-moved Before cut end = λ i. withHeld held (s .next) (cut i) at (pasted (s .ahead) (bytesOf (entryBack s e)) (s .redo)) (end i)
-  stores-moved After cut end = λ i. withHeld held (s .next) (pasted (s .used) (bytesOf (entryBack s e)) (s .journal)) (end i) (cut i) at
+  stores-moved Before cut end = λ i. renewed s held (s .next) (cut i) at (pasted (s .ahead) (bytesOf (entryBack s e)) (s .redo)) (end i)
+  stores-moved After cut end = λ i. renewed s held (s .next) (pasted (s .used) (bytesOf (entryBack s e)) (s .journal)) (end i) (cut i) at
 
   stores-used : (w : Way) → at + grownTo w s e ≡ usedOf w s + usedOf (other w) s → sessionMoved w s at e held .used + sessionMoved w s at e held .ahead ≡ s .used + s .ahead
-  unfolding sessionMoved withHeld usedOf byWay other
+  unfolding sessionMoved renewed usedOf byWay other
   stores-used Before sum = sum
   stores-used After sum = omega (arith, sum)
 
@@ -126,12 +127,12 @@ module _ (w : Way) (s : Session) (f : Formed s) (e : Edit) (n : Newest w s e) wh
         more-pasted (other w) (storeOf (other w) s) (usedOf (other w) s) (store-of s f (other w)) back writable (entry-ok (other w) back writable back-passes)
         (omega (arith, room, long-store s typed (other w)))
 
-    pub moved-formed : recordOk (putOf (s .held) e .after) (s .next) ≡ true → wellFormed (moved w s at e (putOf (s .held) e) .session) ≡ true
-    unfolding moved
+    pub moved-formed : recordOk (putOf (s .held) e .after) (s .next) ≡ true → wellFormed (settled s [] (moves w at e) .session) ≡ true
+    unfolding settled done
     moved-formed ok = stores-formed s at e (putOf (s .held) e .after) w ok (omega (arith, sum-stays, both-used s f w)) less more
 
-    moved-effect : MoveEffect w s (moved w s at e (putOf (s .held) e))
-    unfolding moved lessened grownTo entryFor
+    moved-effect : MoveEffect w s (settled s [] (moves w at e))
+    unfolding settled done lessened grownTo entryFor
     moved-effect =
         let low : at ≤ usedOf w s = omega (arith, all-used) in
         record {
@@ -149,23 +150,28 @@ module _ (w : Way) (s : Session) (f : Formed s) (e : Edit) (n : Newest w s e) wh
 -- ---- the calls
 
 module _ (w : Way) (s : Session) (typed : TypedSession s) where
-  effect : (q : Moved) → Called w s q → q .answer ≡ 0 → MoveEffect w s q
-  unfolding notMoved
-  effect q (ill-formed h) z = absurd (omega (arith, z))
-  effect q (empty x h) z = absurd (none-zero w z)
-  effect q (kept x e n bar) z = absurd (omega (arith, z))
-  effect q (moves x e n u) z = moved-effect w s (formed s x) e n typed
+  effect : (a : Asks) → Called w s a → settled s [] a .answer ≡ 0 → MoveEffect w s (settled s [] a)
+  unfolding settled kept
+  effect a (ill-formed h) z = absurd (omega (arith, z))
+  effect a (empty x h) z = absurd (none-zero w z)
+  effect a (barred x e n bar) z = absurd (omega (arith, z))
+  effect a (goes x e n u) z = moved-effect w s (formed s x) e n typed
 
   pub move-effect : moveCall w s .answer ≡ 0 → MoveEffect w s (moveCall w s)
+  unfolding moveCall
   move-effect = effect _ (called w s)
 
-  used-stay : (q : Moved) → Called w s q → q .session .used + q .session .ahead ≡ s .used + s .ahead
-  unfolding notMoved moved
-  used-stay q (ill-formed h) = refl
-  used-stay q (empty x h) = refl
-  used-stay q (kept x e n bar) = refl
-  used-stay q (moves x e n u) = stores-used s (length (written (n .older))) e (putOf (s .held) e .after) w (sum-stays w s (formed s x) e n)
+  abbrev UsedStay : Said → Type 0
+  UsedStay q = q .session .used + q .session .ahead ≡ s .used + s .ahead
+
+  used-stay : (a : Asks) → Called w s a → UsedStay (settled s [] a)
+  unfolding settled kept done
+  used-stay a (ill-formed h) = refl
+  used-stay a (empty x h) = refl
+  used-stay a (barred x e n bar) = refl
+  used-stay a (goes x e n u) = stores-used s (length (written (n .older))) e (putOf (s .held) e .after) w (sum-stays w s (formed s x) e n)
 
   pub room-left : wellFormed s ≡ true → (e : Edit) → Newest w s e
       → (usedOf (other w) s + length (bytesOf (entryBack s e)) ≤ 2048) and (moveCall w s .session .used + moveCall w s .session .ahead ≡ s .used + s .ahead)
+  unfolding moveCall
   room-left x e n = (bytes-fit w s (formed s x) e n typed, used-stay _ (called w s))

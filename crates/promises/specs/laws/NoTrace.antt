@@ -1,6 +1,6 @@
 -- No trace: a change followed by its undo leaves the session as if nobody had tried, but for the next id; and later too. Assumes nothing.
 use Prim.Native.Nat.{ℕ, zero, suc, _+_, _≤_, _<_}
-use mathlib.Core.Bool.{true, cond}
+use mathlib.Core.Bool.{true}
 use mathlib.Core.Logic.{⊎-elim}
 use mathlib.Core.Path.{_≡_, refl, sym, ap, ap₂, subst, _∙_}
 use mathlib.Core.List.{List, [], _∷_, map}
@@ -21,27 +21,28 @@ use Rattle.change.specs.declared.Edit.{Edit}
 use Rattle.change.specs.declared.Tables.{Tables}
 use Rattle.formed.specs.Formed.{unused, logsOk, recordOk}
 use Rattle.formed.specs.laws.Formed.{both-hold, sound, Above, rest, more, above}
-use Rattle.session.specs.Session.{withHeld, madeOf}
+use Rattle.session.specs.Session.{renewed, madeOf}
+use Rattle.session.specs.Road.{Said, done}
 use Rattle.session.specs.declared.Session.{Session}
 use Rattle.journal.specs.Add.{entryLen}
 use Rattle.journal.specs.Bytes.{entryBytes}
 use Rattle.journal.specs.Ways.{byWay}
 use Rattle.wire.specs.Wire.{pasted}
-use Rattle.undo_call.specs.Undo.{Moved, undoCall, redoCall}
+use Rattle.undo_call.specs.Undo.{moveAsks, moveCall, undoCall, redoCall}
 use Rattle.links.specs.laws.Logs.{unused-parts, passed}
 use Rattle.links.specs.laws.Made.{Made}
-use Rattle.promises.specs.Calls.{Call, undo, redo, said}
+use Rattle.promises.specs.Calls.{Call, undo, redo, bufferOf, asks, said}
 use Rattle.promises.specs.Marks.{Mark, left, logsMade, undoAnswer}
-use Rattle.promises.specs.History.{keeps, adds, strikes, deed, marked, sinceAfter, applied, Run, did, next-run, OfBytes}
+use Rattle.promises.specs.History.{adds, strikes, deedBy, deed, marked, sinceAfter, applied, Run, did, next-run, OfBytes}
 use Rattle.promises.specs.laws.Ids.{one-made}
 use Rattle.promises.specs.laws.Stores.{padded, paste-padded, flat, flat-length}
 use Rattle.promises.specs.laws.ByHistory.{standing, backs, byHistory, Kept, Sane, again-stored}
 use Rattle.promises.specs.laws.Marks.{off-change, left-change}
-use Rattle.promises.specs.laws.Steps.{undo-history, redo-history, undone-sane}
-use Rattle.promises.specs.laws.Demand3.{redoable, Inv, next-inv, undo-answer}
+use Rattle.promises.specs.laws.Steps.{undo-asks, undo-history, redo-history, undone-sane}
+use Rattle.promises.specs.laws.Demand3.{redoable, Inv, next-inv, next-is, undo-answer}
 use Rattle.promises.specs.laws.Aside.{as-before, leftAfter, madeAfter, left-after, made-after, not-redo}
 use Rattle.promises.specs.laws.Struck.{off}
-use Rattle.journal.specs.declared.Way.the-variants.{After}
+use Rattle.journal.specs.declared.Way.the-variants.{Before, After}
 use Rattle.promises.specs.laws.Shifted.{shiftedChange, shiftedEdit, shifted-low}
 use Rattle.promises.specs.Shifted.{shiftedLog, shiftedRecord}
 use Rattle.promises.specs.Later.{Wish, AsIf}
@@ -127,44 +128,51 @@ module _ (base : Record) (p : Run) (v : Inv base p) (c : Call) (b : OfBytes c) (
   unfolding next-run did sinceAfter
   none-redoable = ap₂ (λ (n : ℕ) (ms : List Mark). off n ms []) (ap (sinceAfter (p .undos) (p .since)) made) marks-are ∙ off-change (v .strokes) e
 
-  q-is : q .session ≡ byHistory base (e ∷ es) m []
-  q-is = w .is ∙ (λ i. byHistory base (left-are i) (logs-are i) (none-redoable i))
+  q-is : q .session ≡ byHistory base (q .session) (e ∷ es) (suc m) []
+  q-is = w .is ∙ (λ i. byHistory base (q .session) (left-are i) (suc (logs-are i)) (none-redoable i))
 
-  q-sane : Sane base (e ∷ es) m []
-  q-sane = subst (Sane base (e ∷ es) m) none-redoable (subst (λ (n : ℕ). Sane base (e ∷ es) n (redoable base q)) logs-are (subst (λ (l : List Edit). Sane base l (logsMade (q .marks)) (redoable base q)) left-are (w .sane)))
+  q-sane : Sane base (e ∷ es) (suc m) []
+  q-sane =
+      subst (Sane base (e ∷ es) (suc m)) none-redoable
+      (subst (λ (n : ℕ). Sane base (e ∷ es) (suc n) (redoable base q)) logs-are (subst (λ (l : List Edit). Sane base l (suc (logsMade (q .marks))) (redoable base q)) left-are (w .sane)))
 
-  back-is : undoCall (q .session) .session ≡ byHistory base es m (e ∷ [])
-  back-is = ap (λ (s : Session). undoCall s .session) q-is ∙ ap (λ (u : Moved). u .session) (undo-history base e es m [] q-sane)
+  back-is : undoCall (q .session) .session ≡ byHistory base (q .session) es (suc m) (e ∷ [])
+  unfolding done
+  back-is = ap (λ (s : Session). undoCall s .session) q-is ∙ ap (λ (u : Said). u .session) (undo-history base (q .session) e es (suc m) [] q-sane)
+
+  -- what no change touches is as it was before the change
+  own-is : byHistory base (q .session) es (suc m) (e ∷ []) ≡ byHistory base (p .session) es (suc m) (e ∷ [])
+  unfolding byHistory standing renewed
+  own-is = refl
 
   -- the redo store holds that change alone
   one-redoable : padded (flat (e ∷ [])) ≡ pasted 0 (entryBytes e) (replicate 2048 0)
   unfolding flat padded
-  one-redoable = sym (paste-padded [] (entryBytes e) (omega (arith, undone-sane base e es m [] q-sane .fits)))
+  one-redoable = sym (paste-padded [] (entryBytes e) (omega (arith, undone-sane base (q .session) e es (suc m) [] q-sane .fits)))
 
   one-long : length (flat (e ∷ [])) ≡ entryLen e
   unfolding flat
-  one-long = flat-length After e [] (again-stored base (suc m) es (e ∷ []) (undone-sane base e es m [] q-sane .again)) ∙ zero-add (entryLen e)
+  one-long = flat-length After e [] (again-stored base (suc m) es (e ∷ []) (undone-sane base (q .session) e es (suc m) [] q-sane .again)) ∙ zero-add (entryLen e)
 
-  moved : leaves (byHistory base es (logsMade (p .marks)) (redoable base p)) e ≡ byHistory base es m (e ∷ [])
-  unfolding leaves byHistory standing byWay withHeld
-  moved = λ i.
-      withHeld (applied base es) (suc-add (logsMade (p .marks)) (madeOf (e .change)) i) (padded (flat (backs base es))) (length (flat (backs base es)))
+  left-so : leaves (byHistory base (p .session) es (suc (logsMade (p .marks))) (redoable base p)) e ≡ byHistory base (p .session) es (suc m) (e ∷ [])
+  unfolding leaves byHistory standing byWay renewed
+  left-so = λ i.
+      renewed (p .session) (applied base es) (suc-add (logsMade (p .marks)) (madeOf (e .change)) i) (padded (flat (backs base es))) (length (flat (backs base es)))
       (sym one-redoable i) (sym one-long i)
 
   next-was : p .session .next ≡ suc (logsMade (p .marks))
-  unfolding byHistory standing withHeld
-  next-was = ap (λ (s : Session). s .next) (v .is)
+  next-was = next-is base p v
 
   pub trace-free : said (q .session) undo .session ≡ leaves (p .session) e
-  unfolding said
-  trace-free = back-is ∙ sym moved ∙ ap (λ (s : Session). leaves s e) (sym (v .is))
+  unfolding said asks bufferOf moveCall
+  trace-free = back-is ∙ own-is ∙ sym left-so ∙ ap (λ (s : Session). leaves s e) (sym (v .is))
 
   -- a redo then brings the change back: the session is the one after it, all of it
   pub redo-brings-back : said (said (q .session) undo .session) redo .session ≡ q .session
-  unfolding said
+  unfolding said asks bufferOf moveCall done
   redo-brings-back =
       ap (λ (s : Session). redoCall s .session) back-is
-      ∙ ap (λ (u : Moved). u .session) (redo-history base e es m [] (undone-sane base e es m [] q-sane))
+      ∙ ap (λ (u : Said). u .session) (redo-history base (q .session) e es (suc m) [] (undone-sane base (q .session) e es (suc m) [] q-sane))
       ∙ sym q-is
 
   -- ---- later
@@ -173,8 +181,8 @@ module _ (base : Record) (p : Run) (v : Inv base p) (c : Call) (b : OfBytes c) (
   after = next-run q undo
 
   undo-done : deed (q .session) undo ≡ strikes
-  unfolding deed undoAnswer
-  undo-done = ap (λ (a : ℕ). cond (eqb a 0) strikes keeps) (undo-answer base q w ∙ ap undoAnswer left-are)
+  unfolding deed asks deedBy byWay
+  undo-done = ap (λ (s : Session). deedBy (q .session) (moveAsks Before s)) q-is ∙ ap (deedBy (q .session)) (undo-asks base (q .session) e es (suc m) [] q-sane)
 
   left-after-is : left (after .marks) ≡ es
   unfolding next-run did leftAfter
@@ -228,16 +236,18 @@ module _ (base : Record) (p : Run) (v : Inv base p) (accepted : undoCall (p .ses
   some-left e = omega (arith, accepted, undo-answer base p v ∙ ap undoAnswer e)
 
   pub redo-undone : redoCall (undoCall (p .session) .session) .session ≡ p .session
+  unfolding done
   redo-undone = go (left (p .marks)) refl
     where
       go : (x : List Edit) → left (p .marks) ≡ x → redoCall (undoCall (p .session) .session) .session ≡ p .session
       go [] e = absurd (some-left e)
       go (x ∷ xs) e =
-          let n = logsMade (p .marks) in
+          let s = p .session in
+          let n = suc (logsMade (p .marks)) in
           let rs = redoable base p in
-          let is : p .session ≡ byHistory base (x ∷ xs) n rs = v .is ∙ ap (λ (l : List Edit). byHistory base l n rs) e in
+          let is : s ≡ byHistory base s (x ∷ xs) n rs = v .is ∙ ap (λ (l : List Edit). byHistory base s l n rs) e in
           let sane = subst (λ (l : List Edit). Sane base l n rs) e (v .sane) in
-          ap (λ (s : Session). redoCall (undoCall s .session) .session) is
-          ∙ ap (λ (u : Moved). redoCall (u .session) .session) (undo-history base x xs n rs sane)
-          ∙ ap (λ (u : Moved). u .session) (redo-history base x xs n rs (undone-sane base x xs n rs sane))
+          ap (λ (t : Session). redoCall (undoCall t .session) .session) is
+          ∙ ap (λ (u : Said). redoCall (u .session) .session) (undo-history base s x xs n rs sane)
+          ∙ ap (λ (u : Said). u .session) (redo-history base s x xs n rs (undone-sane base s x xs n rs sane))
           ∙ sym is

@@ -35,26 +35,26 @@ module _ (r : Record) (next type : ℕ) (d : List ℕ) where
   abbrev pub place : ℕ
   place = findOf (getD d 0 0) (r .logs)
 
-  pub data Asks : Verdict → Tables → Type 0 where
-    refuses : (n : ℕ) → Asks (Refuse n) noTables
-    polls : type ≡ 0x00 → Asks Poll noTables
-    clears : type ≡ 0x12 → place < 4 → Asks (Make (Clear place (getD (r .logs) place noLog))) noTables
-    sets-state : type ≡ 0x20 → Asks (Make (SetState (getD d 1 0))) noTables
-    sets-role : type ≡ 0x21 → getD d 0 0 ≡ 0x03 → Asks (Make (SetRole 1 (getD d 1 0))) noTables
-    sets-caps : type ≡ 0x21 → getD d 0 0 ≡ 0x07 → Asks (Make (SetCaps 1 (sentCaps d))) noTables
+  pub data CommandAsks : Verdict → Tables → Type 0 where
+    refuses : (n : ℕ) → CommandAsks (Refuse n) noTables
+    polls : type ≡ 0x00 → CommandAsks Poll noTables
+    clears : type ≡ 0x12 → place < 4 → CommandAsks (Make (Clear place (getD (r .logs) place noLog))) noTables
+    sets-state : type ≡ 0x20 → CommandAsks (Make (SetState (getD d 1 0))) noTables
+    sets-role : type ≡ 0x21 → getD d 0 0 ≡ 0x03 → CommandAsks (Make (SetRole 1 (getD d 1 0))) noTables
+    sets-caps : type ≡ 0x21 → getD d 0 0 ≡ 0x07 → CommandAsks (Make (SetCaps 1 (sentCaps d))) noTables
     sets-throttles : type ≡ 0x21 → getD d 0 0 ≡ 0x12 → (t : Throttles) → SentPairs (getD d 2 0) (drop 3 d) t
-        → Asks (Make (SetThrottles 1)) (record { thermal = replicate 9 0; throttles = t })
+        → CommandAsks (Make (SetThrottles 1)) (record { thermal = replicate 9 0; throttles = t })
     sets-thermal : type ≡ 0x21 → getD d 0 0 ≡ 0x13 → (t : List ℕ) → SentFrus (getD d 2 0) (drop 3 d) t
-        → Asks (Make (SetThermal 1)) (record { thermal = t; throttles = noThrottles })
-    sets-user : type ≡ 0x22 → Asks (Make (SetUser (beNat (take 2 d)))) noTables
-    resets : type ≡ 0x25 → (LogDue (r .role) (getD d 1 0) → ⊥) → Asks (Make (Reset noLog)) noTables
+        → CommandAsks (Make (SetThermal 1)) (record { thermal = t; throttles = noThrottles })
+    sets-user : type ≡ 0x22 → CommandAsks (Make (SetUser (beNat (take 2 d)))) noTables
+    resets : type ≡ 0x25 → (LogDue (r .role) (getD d 1 0) → ⊥) → CommandAsks (Make (Reset noLog)) noTables
     resets-logged : type ≡ 0x25 → LogDue (r .role) (getD d 1 0) → pendingOf (r .logs) < 4
-        → Asks (Make (Reset (record { id = next; reason = getD d 1 0 }))) noTables
+        → CommandAsks (Make (Reset (record { id = next; reason = getD d 1 0 }))) noTables
 
   -- ---- each command
 
   abbrev Plainly : Verdict → Type 0
-  Plainly v = Asks v noTables
+  Plainly v = CommandAsks v noTables
 
   poll-asks : type ≡ 0x00 → Plainly (pollVerdict d)
   unfolding pollVerdict
@@ -108,7 +108,7 @@ module _ (r : Record) (next type : ℕ) (d : List ℕ) where
   -- ---- with the tables beside the change
 
   abbrev Judges : Judged → Type 0
-  Judges j = Asks (j .verdict) (j .tables)
+  Judges j = CommandAsks (j .verdict) (j .tables)
 
   refused : (n : ℕ) → Judges (plainly (Refuse n))
   unfolding plainly
@@ -161,7 +161,7 @@ module _ (r : Record) (next type : ℕ) (d : List ℕ) where
 
   -- ---- read off: only a poll asks for one, and a change's kind is that of its command
 
-  pub poll-type : (t : Tables) → Asks Poll t → type ≡ 0x00
+  pub poll-type : (t : Tables) → CommandAsks Poll t → type ≡ 0x00
   poll-type t (polls e) = e
 
   -- a type that isn't the poll's, with the kind of its entry
@@ -174,7 +174,7 @@ module _ (r : Record) (next type : ℕ) (d : List ℕ) where
   by-format : (n kind : ℕ) → type ≡ 0x21 → getD d 0 0 ≡ n → kindFor 0x21 n ≡ kind → (type ≡ 0x00 → ⊥) × (kind ≡ kindFor type (getD d 0 0))
   by-format n kind e f k = by-type 0x21 kind e (λ z. omega arith) (ap (kindFor 0x21) f ∙ k)
 
-  pub made-kind : (ch : Change) (t : Tables) → Asks (Make ch) t → Kind ch
+  pub made-kind : (ch : Change) (t : Tables) → CommandAsks (Make ch) t → Kind ch
   unfolding kindFor kindOf
   made-kind ch t (clears e l) = by-type 0x12 0x01 e (λ z. omega arith) refl
   made-kind ch t (sets-state e) = by-type 0x20 0x02 e (λ z. omega arith) refl

@@ -27,25 +27,26 @@ use Rattle.occ.specs.laws.Statuses.{judge-rows}
 use Rattle.session.specs.Session.{wellFormed, carriedOf}
 use Rattle.session.specs.laws.Session.{Formed, formed}
 use Rattle.session.specs.declared.Session.{Session}
-use Rattle.occ_call.specs.Occ.{OccResult, answered, kept, says, occCall}
+use Rattle.session.specs.Road.{Said, kept, done}
+use Rattle.occ_call.specs.Occ.{occCall}
 use Rattle.links.specs.Typed.{TypedSession}
 use Rattle.promises.specs.History.{Deed}
 use Rattle.promises.specs.Demand1.{NoRoom, OccAnswer, OccDue, OccStatus, errorReply, occError}
 use Rattle.promises.specs.Demand2.{atFront, HasRoom, KnownSender, WellAsked, occKind, NotPoll, OccAccepted, successData, successReply, OccSucceeds}
-use Rattle.promises.specs.laws.OccAsks.{Asks, asks, poll-type, made-kind}
-use Rattle.promises.specs.laws.OccWays.{judged, edit, Heard, ill-read, declined, polled, no-room, carried, Called, ill-formed, unknown, short-reply, short-command, due, called}
+use Rattle.promises.specs.laws.OccAsks.{CommandAsks, asks, poll-type, made-kind}
+use Rattle.promises.specs.laws.OccWays.{judged, edit, Heard, ill-read, declined, polled, no-room, carried, Called, ill-formed, unknown, short-reply, short-command, answered, called}
 use Rattle.promises.specs.laws.Room.{has-room, has-none}
 use Rattle.promises.specs.laws.Replies.{replied-front, length-byte, error-bytes, success-other}
 
-abbrev Answers : OccResult → ℕ → Type 0
-Answers q n = q .outcome .answer ≡ n
+abbrev Answers : Said → ℕ → Type 0
+Answers q n = q .answer ≡ n
 
-answers-0 : (t : Session) (y : List ℕ) → ByTable Answers (says t y) (is 0)
-unfolding says answered
+answers-0 : (t : Session) (y : List ℕ) → ByTable Answers (done t 0 0 y) (is 0)
+unfolding done
 answers-0 t y = by-is Answers refl (λ n e. sym e)
 
 answers-kept : (n : ℕ) (t : Session) (y : List ℕ) → ByTable Answers (kept n t y) (is n)
-unfolding kept answered
+unfolding kept
 answers-kept n t y = by-is Answers refl (λ m e. sym e)
 
 module _ (s : Session) (typed : TypedSession s) (sender : ℕ) (c d : List ℕ) where
@@ -97,7 +98,7 @@ module _ (s : Session) (typed : TypedSession s) (sender : ℕ) (c d : List ℕ) 
     made-well z ch v = asked-well z (ap accepts v)
 
     abbrev Asked : Verdict → Type 0
-    Asked v = Asks (s .held) (s .next) type (dataOf c) v (judged s sender c d .tables)
+    Asked v = CommandAsks (s .held) (s .next) type (dataOf c) v (judged s sender c d .tables)
 
     pub asked-as : (v : Verdict) → verdict ≡ v → Asked v
     asked-as v e = subst Asked e (asks (s .held) (s .next) type (dataOf c) (s .worked) sender)
@@ -143,14 +144,14 @@ module _ (s : Session) (typed : TypedSession s) (sender : ℕ) (c d : List ℕ) 
 
     -- ---- demand 2
 
-    abbrev pub Succeeded : OccResult → Type 0
-    Succeeded q = (q .outcome .answer ≡ 0) and (q .reply ≡ atFront (successReply s c) d)
+    abbrev pub Succeeded : Said → Type 0
+    Succeeded q = (q .answer ≡ 0) and (q .reply ≡ atFront (successReply s c) d)
 
     abbrev pub Fine : Type 0
     Fine = WellAsked s sender c and (NotPoll c → HasRoom s (occKind c))
 
-    pub heard-exactly : (q : OccResult) (e : Deed) → Heard s sender c d q e → Succeeded q ↔ Fine
-    unfolding kept says answered
+    pub heard-exactly : (q : Said) (e : Deed) → Heard s sender c d q e → Succeeded q ↔ Fine
+    unfolding kept done
     heard-exactly q e (ill-read z) = (λ h. absurd (told-apart (packetStatus c) (sym (error-is (packetStatus c)) ∙ h .1)), λ h. absurd (z (well-read (h .0))))
     heard-exactly q e (declined z n v) = (λ h. absurd (told-apart n (sym (error-is n) ∙ h .1)), λ h. absurd (not-refused n v (h .0)))
     heard-exactly q e (polled z v) = (λ h. (polled-well z v, λ n. absurd (n (polled-type v))), λ h. (refl, poll-is (polled-type v)))
@@ -163,7 +164,7 @@ module _ (s : Session) (typed : TypedSession s) (sender : ℕ) (c d : List ℕ) 
     abbrev Full : Type 0
     Full = WellAsked s sender c and NotPoll c and NoRoom s (occKind c)
 
-    heard-answer : (q : OccResult) (e : Deed) → Heard s sender c d q e → ByTable Answers q (row 5 Full (is 0))
+    heard-answer : (q : Said) (e : Deed) → Heard s sender c d q e → ByTable Answers q (row 5 Full (is 0))
     heard-answer q e (ill-read z) = miss Answers (λ h. z (well-read (h .0))) (answers-0 _ _)
     heard-answer q e (declined z n v) = miss Answers (λ h. not-refused n v (h .0)) (answers-0 _ _)
     heard-answer q e (polled z v) = miss Answers (λ h. h .1 .0 (polled-type v)) (answers-0 _ _)
@@ -172,17 +173,17 @@ module _ (s : Session) (typed : TypedSession s) (sender : ℕ) (c d : List ℕ) 
 
     -- ---- statuses
 
-    abbrev Told : OccResult → ℕ → Type 0
-    Told q n = q ≡ says s (atFront (errorReply seq type n) d)
+    abbrev Told : Said → ℕ → Type 0
+    Told q n = q ≡ done s 0 0 (atFront (errorReply seq type n) d)
 
-    says-error : (m n : ℕ) → m ≡ n → says s (replied seq type m noLogId d) ≡ says s (atFront (errorReply seq type n) d)
-    says-error m n e = ap (says s) (error-is m ∙ ap (λ (k : ℕ). atFront (errorReply seq type k) d) e)
+    says-error : (m n : ℕ) → m ≡ n → done s 0 0 (replied seq type m noLogId d) ≡ done s 0 0 (atFront (errorReply seq type n) d)
+    says-error m n e = ap (done s 0 0) (error-is m ∙ ap (λ (k : ℕ). atFront (errorReply seq type k) d) e)
 
-    one-status : (m n : ℕ) → says s (replied seq type m noLogId d) ≡ says s (atFront (errorReply seq type n) d) → m ≡ n
-    unfolding says
-    one-status m n e = ap (λ (q : OccResult). getD (q .reply) 2 0) (sym (says-error m m refl) ∙ e)
+    one-status : (m n : ℕ) → done s 0 0 (replied seq type m noLogId d) ≡ done s 0 0 (atFront (errorReply seq type n) d) → m ≡ n
+    unfolding done
+    one-status m n e = ap (λ (q : Said). getD (q .reply) 2 0) (sym (says-error m m refl) ∙ e)
 
-    tells : (m n : ℕ) → m ≡ n → ByTable Told (says s (replied seq type m noLogId d)) (is n)
+    tells : (m n : ℕ) → m ≡ n → ByTable Told (done s 0 0 (replied seq type m noLogId d)) (is n)
     tells m n e = by-is Told (says-error m n e) (λ k g. sym (one-status m k g) ∙ e)
 
     fits-whole : Fits c → Overlong c → ⊥
@@ -200,12 +201,12 @@ module _ (s : Session) (typed : TypedSession s) (sender : ℕ) (c d : List ℕ) 
     same-refusal m n e = cc
 
     -- past the packet's own rows
-    past-packet : {q : OccResult} → packetStatus c ≡ 0 → ByTable Told q CommandSays → ByTable Told q (OccStatus s sender c)
+    past-packet : {q : Said} → packetStatus c ≡ 0 → ByTable Told q CommandSays → ByTable Told q (OccStatus s sender c)
     unfolding OccStatus
     past-packet z b = let g = good-exactly c .0 z in miss Told (fits-whole (g .0)) (miss Told (λ h. h (g .1)) b)
 
     -- an accepted command: no status, and no error reply
-    no-status : {q : OccResult} → packetStatus c ≡ 0 → accepts verdict ≡ true → ((n : ℕ) → Told q n → ⊥) → ByTable Told q (OccStatus s sender c)
+    no-status : {q : Said} → packetStatus c ≡ 0 → accepts verdict ≡ true → ((n : ℕ) → Told q n → ⊥) → ByTable Told q (OccStatus s sender c)
     unfolding accepts
     no-status z a h =
         past-packet z (record { exactly = λ n. (λ g. absurd (h n g), λ r. absurd (false≢true (sym (ap accepts (command-rows n .1 r)) ∙ a))) })
@@ -223,8 +224,8 @@ module _ (s : Session) (typed : TypedSession s) (sender : ℕ) (c d : List ℕ) 
         go (later o (here k e)) = absurd (omega (arith, e))
         go (later o (later k r)) = (by-row c (λ z. absurd (o z)) (λ f z. status-summed c f z) (λ f z. absurd (k z)), command-rows 0x13 .1 r)
 
-    heard-status : (q : OccResult) (e : Deed) → Heard s sender c d q e → ByTable Told q (OccStatus s sender c)
-    unfolding OccStatus accepts says kept answered
+    heard-status : (q : Said) (e : Deed) → Heard s sender c d q e → ByTable Told q (OccStatus s sender c)
+    unfolding OccStatus accepts done kept
     heard-status q e (ill-read z) =
         by-row c (λ o. hit Told o (tells _ _ (status-overlong c o))) (λ h k. absurd (z (status-summed c h k)))
         (λ h k. miss Told (fits-whole h) (hit Told k (tells _ _ (status-unsummed c h k))))
@@ -232,40 +233,40 @@ module _ (s : Session) (typed : TypedSession s) (sender : ℕ) (c d : List ℕ) 
         past-packet z (record {
           exactly = λ m. (λ g. command-rows m .0 (v ∙ ap Refuse (one-status n m g)), λ r. says-error n m (same-refusal n m (sym v ∙ command-rows m .1 r)));
         })
-    heard-status q e (polled z v) = no-status z (ap accepts v) (λ n g. told-apart n (sym (ap (λ (x : OccResult). x .reply) g) ∙ poll-is (polled-type v)))
-    heard-status q e (no-room z ch v full) = no-status z (ap accepts v) (λ n g. omega (arith, ap (λ (x : OccResult). x .outcome .answer) g))
-    heard-status q e (carried z ch v fits) = no-status z (ap accepts v) (λ n g. told-apart n (sym (ap (λ (x : OccResult). x .reply) g) ∙ done-is (made-type ch v)))
+    heard-status q e (polled z v) = no-status z (ap accepts v) (λ n g. told-apart n (sym (ap (λ (x : Said). x .reply) g) ∙ poll-is (polled-type v)))
+    heard-status q e (no-room z ch v full) = no-status z (ap accepts v) (λ n g. omega (arith, ap (λ (x : Said). x .answer) g))
+    heard-status q e (carried z ch v fits) = no-status z (ap accepts v) (λ n g. told-apart n (sym (ap (λ (x : Said). x .reply) g) ∙ done-is (made-type ch v)))
 
   -- ---- every call
 
-  answer-table : (q : OccResult) (e : Deed) → Called s sender c d q e → ByTable Answers q (OccAnswer s sender c d)
+  answer-table : (q : Said) (e : Deed) → Called s sender c d q e → ByTable Answers q (OccAnswer s sender c d)
   unfolding OccAnswer
   answer-table q e (ill-formed h) = hit Answers h (answers-kept _ _ _)
   answer-table q e (unknown w h) = miss Answers (λ z. z w) (hit Answers h (answers-kept _ _ _))
   answer-table q e (short-reply w k h) = miss Answers (λ z. z w) (miss Answers (λ z. z k) (hit Answers h (answers-kept _ _ _)))
   answer-table q e (short-command w k l h) =
       miss Answers (λ z. z w) (miss Answers (λ z. z k) (miss Answers (λ z. not-le-of-lt z l) (hit Answers h (answers-kept _ _ _))))
-  answer-table q e (due p r g h) =
+  answer-table q e (answered p r g h) =
       miss Answers (λ z. z (p .formed)) (miss Answers (λ z. z (p .known)) (miss Answers (λ z. not-le-of-lt z (p .reply)) (miss Answers (λ z. not-le-of-lt z (p .command)) (heard-answer p r g h))))
 
-  status-table : (x : OccDue s sender c d) (q : OccResult) (e : Deed) → Called s sender c d q e → ByTable (Told x) q (OccStatus s sender c)
+  status-table : (x : OccDue s sender c d) (q : Said) (e : Deed) → Called s sender c d q e → ByTable (Told x) q (OccStatus s sender c)
   status-table x q e (ill-formed h) = absurd (h (x .formed))
   status-table x q e (unknown w h) = absurd (h (x .known))
   status-table x q e (short-reply w k h) = absurd (not-le-of-lt h (x .reply))
   status-table x q e (short-command w k l h) = absurd (not-le-of-lt h (x .command))
-  status-table x q e (due p r g h) = heard-status p r g h
+  status-table x q e (answered p r g h) = heard-status p r g h
 
-  success : wellFormed s ≡ true → (q : OccResult) (e : Deed) → Called s sender c d q e
-      → ((q .outcome .answer ≡ 0) and (q .reply ≡ atFront (successReply s c) d))
+  success : wellFormed s ≡ true → (q : Said) (e : Deed) → Called s sender c d q e
+      → ((q .answer ≡ 0) and (q .reply ≡ atFront (successReply s c) d))
       ↔ (KnownSender sender and (4096 ≤ length d) and (4 ≤ length c) and WellAsked s sender c and (NotPoll c → HasRoom s (occKind c)))
-  unfolding kept answered
+  unfolding kept
   success x q e (ill-formed h) = absurd (h x)
   success x q e (unknown w h) = (λ z. absurd (omega (arith, z .0)), λ z. absurd (h (z .0)))
   success x q e (short-reply w k h) = (λ z. absurd (omega (arith, z .0)), λ z. absurd (not-le-of-lt h (z .1 .0)))
   success x q e (short-command w k l h) = (λ z. absurd (omega (arith, z .0)), λ z. absurd (not-le-of-lt h (z .1 .1 .0)))
-  success x q e (due p r g h) = let i = heard-exactly p r g h in (λ z. (p .known, (p .reply, (p .command, i .0 z))), λ z. i .1 (z .1 .1 .1))
+  success x q e (answered p r g h) = let i = heard-exactly p r g h in (λ z. (p .known, (p .reply, (p .command, i .0 z))), λ z. i .1 (z .1 .1 .1))
 
-  pub occ-answers : (n : ℕ) → (occCall s sender c d .outcome .answer ≡ n) ↔ OccAnswer s sender c d n
+  pub occ-answers : (n : ℕ) → (occCall s sender c d .answer ≡ n) ↔ OccAnswer s sender c d n
   occ-answers = answer-table _ _ (called s sender c d) .exactly
 
   pub occ-statuses : OccDue s sender c d → (n : ℕ) → (occCall s sender c d ≡ occError s c d n) ↔ OccStatus s sender c n
@@ -281,24 +282,24 @@ module _ (s : Session) (typed : TypedSession s) (sender : ℕ) (c d : List ℕ) 
 
   -- ---- answer 0: a reply, good or error, is written
 
-  heard-reply : OccDue s sender c d → (q : OccResult) (e : Deed) → Heard s sender c d q e → q .outcome .answer ≡ 0
+  heard-reply : OccDue s sender c d → (q : Said) (e : Deed) → Heard s sender c d q e → q .answer ≡ 0
       → (q .reply ≡ atFront (successReply s c) d) ⊎ ((n : ℕ) × (q ≡ occError s c d n))
-  unfolding says kept answered
+  unfolding done kept
   heard-reply p q e (ill-read z) h = inr (packetStatus c, says-error p (packetStatus c) (packetStatus c) refl)
   heard-reply p q e (declined z n v) h = inr (n, says-error p n n refl)
   heard-reply p q e (polled z v) h = inl (poll-is p (polled-type p v))
   heard-reply p q e (no-room z ch v full) h = absurd (omega (arith, h))
   heard-reply p q e (carried z ch v fits) h = inl (done-is p (made-type p ch v))
 
-  called-reply : (q : OccResult) (e : Deed) → Called s sender c d q e → q .outcome .answer ≡ 0
+  called-reply : (q : Said) (e : Deed) → Called s sender c d q e → q .answer ≡ 0
       → (q .reply ≡ atFront (successReply s c) d) ⊎ ((n : ℕ) × (q ≡ occError s c d n))
-  unfolding kept answered
+  unfolding kept
   called-reply q e (ill-formed x) h = absurd (omega (arith, h))
   called-reply q e (unknown w x) h = absurd (omega (arith, h))
   called-reply q e (short-reply w k x) h = absurd (omega (arith, h))
   called-reply q e (short-command w k l x) h = absurd (omega (arith, h))
-  called-reply q e (due p r g x) h = heard-reply p r g x h
+  called-reply q e (answered p r g x) h = heard-reply p r g x h
 
-  pub occ-reply : occCall s sender c d .outcome .answer ≡ 0
+  pub occ-reply : occCall s sender c d .answer ≡ 0
       → (occCall s sender c d .reply ≡ atFront (successReply s c) d) ⊎ ((n : ℕ) × (occCall s sender c d ≡ occError s c d n))
   occ-reply = called-reply _ _ (called s sender c d)

@@ -18,13 +18,14 @@ use Rattle.occ.specs.declared.Verdict.{Verdict}
 use Rattle.occ.specs.declared.Verdict.the-variants.{Refuse, Poll, Make}
 use Rattle.occ.specs.declared.Judged.{Judged}
 use Rattle.session.specs.Session.{wellFormed, carriedOf}
+use Rattle.session.specs.Road.{Asks, due, Said, kept, done, carriedSays, settled}
 use Rattle.session.specs.declared.Session.{Session}
-use Rattle.occ_call.specs.Occ.{OccResult, kept, says, knownSender, refusalOf, occRefusal, carriedSays, occMade, toldOf, verdictSays, judgedSays, askedFor, askedOf, occRead, occFrom, occCall}
-use Rattle.promises.specs.Calls.{occ}
+use Rattle.occ_call.specs.Occ.{knownSender, refusalOf, occRefusal, toldOf, verdictAsks, judgedAsks, askedFor, askedOf, occRead, occAsks, occCall}
+use Rattle.promises.specs.Calls.{occ, asks}
+use Rattle.promises.specs.History.{Deed, keeps, adds, adding, deedBy, deed}
+use Rattle.promises.specs.laws.ByTest.{by-both}
 use Rattle.promises.specs.Demand1.{OccDue}
 use Rattle.promises.specs.Demand2.{KnownSender}
-use Rattle.promises.specs.History.{Deed, keeps, adds, adding, occVerdict, occJudgement, deed}
-use Rattle.promises.specs.laws.Demand3.{by-both}
 
 pub known-exactly : (sender : ℕ) → (knownSender sender ≡ true) ↔ KnownSender sender
 unfolding knownSender
@@ -38,41 +39,47 @@ module _ (s : Session) (sender : ℕ) (c d : List ℕ) where
   edit ch = record { change = ch; tables = judged .tables }
 
   -- a command that is due an answer
-  pub data Heard : OccResult → Deed → Type 0 where
-    ill-read : (packetStatus c ≡ 0 → ⊥) → Heard (says s (replied (getD c 0 0) (getD c 1 0) (packetStatus c) noLogId d)) keeps
-    declined : packetStatus c ≡ 0 → (n : ℕ) → judged .verdict ≡ Refuse n → Heard (says s (replied (getD c 0 0) (getD c 1 0) n noLogId d)) keeps
-    polled : packetStatus c ≡ 0 → judged .verdict ≡ Poll → Heard (says s (replied (getD c 0 0) 0x00 0x00 (pollData (s .held) (s .worked)) d)) keeps
+  pub data Heard : Said → Deed → Type 0 where
+    ill-read : (packetStatus c ≡ 0 → ⊥) → Heard (done s 0 0 (replied (getD c 0 0) (getD c 1 0) (packetStatus c) noLogId d)) keeps
+    declined : packetStatus c ≡ 0 → (n : ℕ) → judged .verdict ≡ Refuse n → Heard (done s 0 0 (replied (getD c 0 0) (getD c 1 0) n noLogId d)) keeps
+    polled : packetStatus c ≡ 0 → judged .verdict ≡ Poll → Heard (done s 0 0 (replied (getD c 0 0) 0x00 0x00 (pollData (s .held) (s .worked)) d)) keeps
     no-room : packetStatus c ≡ 0 → (ch : Change) → judged .verdict ≡ Make ch → carriedOf s (edit ch) .full ≡ true → Heard (kept 5 s d) keeps
     carried : packetStatus c ≡ 0 → (ch : Change) → judged .verdict ≡ Make ch → carriedOf s (edit ch) .full ≡ false
-        → Heard (says (carriedOf s (edit ch) .session) (replied (getD c 0 0) (getD c 1 0) 0x00 [] d)) (adds (edit ch))
+        → Heard (done (carriedOf s (edit ch) .session) 0 0 (replied (getD c 0 0) (getD c 1 0) 0x00 [] d)) (adds (edit ch))
 
-  heard-verdict : packetStatus c ≡ 0 → (v : Verdict) → judged .verdict ≡ v → Heard (verdictSays s (getD c 0 0) (getD c 1 0) d (judged .tables) v) (occVerdict s (judged .tables) v)
-  unfolding verdictSays toldOf occVerdict occMade carriedSays adding
+  abbrev Settles : Asks → Type 0
+  Settles a = Heard (settled s d a) (deedBy s a)
+
+  heard-verdict : packetStatus c ≡ 0 → (v : Verdict) → judged .verdict ≡ v → Settles (verdictAsks (s .held) (s .worked) (getD c 0 0) (getD c 1 0) d (judged .tables) v)
+  unfolding settled deedBy verdictAsks toldOf carriedSays adding
   heard-verdict z (Refuse status) e = declined z status e
   heard-verdict z Poll e = polled z e
   heard-verdict z (Make ch) e = by-both Heard (carriedOf s (edit ch) .full) (no-room z ch e) (carried z ch e)
 
-  heard : Heard (occRead s sender c d) (occJudgement s (askedOf (s .held) (s .worked) (s .next) sender c))
-  unfolding occRead askedOf askedFor judgedSays occJudgement verdictSays toldOf occVerdict plainly
+  abbrev read : Asks
+  read = occRead (s .held) (s .worked) (s .next) sender c d
+
+  heard : Settles read
+  unfolding occRead askedOf askedFor judgedAsks verdictAsks toldOf plainly settled deedBy
   heard =
-      cond-cases (λ (j : Judged). Heard (judgedSays s (getD c 0 0) (getD c 1 0) d j) (occJudgement s j)) (not (eqb (packetStatus c) 0))
+      cond-cases (λ (j : Judged). Settles (judgedAsks (s .held) (s .worked) (getD c 0 0) (getD c 1 0) d j)) (not (eqb (packetStatus c) 0))
       (λ f. ill-read (eqb-false _ 0 (not-true _ f)))
       (λ f. heard-verdict (eqb-true _ 0 (not-false _ f)) (judged .verdict) refl)
 
   -- any call
-  pub data Called : OccResult → Deed → Type 0 where
+  pub data Called : Said → Deed → Type 0 where
     ill-formed : (wellFormed s ≡ true → ⊥) → Called (kept 1 s d) keeps
     unknown : wellFormed s ≡ true → (KnownSender sender → ⊥) → Called (kept 2 s d) keeps
     short-reply : wellFormed s ≡ true → KnownSender sender → length d < 4096 → Called (kept 3 s d) keeps
     short-command : wellFormed s ≡ true → KnownSender sender → 4096 ≤ length d → length c < 4 → Called (kept 4 s d) keeps
-    due : OccDue s sender c d → (q : OccResult) (e : Deed) → Heard q e → Called q e
+    answered : OccDue s sender c d → (q : Said) (e : Deed) → Heard q e → Called q e
 
   -- what a refusal, if one is due, makes of it
   abbrev Refused : ℕ → Type 0
-  Refused n = Called (occFrom n s sender c d) (cond (not (eqb n 0)) keeps (occJudgement s (askedOf (s .held) (s .worked) (s .next) sender c)))
+  Refused n = Called (settled s d (due n read)) (deedBy s (due n read))
 
   pub called : Called (occCall s sender c d) (deed s (occ sender c d))
-  unfolding occCall occFrom occRefusal refusalOf deed
+  unfolding occCall occAsks due occRefusal refusalOf deed asks settled deedBy
   called =
       cond-cases Refused (not (wellFormed s)) (λ f. ill-formed (λ w. true≢false (sym w ∙ not-true _ f)))
       (λ f. let w = not-false _ f in
@@ -80,4 +87,4 @@ module _ (s : Session) (sender : ℕ) (c d : List ℕ) where
       (λ g. let k = known-exactly sender .0 (not-false _ g) in
       cond-cases Refused (ltb (length d) 4096) (λ h. short-reply w k (ltb-true _ _ h))
       (λ h. cond-cases Refused (ltb (length c) 4) (λ l. short-command w k (ltb-false _ _ h) (ltb-true _ _ l))
-      (λ l. due (record { formed = w; known = k; reply = ltb-false _ _ h; command = ltb-false _ _ l }) _ _ heard))))
+      (λ l. answered (record { formed = w; known = k; reply = ltb-false _ _ h; command = ltb-false _ _ l }) _ _ heard))))

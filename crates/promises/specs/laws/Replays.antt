@@ -15,6 +15,7 @@ use Rattle.entries.specs.Entries.{Entry, bytesOf, written, entriesOf, readingOf
 use Rattle.entries.specs.laws.ByTable.{whole-front}
 use Rattle.trace.specs.Trace.{traceTable, traceScan}
 use Rattle.session.specs.Session.{freshSession}
+use Rattle.session.specs.Road.{Said}
 use Rattle.session.specs.declared.Session.{Session}
 use Rattle.journal.specs.declared.Way.the-variants.{Before}
 use Rattle.image.specs.Image.{imageOf}
@@ -23,11 +24,11 @@ use Rattle.places.specs.declared.Blame.{Blame}
 use Rattle.occ_call.specs.Occ as occs
 use Rattle.occ_call.specs.laws.Why.{answer-beside}
 use Rattle.sbe_call.specs.Sbe as sbes
-use Rattle.undo_call.specs.Undo.{undoOn, movedLeft}
+use Rattle.undo_call.specs.Undo.{moveCall, undoOn, movedLeft}
 use Rattle.playing.specs.Playing.{Heard, ifWritten, heardWith, occHeard, sbeHeard, undoHeard, heard, line, imageAfter, stopLine, piecesOf}
 use Rattle.playing.specs.Steps.{oldestFirst, imageFrom, linesFrom}
 use Rattle.playing.specs.laws.Steps.{image-by-steps, lines-by-steps, pieces-of-whole, entries-of-whole}
-use Rattle.promises.specs.Calls.{Call, occ, sbe, undo, said}
+use Rattle.promises.specs.Calls.{Call, occ, sbe, undo, bufferOf, asks, said}
 use Rattle.promises.specs.History.{Run, did, next-run, run, start, OfBytes, AllOfBytes}
 use Rattle.promises.specs.Replays.{callOf, callsOf, callsIn, wholePart, statusOf, heardOf, linesBy}
 use Rattle.promises.specs.laws.Demand3.{Inv, next-inv}
@@ -37,12 +38,12 @@ use Rattle.promises.specs.laws.Lent.{occ-on, sbe-on, move-on, run-typed}
 -- ---- an entry played on the image of a session is its call on the session
 
 -- which byte is wrong stands beside the answer, and isn't heard
-abbrev heardAs : occs.OccResult → ℕ → Heard
-heardAs q n = record { answer = n; image = imageOf (q .outcome .session); status = ifWritten n (take 1 (drop 2 (q .reply))) }
+abbrev heardAs : Said → ℕ → Heard
+heardAs q n = record { answer = n; image = imageOf (q .session); status = ifWritten n (take 1 (drop 2 (q .reply))) }
 
-occ-heard : (q : occs.OccResult) (why : Blame) → occHeard (occs.occLeft q why) ≡ heardAs q (q .outcome .answer)
+occ-heard : (q : Said) (why : Blame) → occHeard (occs.occLeft q why) ≡ heardAs q (q .answer)
 unfolding heardWith occs.occLeft
-occ-heard q why = ap (heardAs q) (answer-beside (q .outcome .answer) why)
+occ-heard q why = ap (heardAs q) (answer-beside (q .answer) why)
 
 module _ (s : Session) (t : Typed s) (r r′ c c′ : List ℕ) (sender : ℕ) where
   abbrev b : List ℕ
@@ -53,7 +54,7 @@ module _ (s : Session) (t : Typed s) (r r′ c c′ : List ℕ) (sender : ℕ) w
 
   one-heard : (x y : Bool)
       → cond x (sbeHeard (sbes.sbeOn b r r′)) (cond y (undoHeard (undoOn b)) (occHeard (occs.occOn b sender c c′))) ≡ heardOf (called x y) (said s (called x y))
-  unfolding heardOf said statusOf heardWith sbes.sbeLeft movedLeft
+  unfolding heardOf said asks bufferOf statusOf heardWith sbes.sbeLeft sbes.sbeCall movedLeft moveCall occs.occCall
   one-heard true y = ap sbeHeard (sbe-on s t r r′)
   one-heard false true = ap undoHeard (move-on s t Before)
   one-heard false false = ap occHeard (occ-on s t sender c c′) ∙ occ-heard (occs.occCall s sender c c′) (occs.occWhy s sender c c′)

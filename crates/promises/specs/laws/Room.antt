@@ -11,7 +11,7 @@ use Rattle.change.specs.declared.Edit.{Edit}
 use Rattle.entries.specs.Entries.{bodyLen}
 use Rattle.journal.specs.Add.{entryLen, endOf}
 use Rattle.journal.specs.declared.End.the-variants.{At, Full}
-use Rattle.session.specs.Session.{withHeld, carriedTo, carriedOf}
+use Rattle.session.specs.Session.{renewed, carriedTo, carriedOf}
 use Rattle.session.specs.declared.Session.{Session}
 use Rattle.links.specs.laws.Links.{kind-of-back}
 use Rattle.promises.specs.Demand1.{NoRoom}
@@ -39,7 +39,7 @@ end-full s e b n used f = go (ltb n used) (ltb (n - used) (entryLen b)) refl ref
 
 -- one that isn't makes the used journal longer
 end-longer : (s : Session) (e b : Edit) (n : ℕ) → carriedTo s e (endOf n (s .used) b) .full ≡ false → s .used < carriedTo s e (endOf n (s .used) b) .session .used
-unfolding endOf carriedTo withHeld
+unfolding endOf carriedTo renewed
 end-longer s e b n f = go (ltb n (s .used)) (ltb (n - s .used) (entryLen b)) f
   where
     go : (x y : Bool) → carriedTo s e (cond x Full (cond y Full (At (s .used + entryLen b)))) .full ≡ false

@@ -33,8 +33,9 @@ use Rattle.journal.specs.declared.Way.the-variants.{Before, After}
 use Rattle.session.specs.Session.{wellFormed}
 use Rattle.session.specs.laws.Session.{formed}
 use Rattle.session.specs.declared.Session.{Session}
-use Rattle.undo_call.specs.Undo.{storeOf, usedOf, noneLeft, Moved, notMoved, moved, movedPut, movedWith, movedFound, movedGot, movedAt, movedRead, movedNewest, moveCall, undoCall, redoCall}
-use Rattle.undo_call.specs.laws.Came.{none-zero}
+use Rattle.session.specs.Road.{Asks, refuses, moves, storeOf, usedOf, kept, done, settled}
+use Rattle.undo_call.specs.Undo.{putAsks, editAsks, foundAsks, gotAsks, entryAsks, readAsks, noneLeft, newestAsks, moveAsks, moveCall, undoCall, redoCall}
+use Rattle.undo_call.specs.laws.NoneLeft.{none-zero}
 use Rattle.promises.specs.Demand1.{MoveAnswer, UndoAnswer, RedoAnswer}
 use Rattle.promises.specs.Demand2.{Newest, GoesIn, Movable, MoveAccepted, UndoAccepted, RedoAccepted}
 use Rattle.promises.specs.laws.FormedStores.{reads, all-parts, store-of}
@@ -108,21 +109,21 @@ module _ (w : Way) (s : Session) where
 
   -- ---- the ways
 
-  pub data Called : Moved → Type 0 where
-    ill-formed : (wellFormed s ≡ true → ⊥) → Called (notMoved 1 s)
-    empty : wellFormed s ≡ true → usedOf w s ≡ 0 → Called (notMoved (noneLeft w) s)
-    kept : wellFormed s ≡ true → (e : Edit) → Newest w s e → (Movable s e → ⊥) → Called (notMoved 7 s)
-    moves : wellFormed s ≡ true → (e : Edit) (n : Newest w s e) → Movable s e → Called (moved w s (length (written (n .older))) e (putOf (s .held) e))
+  pub data Called : Asks → Type 0 where
+    ill-formed : (wellFormed s ≡ true → ⊥) → Called (refuses 1)
+    empty : wellFormed s ≡ true → usedOf w s ≡ 0 → Called (refuses (noneLeft w))
+    barred : wellFormed s ≡ true → (e : Edit) → Newest w s e → (Movable s e → ⊥) → Called (refuses 7)
+    goes : wellFormed s ≡ true → (e : Edit) (n : Newest w s e) → Movable s e → Called (moves w (length (written (n .older))) e)
 
   module _ (x : wellFormed s ≡ true) where
-    called-with : (e : Edit) (n : Newest w s e) → Called (movedWith w s (length (written (n .older))) e)
-    unfolding movedWith movedPut putOf
+    called-with : (e : Edit) (n : Newest w s e) → Called (editAsks w s (length (written (n .older))) e)
+    unfolding editAsks putAsks putOf
     called-with e n =
         let exactly = goes-exactly (s .held) (e .tables) (e .change) in
         let fine = recordOk (putOf (s .held) e .after) (s .next) in
-        cond-cases Called (not (putOf (s .held) e .ok)) (λ h. kept x e n (λ u. true≢false (sym (exactly .1 (u .0)) ∙ not-true _ h)))
-        (λ h. cond-cases Called (not fine) (λ g. kept x e n (λ u. true≢false (sym (u .1) ∙ not-true _ g)))
-        (λ g. moves x e n (exactly .0 (not-false _ h), not-false _ g)))
+        cond-cases Called (not (putOf (s .held) e .ok)) (λ h. barred x e n (λ u. true≢false (sym (exactly .1 (u .0)) ∙ not-true _ h)))
+        (λ h. cond-cases Called (not fine) (λ g. barred x e n (λ u. true≢false (sym (u .1) ∙ not-true _ g)))
+        (λ g. goes x e n (exactly .0 (not-false _ h), not-false _ g)))
 
     whole : length used-part ≡ usedOf w s
     whole = length-take-le (usedOf w s) (storeOf w s) (store-of s (formed s x) w .fits)
@@ -152,17 +153,17 @@ module _ (w : Way) (s : Session) where
       abbrev newest : Edit
       newest = record { change = change-there .0; tables = tablesIn (y .kind) (y .body) }
 
-      at-is : movedAt w s at ≡ movedWith w s at newest
-      unfolding movedAt movedGot movedFound
-      at-is = ap (movedGot w s at) says ∙ ap (movedFound w s at (tablesIn (y .kind) (y .body))) (change-there .1)
+      at-is : entryAsks w s at ≡ editAsks w s at newest
+      unfolding entryAsks gotAsks foundAsks
+      at-is = ap (gotAsks w s at) says ∙ ap (foundAsks w s at (tablesIn (y .kind) (y .body))) (change-there .1)
 
-      called-newest : Called (movedRead w s (readingOf (scan used-part)))
-      unfolding movedRead readingOf newestAt
+      called-newest : Called (readAsks w s (readingOf (scan used-part)))
+      unfolding readAsks readingOf newestAt
       called-newest =
-          subst Called (sym (ap (λ (v : Scan). movedRead w s (readingOf v)) read ∙ at-is))
+          subst Called (sym (ap (λ (v : Scan). readAsks w s (readingOf v)) read ∙ at-is))
           (called-with newest (record { entry = y; older = es; read = read; change = change-there .1; tables = refl }))
 
-    called-read : (es : List Entry) → (usedOf w s ≡ 0 → ⊥) → scan used-part ≡ between es → allOk w es ≡ true → Called (movedRead w s (readingOf (scan used-part)))
+    called-read : (es : List Entry) → (usedOf w s ≡ 0 → ⊥) → scan used-part ≡ between es → allOk w es ≡ true → Called (readAsks w s (readingOf (scan used-part)))
     unfolding written
     called-read [] some read good =
         let n = ap length (scan-written used-part [] read) in
@@ -170,8 +171,8 @@ module _ (w : Way) (s : Session) where
         absurd (some z)
     called-read (y ∷ es) some read good = called-newest y es read good
 
-  pub called : Called (moveCall w s)
-  unfolding moveCall movedNewest
+  pub called : Called (moveAsks w s)
+  unfolding moveAsks newestAsks
   called =
       cond-cases Called (not (wellFormed s)) (λ f. ill-formed (λ x. true≢false (sym x ∙ not-true _ f)))
       (λ f. let x = not-false _ f in
@@ -180,35 +181,40 @@ module _ (w : Way) (s : Session) where
 
   -- ---- demand 2
 
-  success : wellFormed s ≡ true → (q : Moved) → Called q → (q .answer ≡ 0) ↔ MoveAccepted w s
-  unfolding notMoved moved
-  success x q (ill-formed h) = absurd (h x)
-  success x q (empty y z) = (λ e. absurd (none-zero w e), λ a. absurd (newest-used (a .0) (a .1 .0) z))
-  success x q (kept y e n bar) = (λ e. absurd (omega (arith, e)), λ a. absurd (bar (subst (Movable s) (newest-one (a .0) e (a .1 .0) n) (a .1 .1))))
-  success x q (moves y e n u) = (λ z. (e, (n, u)), λ a. refl)
+  abbrev answer : Asks → ℕ
+  answer a = settled s [] a .answer
+
+  success : wellFormed s ≡ true → (a : Asks) → Called a → (answer a ≡ 0) ↔ MoveAccepted w s
+  unfolding settled kept done
+  success x a (ill-formed h) = absurd (h x)
+  success x a (empty y z) = (λ e. absurd (none-zero w e), λ m. absurd (newest-used (m .0) (m .1 .0) z))
+  success x a (barred y e n bar) = (λ e. absurd (omega (arith, e)), λ m. absurd (bar (subst (Movable s) (newest-one (m .0) e (m .1 .0) n) (m .1 .1))))
+  success x a (goes y e n u) = (λ z. (e, (n, u)), λ m. refl)
 
   pub move-accepted : wellFormed s ≡ true → (moveCall w s .answer ≡ 0) ↔ MoveAccepted w s
+  unfolding moveCall
   move-accepted x = success x _ called
 
   -- ---- the answers
 
-  abbrev Answers : Moved → ℕ → Type 0
-  Answers q n = q .answer ≡ n
+  abbrev Answers : Asks → ℕ → Type 0
+  Answers a n = answer a ≡ n
 
-  refuses : (n : ℕ) → ByTable Answers (notMoved n s) (is n)
-  unfolding notMoved
-  refuses n = by-is Answers refl (λ m e. sym e)
+  numbered : (n : ℕ) → ByTable Answers (refuses n) (is n)
+  unfolding settled kept
+  numbered n = by-is Answers refl (λ m e. sym e)
 
-  answer-table : (q : Moved) → Called q → ByTable Answers q (MoveAnswer w (noneLeft w) s)
-  unfolding MoveAnswer moved
-  answer-table q (ill-formed h) = hit Answers h (refuses 1)
-  answer-table q (empty x z) = miss Answers (λ h. h x) (hit Answers z (refuses (noneLeft w)))
-  answer-table q (kept x e n bar) = miss Answers (λ h. h x) (miss Answers (newest-used e n) (hit Answers (e, (n, bar)) (refuses 7)))
-  answer-table q (moves x e n u) =
+  answer-table : (a : Asks) → Called a → ByTable Answers a (MoveAnswer w (noneLeft w) s)
+  unfolding MoveAnswer settled done
+  answer-table a (ill-formed h) = hit Answers h (numbered 1)
+  answer-table a (empty x z) = miss Answers (λ h. h x) (hit Answers z (numbered (noneLeft w)))
+  answer-table a (barred x e n bar) = miss Answers (λ h. h x) (miss Answers (newest-used e n) (hit Answers (e, (n, bar)) (numbered 7)))
+  answer-table a (goes x e n u) =
       miss Answers (λ h. h x) (miss Answers (newest-used e n)
-      (miss Answers (λ a. a .1 .1 (subst (Movable s) (newest-one e (a .0) n (a .1 .0)) u)) (by-is Answers refl (λ m e. sym e))))
+      (miss Answers (λ m. m .1 .1 (subst (Movable s) (newest-one e (m .0) n (m .1 .0)) u)) (by-is Answers refl (λ m e. sym e))))
 
   pub move-answers : (n : ℕ) → (moveCall w s .answer ≡ n) ↔ MoveAnswer w (noneLeft w) s n
+  unfolding moveCall
   move-answers = answer-table _ called .exactly
 
 -- ---- undo and redo

@@ -3,7 +3,8 @@ use Prim.Native.Nat.{ℕ}
 use mathlib.Core.Path.{refl}
 use mathlib.Core.List.{List, [], _∷_, _++_}
 use lib.ListN.{take}
-use Rattle.promises.specs.Calls.{undo, redo, Said, said}
+use Rattle.promises.specs.Calls.{undo, redo, said, bufferOf, asks}
+use Rattle.session.specs.Road.{Said}
 use Rattle.promises.specs.Examples.{Row, All, holds, sent, after, poll, processor}
 use Rattle.promises.specs.laws.ComputedSession.{computedSession}
 use Rattle.promises.specs.laws.ComputedOcc.{computedOcc}
@@ -47,5 +48,5 @@ unsetTable =
     ∷ []
 
 pub unset-thresholds : All holds unsetTable
-unfolding unsetTable computedSession computedOcc computedSbe said sent after poll processor unset
+unfolding unsetTable computedSession computedOcc computedSbe said asks bufferOf sent after poll processor unset
 unset-thresholds = (refl, (refl, (refl, (refl, (refl, tt)))))

@@ -1,35 +1,33 @@
 -- Well-formed in, well-formed out: for every call, on every well-formed session, reached from a fresh one or not. Assumes nothing.
 use Prim.Native.Nat.{ℕ, _+_, _≤_}
 use mathlib.Core.Bool.{true, false}
-use mathlib.Core.Path.{_≡_, refl, ap, _∙_}
-use mathlib.Core.List.{List}
+use mathlib.Core.Path.{_≡_, refl, sym, ap, subst, _∙_}
+use mathlib.Core.List.{List, []}
 use native.Mathlib.Omega.{arith}
-use lib.ListN.{length, getD, replicate}
+use lib.ListN.{length, replicate}
 use Rattle.wire.specs.Wire.{Bytes}
+use Rattle.wire.specs.laws.Cases.{cond-cases}
 use Rattle.change.specs.Change.{putOf, inverseOf}
 use Rattle.change.specs.declared.Edit.{Edit}
 use Rattle.journal.specs.Add.{entryLen, addedTo}
+use Rattle.journal.specs.laws.Ends.{end-at}
 use Rattle.journal.specs.declared.End.{End}
 use Rattle.journal.specs.declared.Way.{Way}
 use Rattle.journal.specs.declared.Way.the-variants.{Before, After}
-use Rattle.journal.specs.laws.Ends.{end-at}
-use Rattle.packet.specs.Packet.{dataOf}
-use Rattle.session.specs.Session.{wellFormed, withHeld, madeOf, carriedTo, carriedOf}
+use Rattle.session.specs.Session.{wellFormed, renewed, madeOf, carriedTo, carriedOf}
+use Rattle.session.specs.Road.{Asks, refuses, tells, makes, moves, sessionMoved, Said, kept, done, carriedSays, settled}
 use Rattle.session.specs.laws.Session.{Formed, formed, formed-ok}
 use Rattle.session.specs.declared.Session.{Session}
-use Rattle.occ_call.specs.Occ as occs
-use Rattle.occ_call.specs.laws.Came as occ-came
-use Rattle.sbe_call.specs.Sbe as sbes
-use Rattle.sbe_call.specs.laws.Came as sbe-came
-use Rattle.undo_call.specs.Undo.{Moved, notMoved, moveCall, undoCall, redoCall}
+use Rattle.occ_call.specs.Occ.{occAsks, occCall}
+use Rattle.sbe_call.specs.Sbe.{sbeAsks, sbeCall}
+use Rattle.undo_call.specs.Undo.{moveAsks, moveCall, undoCall, redoCall}
 use Rattle.links.specs.Typed.{TypedSession}
 use Rattle.links.specs.laws.Made.{Made}
 use Rattle.links.specs.laws.Links.{Link, link}
-use Rattle.promises.specs.laws.Asked.{data-bytes, occ-made, sbe-made}
+use Rattle.promises.specs.laws.FormedStores.{one-more, none-used}
 use Rattle.promises.specs.laws.Moves.{moved-formed}
 use Rattle.promises.specs.laws.Room.{end-room}
-use Rattle.promises.specs.laws.FormedStores.{none-used, one-more}
-use Rattle.promises.specs.laws.UndoDemands as ways
+use Rattle.promises.specs.laws.Sound.{Sound, occ-sound, sbe-sound, move-sound}
 
 -- ---- a change carried out
 
@@ -45,7 +43,7 @@ module _ (s : Session) (f : Formed s) (typed : TypedSession s) (e : Edit) (m : M
   room = end-room s e b (length (s .journal)) (s .used) fits
 
   abbrev after : Session
-  after = withHeld (putOf (s .held) e .after) (s .next + madeOf (e .change)) (addedTo (s .used) b (s .journal)) (s .used + entryLen b) (replicate 2048 0) 0
+  after = renewed s (putOf (s .held) e .after) (s .next + madeOf (e .change)) (addedTo (s .used) b (s .journal)) (s .used + entryLen b) (replicate 2048 0) 0
 
   pub session-is : carriedOf s e .session ≡ after
   unfolding carriedOf carriedTo
@@ -53,7 +51,7 @@ module _ (s : Session) (f : Formed s) (typed : TypedSession s) (e : Edit) (m : M
 
   -- the redo store is empty
   pub carried-formed : wellFormed (carriedOf s e .session) ≡ true
-  unfolding withHeld
+  unfolding renewed
   carried-formed =
       ap wellFormed session-is
       ∙ formed-ok after (record {
@@ -64,39 +62,34 @@ module _ (s : Session) (f : Formed s) (typed : TypedSession s) (e : Edit) (m : M
         redo = none-used After 2048;
       })
 
+-- ---- what comes of what a call asks
+
+module _ (s : Session) (typed : TypedSession s) (whole : wellFormed s ≡ true) (d : List ℕ) where
+  abbrev Whole : Said → Type 0
+  Whole q = wellFormed (q .session) ≡ true
+
+  asked-formed : (a : Asks) → Sound s a → Whole (settled s d a)
+  unfolding settled carriedSays kept done
+  asked-formed (refuses n) h = whole
+  asked-formed (tells bell y) h = whole
+  asked-formed (makes e bell y) h = cond-cases Whole (carriedOf s e .full) (λ f. whole) (λ f. carried-formed s (formed s whole) typed e h f)
+  asked-formed (moves w at e) h =
+      subst (λ (k : ℕ). wellFormed (sessionMoved w s k e (putOf (s .held) e .after)) ≡ true) (sym (h .1)) (moved-formed w s (formed s whole) e (h .0) typed (h .2 .1))
+
 -- ---- each call
 
 module _ (s : Session) (typed : TypedSession s) (whole : wellFormed s ≡ true) where
-  occ-out : (sender : ℕ) (c d : List ℕ) → Bytes c → (q : occs.OccResult) → occ-came.Came s sender c d q → wellFormed (q .outcome .session) ≡ true
-  unfolding occs.kept occs.says occs.answered
-  occ-out sender c d bytes q (occ-came.refused n z) = whole
-  occ-out sender c d bytes q (occ-came.replied-to y) = whole
-  occ-out sender c d bytes q (occ-came.carried-out ch w v f) =
-      carried-formed s (formed s whole) typed (occ-came.edit s sender c d ch)
-      (occ-made (s .held) (s .worked) (s .next) sender (getD c 1 0) (dataOf c) (data-bytes c bytes) (formed s whole .record-ok) (typed .held) ch v) f
+  pub occ-formed : (sender : ℕ) (c d : List ℕ) → Bytes c → wellFormed (occCall s sender c d .session) ≡ true
+  unfolding occCall
+  occ-formed sender c d bytes = asked-formed s typed whole d (occAsks s sender c d) (occ-sound s (formed s whole .record-ok) (typed .held) sender c d bytes)
 
-  pub occ-formed : (sender : ℕ) (c d : List ℕ) → Bytes c → wellFormed (occs.occCall s sender c d .outcome .session) ≡ true
-  occ-formed sender c d bytes = occ-out sender c d bytes (occs.occCall s sender c d) (occ-came.came s sender c d)
-
-  sbe-out : (r d : List ℕ) → Bytes r → (q : sbes.SbeResult) → sbe-came.Came s r d q → wellFormed (q .outcome .session) ≡ true
-  unfolding sbes.kept sbes.responds sbes.rung
-  sbe-out r d bytes q (sbe-came.refused n z) = whole
-  sbe-out r d bytes q (sbe-came.responded-to x y) = whole
-  sbe-out r d bytes q (sbe-came.carried-out ch w v f) =
-      carried-formed s (formed s whole) typed (sbe-came.edit ch) (sbe-made (s .held) (s .next) r bytes ch v) f
-
-  pub sbe-formed : (r d : List ℕ) → Bytes r → wellFormed (sbes.sbeCall s r d .outcome .session) ≡ true
-  sbe-formed r d bytes = sbe-out r d bytes (sbes.sbeCall s r d) (sbe-came.came s r d)
-
-  move-out : (w : Way) (q : Moved) → ways.Called w s q → wellFormed (q .session) ≡ true
-  unfolding notMoved
-  move-out w q (ways.ill-formed h) = whole
-  move-out w q (ways.empty x z) = whole
-  move-out w q (ways.kept x e n bar) = whole
-  move-out w q (ways.moves x e n u) = moved-formed w s (formed s x) e n typed (u .1)
+  pub sbe-formed : (r d : List ℕ) → Bytes r → wellFormed (sbeCall s r d .session) ≡ true
+  unfolding sbeCall
+  sbe-formed r d bytes = asked-formed s typed whole d (sbeAsks s r d) (sbe-sound s r d bytes)
 
   move-formed : (w : Way) → wellFormed (moveCall w s .session) ≡ true
-  move-formed w = move-out w (moveCall w s) (ways.called w s)
+  unfolding moveCall
+  move-formed w = asked-formed s typed whole [] (moveAsks w s) (move-sound s w)
 
   pub undo-formed : wellFormed (undoCall s .session) ≡ true
   undo-formed = move-formed Before

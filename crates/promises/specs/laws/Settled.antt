@@ -1,0 +1,55 @@
+-- What comes of a call on two sessions that have the same room for a change: the same is said where the same is asked. Assumes nothing.
+use Prim.Native.Nat.{ℕ, _+_, _-_}
+use mathlib.Core.Bool.{Bool, true, false, cond}
+use mathlib.Core.Path.{_≡_, refl, ap, _∙_}
+use mathlib.Core.List.{List}
+use lib.Dec.{ltb}
+use lib.ListN.{length}
+use Rattle.change.specs.Change.{kindOf, inverseOf}
+use Rattle.change.specs.declared.Edit.{Edit}
+use Rattle.entries.specs.Entries.{bodyLen}
+use Rattle.journal.specs.Add.{entryLen, endOf}
+use Rattle.journal.specs.declared.End.the-variants.{At, Full}
+use Rattle.session.specs.Session.{carriedTo, carriedOf}
+use Rattle.session.specs.Road.{Asks, refuses, tells, makes, moves, Said, kept, done, carriedSays, settled}
+use Rattle.session.specs.declared.Session.{Session}
+use Rattle.links.specs.laws.Links.{kind-of-back}
+use Rattle.promises.specs.History.{keeps, adds, adding, deedBy}
+use Rattle.promises.specs.NoTrace.{SameSaid}
+use Rattle.promises.specs.laws.ByTest.{by-same}
+
+-- ---- answer 5 looks at the journal's room and at the change's kind
+
+unfoldable pub noRoom : ℕ → ℕ → ℕ → Bool
+noRoom n used kind = cond (ltb n used) true (cond (ltb (n - used) (bodyLen kind + 1)) true false)
+
+full-by-end : (s : Session) (e b : Edit) (n used : ℕ) → carriedTo s e (endOf n used b) .full ≡ noRoom n used (kindOf (b .change))
+unfolding endOf carriedTo noRoom
+full-by-end s e b n used = go (ltb n used) (ltb (n - used) (entryLen b))
+  where
+    go : (x y : Bool) → carriedTo s e (cond x Full (cond y Full (At (used + entryLen b)))) .full ≡ cond x true (cond y true false)
+    go true y = refl
+    go false true = refl
+    go false false = refl
+
+pub full-by-kind : (s : Session) (e : Edit) → carriedOf s e .full ≡ noRoom (length (s .journal)) (s .used) (kindOf (e .change))
+unfolding carriedOf inverseOf
+full-by-kind s e =
+    full-by-end s e (inverseOf (s .held) e) (length (s .journal)) (s .used)
+    ∙ ap (noRoom (length (s .journal)) (s .used)) (kind-of-back (s .held) (e .change))
+
+-- ---- the same asked of both
+
+module _ (s t : Session) (full-is : (e : Edit) → carriedOf t e .full ≡ carriedOf s e .full) (d : List ℕ) where
+  alike : {x y : Said} → y .answer ≡ x .answer → y .bell ≡ x .bell → y .kind ≡ x .kind → y .reply ≡ x .reply → SameSaid x y
+  alike a b k r = record { answer = a; bell = b; kind = k; reply = r }
+
+  pub same-settled : (a : Asks) → SameSaid (settled s d a) (settled t d a) × (deedBy t a ≡ deedBy s a)
+  unfolding settled carriedSays kept done deedBy adding
+  same-settled (refuses n) = (alike refl refl refl refl, refl)
+  same-settled (tells bell y) = (alike refl refl refl refl, refl)
+  same-settled (makes e bell y) = (
+    by-same SameSaid (carriedOf s e .full) (carriedOf t e .full) (full-is e) (alike refl refl refl refl) (alike refl refl refl refl),
+    ap (λ (b : Bool). cond b keeps (adds e)) (full-is e),
+  )
+  same-settled (moves w at e) = (alike refl refl refl refl, refl)

@@ -1,4 +1,4 @@
--- The part of the data that is lent to the set readers, and what a number chooses. Assumes nothing.
+-- The part of the data that is lent to the set readers. Assumes nothing.
 use Prim.Native.Nat.{ℕ, _-_, _*_, _≤_}
 use mathlib.Core.Path.{_≡_, sym, ap, _∙_}
 use mathlib.Core.List.{List}
@@ -16,10 +16,6 @@ of-rest f d at e = e ∙ ap f (take-all (length d - at) (drop at d) (simp length
 -- and the part is as long as that
 pub length-rest : (d : List ℕ) (at : ℕ) → length (take (length d - at) (drop at d)) ≡ length d - at
 length-rest d at = simp (length-take, length-drop) (omega arith)
-
--- chosen by a number that is known
-pub at-key : {A : Type 0} (f : ℕ → A) {m k : ℕ} {x : A} → m ≡ k → x ≡ f k → x ≡ f m
-at-key f e p = p ∙ sym (ap f e)
 
 -- data whose status is good has its count, and as many sets as that says
 pub counted-sets : (width : ℕ) (d : List ℕ) {status : ℕ} → status ≡ setsStatus width d → status ≡ 0 → (3 ≤ length d) × (length d - 3 ≡ getD d 2 0 * width)

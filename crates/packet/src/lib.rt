@@ -18,7 +18,7 @@ pub fn status(c: &[u8]) -> u8
     }
     let end = n + 4;
     let sent = wire::be16(c, end);
-    if sent != wire::sum(&c[..end]) {
+    if sent != packet_sum::sum(&c[..end]) {
         return 0x14;
     }
     0x00
@@ -55,7 +55,7 @@ pub fn reply(d: &mut [u8], seq: u8, kind: u8, status: u8, part: &[u8])
     wire::put_be(&mut *d, 3, 2, n as u64);
     wire::copy(&mut *d, 5, part);
     let end = 5 + n;
-    let sum = wire::sum(&d[..end]);
+    let sum = packet_sum::sum(&d[..end]);
     wire::put_be(d, end, 2, sum as u64);
 }
 

@@ -1,3 +1,2 @@
-pub mod Powers
 pub mod Stored
 pub mod Loops

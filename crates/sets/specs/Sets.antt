@@ -1,6 +1,6 @@
 -- Document 01, "OCC packets": the sets of formats 0x12 and 0x13, read one after the other.
 use Prim.Native.Nat.{ℕ, zero, suc, _+_, _*_, _/_, _%_, _^_}
-use mathlib.Core.Bool.{true, false, cond, not}
+use mathlib.Core.Bool.{Bool, true, false, cond, not}
 use mathlib.Core.List.{List}
 use lib.ListN.{getD, take, drop}
 use lib.Dec.{ltb, eqb}
@@ -15,6 +15,10 @@ unfoldable pub bitOf : ℕ → ℕ → ℕ
 bitOf n i = n / 2 ^ i % 2
 
 -- ---- "0x21, 0x12: hub 0 to 7, MBA 0 or 1, no pair twice. Replaces the whole table; pairs not sent become absent and zero"
+
+-- the sets read so far, by their parts
+abbrev pub setsAs : Bool → ℕ → List ℕ → Sets
+setsAs ok present sets = record { ok = ok; table = record { present = present; sets = sets } }
 
 unfoldable pub emptySets : Sets
 emptySets = record { ok = true; table = noThrottles }

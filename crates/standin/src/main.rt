@@ -37,7 +37,7 @@ fn frame(p: &mut [u8], sequence: u8)
     let head = [sequence, p[3]];
     wire::copy(p, 0, &head);
     wire::put_be(p, 2, 2, (end - 4) as u64);
-    let sum = wire::sum(&p[..end]);
+    let sum = packet_sum::sum(&p[..end]);
     wire::put_be(p, end, 2, sum as u64);
 }
 

@@ -4,100 +4,15 @@ use mathlib.Core.Bool.{Bool, true, false, cond, not}
 use mathlib.Core.Path.{_≡_, refl, sym, ap, _∙_}
 use mathlib.Core.List.{List, [], _∷_, _++_, append-nil, append-assoc}
 use native.Mathlib.Numerals.{add-one}
-use native.Mathlib.Nat.{add-zero, zero-add, suc-add, add-suc, pow-suc, pow-le-pow-right, mod-add-mod, not-suc-le-zero, le-of-suc-le-suc, add-sub-cancel-left}
+use native.Mathlib.Nat.{add-zero, zero-add, suc-add, add-suc, pow-suc, pow-le-pow-right, not-suc-le-zero, le-of-suc-le-suc, add-sub-cancel-left}
 use native.Mathlib.Omega.{arith}
 use borrow.Author.Fill.{fill-more}
 use borrow.Author.Tests.{ltb-true, ltb-false, eqb-true, eqb-false, ne-eqb, not-true, not-false}
 use lib.Dec.{lit<, ltb, eqb}
 use lib.ListN.{length, getD, take, drop, set, replicate, length-append, length-drop, length-set, take-append-drop, drop-of-length-le}
 use lib.Seq.{take-all, take-add, length-take-le, drop-drop, take-suc, take-length, drop-length, drop-cons, getD-drop, take-set-le, drop-set-lt, take-suc-set, getD-set-same}
-use Rattle.wire.specs.Wire.{sumOf, packetSum, beOnto, beNat, toBE, pasted, allAre}
-use Rattle.wire.specs.laws.Wire.{onto-append, length-toBE, tail-part, all-drop}
-
--- ---- sum: the bytes before i are in the sum
-
-sum-take-suc : (l : List ℕ) (i : ℕ) → sumOf (take (suc i) l) ≡ sumOf (take i l) + getD l i 0
-unfolding sumOf
-sum-take-suc [] zero = refl
-sum-take-suc [] (suc i) = refl
-sum-take-suc (x ∷ l) zero = omega arith
-sum-take-suc (x ∷ l) (suc i) = omega (arith, sum-take-suc l i)
-
-pub sum-none : packetSum [] ≡ 0
-unfolding packetSum sumOf
-sum-none = refl
-
-pub sum-more : (l : List ℕ) (i a r : ℕ) → a ≡ packetSum (take i l) → r ≡ (a + getD l i 0) % 65536 → r ≡ packetSum (take (i + 1) l)
-unfolding packetSum
-sum-more l i a r p q = q ∙ ap (λ (k : ℕ). (k + getD l i 0) % 65536) p ∙ mod-add-mod (sumOf (take i l)) 65536 (getD l i 0) ∙ rw (add-one, sum-take-suc)
-
-pub sum-all : (l : List ℕ) (i : ℕ) → i ≡ length l → packetSum (take i l) ≡ packetSum l
-sum-all l i e = rw (e, take-length)
-
--- ---- eight_parts: each part of n bytes has a sum of its own
-
--- one byte more in the part from m on
-pub part-more : (s : List ℕ) (m i a r : ℕ) → a ≡ packetSum (take i (drop m s)) → r ≡ (a + getD s (m + i) 0) % 65536 → r ≡ packetSum (take (i + 1) (drop m s))
-part-more s m i a r p q = sum-more (drop m s) i a r p (q ∙ ap (λ (x : ℕ). (a + x) % 65536) (sym (getD-drop m s i 0)))
-
-sum-append : (xs ys : List ℕ) → sumOf (xs ++ ys) ≡ sumOf xs + sumOf ys
-unfolding sumOf
-sum-append [] ys = omega arith
-sum-append (x ∷ xs) ys = omega (arith, sum-append xs ys)
-
--- the part from m on joins the bytes before it
-pub part-joins : (s : List ℕ) (m n k x y r : ℕ) → m + n ≡ k → x ≡ packetSum (take m s) → y ≡ packetSum (take n (drop m s)) → r ≡ (x + y) % 65536 → r ≡ packetSum (take k s)
-unfolding packetSum
-part-joins s m n k x y r e p q t =
-    let whole : sumOf (take k s) ≡ sumOf (take m s) + sumOf (take n (drop m s)) =
-    ap (λ (j : ℕ). sumOf (take j s)) (sym e) ∙ ap sumOf (take-add m n s) ∙ sum-append (take m s) (take n (drop m s)) in
-    omega (arith, p, q, t, whole)
-
--- ---- eight_in_row: the bytes before the row are in the eight sums together
-
-pub sums-join : (t x y r : ℕ) → x ≡ t % 65536 → r ≡ (x + y) % 65536 → r ≡ (t + y) % 65536
-sums-join t x y r p q = q ∙ ap (λ (k : ℕ). (k + y) % 65536) p ∙ mod-add-mod t 65536 y
-
-pub row-none : (s : List ℕ) → (0 + 0 + 0 + 0 + 0 + 0 + 0 + 0) % 65536 ≡ packetSum (take (8 * 0) s)
-unfolding packetSum sumOf
-row-none s = refl
-
--- one of the sums that make t takes the next byte; u are the others
-one-takes : (s : List ℕ) (i j a a' u t t' : ℕ) → i + 1 ≡ j → t ≡ a + u → t' ≡ a' + u → t % 65536 ≡ packetSum (take i s) → a' ≡ (a + getD s i 0) % 65536
-    → t' % 65536 ≡ packetSum (take j s)
-one-takes s i j a a' u t t' e old new z q =
-    let b = getD s i 0 in
-    let more : t' % 65536 ≡ (t + b) % 65536 =
-    ap (λ (k : ℕ). k % 65536) new ∙ sums-join (a + b) a' u ((a' + u) % 65536) q refl ∙ ap (λ (k : ℕ). k % 65536) (omega arith) in
-    sum-more s i (t % 65536) (t' % 65536) z (more ∙ sym (mod-add-mod t 65536 b)) ∙ ap (λ (k : ℕ). packetSum (take k s)) e
-
-pub row-more : (s : List ℕ) (k a b c d e f g h a' b' c' d' e' f' g' h' : ℕ) → (a + b + c + d + e + f + g + h) % 65536 ≡ packetSum (take (8 * k) s)
-    → a' ≡ (a + getD s (8 * k) 0) % 65536
-    → b' ≡ (b + getD s (8 * k + 1) 0) % 65536
-    → c' ≡ (c + getD s (8 * k + 2) 0) % 65536
-    → d' ≡ (d + getD s (8 * k + 3) 0) % 65536
-    → e' ≡ (e + getD s (8 * k + 4) 0) % 65536
-    → f' ≡ (f + getD s (8 * k + 5) 0) % 65536
-    → g' ≡ (g + getD s (8 * k + 6) 0) % 65536
-    → h' ≡ (h + getD s (8 * k + 7) 0) % 65536
-    → (a' + b' + c' + d' + e' + f' + g' + h') % 65536 ≡ packetSum (take (8 * (k + 1)) s)
-row-more s k a b c d e f g h a' b' c' d' e' f' g' h' z qa qb qc qd qe qf qg qh =
-    let z1 = one-takes s (8 * k) (8 * k + 1) a a' (b + c + d + e + f + g + h) (a + b + c + d + e + f + g + h) (a' + b + c + d + e + f + g + h) (omega arith) (omega arith) (omega arith) z qa in
-    let z2 = one-takes s (8 * k + 1) (8 * k + 2) b b' (a' + c + d + e + f + g + h) (a' + b + c + d + e + f + g + h) (a' + b' + c + d + e + f + g + h) (omega arith) (omega arith) (omega arith) z1 qb in
-    let z3 = one-takes s (8 * k + 2) (8 * k + 3) c c' (a' + b' + d + e + f + g + h) (a' + b' + c + d + e + f + g + h) (a' + b' + c' + d + e + f + g + h) (omega arith) (omega arith) (omega arith) z2 qc in
-    let z4 = one-takes s (8 * k + 3) (8 * k + 4) d d' (a' + b' + c' + e + f + g + h) (a' + b' + c' + d + e + f + g + h) (a' + b' + c' + d' + e + f + g + h) (omega arith) (omega arith) (omega arith) z3 qd in
-    let z5 = one-takes s (8 * k + 4) (8 * k + 5) e e' (a' + b' + c' + d' + f + g + h) (a' + b' + c' + d' + e + f + g + h) (a' + b' + c' + d' + e' + f + g + h) (omega arith) (omega arith) (omega arith) z4 qe in
-    let z6 = one-takes s (8 * k + 5) (8 * k + 6) f f' (a' + b' + c' + d' + e' + g + h) (a' + b' + c' + d' + e' + f + g + h) (a' + b' + c' + d' + e' + f' + g + h) (omega arith) (omega arith) (omega arith) z5 qf in
-    let z7 = one-takes s (8 * k + 6) (8 * k + 7) g g' (a' + b' + c' + d' + e' + f' + h) (a' + b' + c' + d' + e' + f' + g + h) (a' + b' + c' + d' + e' + f' + g' + h) (omega arith) (omega arith) (omega arith) z6 qg in
-    one-takes s (8 * k + 7) (8 * (k + 1)) h h' (a' + b' + c' + d' + e' + f' + g') (a' + b' + c' + d' + e' + f' + g' + h) (a' + b' + c' + d' + e' + f' + g' + h') (omega arith) (omega arith) (omega arith) z7 qh
-
-pub rows-all : (s : List ℕ) (k n : ℕ) → k ≡ n → packetSum (take (8 * k) s) ≡ packetSum (take (8 * n) s)
-rows-all s k n e = ap (λ (j : ℕ). packetSum (take (8 * j) s)) e
-
--- ---- sum: the parts, then the rest
-
-pub rest-joins : (s : List ℕ) (m x y r : ℕ) → m ≤ length s → x ≡ packetSum (take m s) → y ≡ packetSum (take (length s - m) (drop m s)) → r ≡ (x + y) % 65536 → r ≡ packetSum s
-rest-joins s m x y r h p q t = part-joins s m (length s - m) (length s) x y r (omega arith) p q t ∙ sum-all s (length s) refl
+use Rattle.wire.specs.Wire.{beOnto, beNat, toBE, pasted, allAre}
+use Rattle.wire.specs.laws.Wire.{onto-append, length-toBE, tail-part, all-append, all-drop}
 
 -- ---- be: the first i bytes are read
 
@@ -223,15 +138,6 @@ both-good top true q r e z h = h
 both-good top false q r e z h = absurd (eqb-false top 0 e z)
 
 -- ---- the halves of a list beside each other, and what is left after them
-
-all-append : (v : ℕ) (xs ys : List ℕ) → allAre v (xs ++ ys) ≡ cond (allAre v xs) (allAre v ys) false
-unfolding allAre
-all-append v [] ys = refl
-all-append v (x ∷ xs) ys = go (eqb x v) (all-append v xs ys)
-  where
-    go : (t : Bool) → allAre v (xs ++ ys) ≡ cond (allAre v xs) (allAre v ys) false → cond t (allAre v (xs ++ ys)) false ≡ cond (cond t (allAre v xs) false) (allAre v ys) false
-    go true e = e
-    go false e = refl
 
 -- how far the halves reach: within the last 64 bytes
 pub half-fits : (n : ℕ) → n / 64 * 32 + n / 64 * 32 ≤ n

@@ -32,6 +32,11 @@ toBE (suc k) n = toBE k (n / 256) ++ (n % 256 ∷ [])
 unfoldable pub pasted : ℕ → List ℕ → List ℕ → List ℕ
 pasted at bs d = take at d ++ (bs ++ drop (at + length bs) d)
 
+-- rows of bytes, one after the other
+unfoldable pub joined : List (List ℕ) → List ℕ
+joined [] = []
+joined (r ∷ rs) = r ++ joined rs
+
 -- every byte is v
 unfoldable pub allAre : ℕ → List ℕ → Bool
 allAre v [] = true

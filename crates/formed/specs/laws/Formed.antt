@@ -10,6 +10,7 @@ use borrow.Author.Tests.{leb-false, eqb-true, not-false, eq-eqb}
 use lib.Dec.{ltb, leb, eqb}
 use lib.ListN.{length, getD, take, drop}
 use Rattle.wire.specs.laws.Cases.{else-b, else-le, else-eq, if-eq, if-lt}
+use Rattle.wire.specs.laws.Chains.{passed}
 use Rattle.record.specs.Record.{noLog}
 use Rattle.record.specs.declared.Log.{Log}
 use Rattle.record.specs.declared.Record.{Record}
@@ -22,10 +23,6 @@ use Rattle.change.specs.declared.Change.the-variants.{Clear, Unclear, SetState,
 use Rattle.formed.specs.Formed.{stateOk, flagOk, roleOk, capsOk, deadmanOk, throttlesOk, areasOk, fieldsOk, thermalOk, nextOk, reasonOk, unused, logOk, logsAbove, logsOk, recordOk, clearedOk, madeOk, unresetOk, changeOk, editOk}
 
 -- ---- a rule that is tested first, and the rest
-
-passed : (t b : Bool) → cond t false b ≡ true → (t ≡ false) × (b ≡ true)
-passed false b h = (refl, h)
-passed true b h = (cc, cc)
 
 pub both-hold : (a b : Bool) → cond (not a) false b ≡ true → (a ≡ true) × (b ≡ true)
 both-hold a b h = let p = passed (not a) b h in (not-false a (p .0), p .1)

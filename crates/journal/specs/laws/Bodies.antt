@@ -1,13 +1,12 @@
--- A change's bytes and a change are inverse to each other. Assumes nothing.
-use Prim.Native.Nat.{ℕ, zero, suc, _+_, _^_, _≤_, _<_}
-use mathlib.Core.Path.{_≡_, refl, sym, ap, ap₂, subst, _∙_}
-use mathlib.Core.List.{List, [], _∷_, _++_}
-use native.Mathlib.Nat.{add-zero, zero-add, add-suc, suc-add, not-suc-le-zero}
+-- A change as bytes, and read from them again. Assumes nothing.
+use Prim.Native.Nat.{ℕ, suc, _+_, _^_, _≤_, _<_}
+use mathlib.Core.Path.{_≡_, refl, sym, ap, _∙_}
+use mathlib.Core.List.{List, _++_}
 use native.Mathlib.Omega.{arith}
-use lib.ListN.{length, getD, take, drop, replicate, length-drop}
-use lib.Seq.{take-at, take-all, take-add, length-take-le, drop-drop, drop-cons}
-use Rattle.wire.specs.Wire.{beNat, toBE, Bytes}
-use Rattle.wire.specs.laws.Wire.{bytes-take, bytes-drop, length-toBE, be-toBE, toBE-be}
+use lib.ListN.{length, take, replicate}
+use lib.Seq.{take-at, take-all}
+use Rattle.wire.specs.Wire.{beNat, toBE}
+use Rattle.wire.specs.laws.Wire.{length-toBE, be-toBE}
 use Rattle.record.specs.Widths.{CapsFit, AreaFits}
 use Rattle.record.specs.Record.{noThrottles}
 use Rattle.record.specs.declared.Caps.{Caps}
@@ -16,20 +15,14 @@ use Rattle.change.specs.Change.{kindOf, noTables}
 use Rattle.change.specs.declared.Change.{Change}
 use Rattle.change.specs.declared.Change.the-variants.{Clear, Unclear, SetState, SetRole, SetCaps, SetUser, SetThermal, SetThrottles, Reset, Unreset, SetMask, SetDeadman, SetAreas}
 use Rattle.change.specs.declared.Tables.{Tables}
-use Rattle.entries.specs.Entries.{bodyLengths, bodyLen}
-use Rattle.journal.specs.declared.Found.{Found}
-use Rattle.journal.specs.declared.Found.the-variants.{Good, Bad}
+use Rattle.entries.specs.Entries.{bodyLen}
+use Rattle.journal.specs.declared.Found.the-variants.{Good}
 use Rattle.journal.specs.Bytes.{clearedBody, capsBody, throttlesBody, deadmanBody, areaBytes, areasBody, bodyOf}
 use Rattle.journal.specs.declared.Way.{Way}
 use Rattle.journal.specs.declared.Way.the-variants.{Before, After}
 use Rattle.journal.specs.Read.{capsAt, areaAt, throttlesFrom, clearedAs, resetAs, foundFor, tablesIn}
 
 -- ---- the values that a record can hold, by the types of its fields
-
-pub record TablesFit (t : Tables) : Type 0 where
-  pub thermal : length (t .thermal) ≡ 9
-  pub present : t .throttles .present < 256 ^ 2
-  pub sets : length (t .throttles .sets) ≡ 160
 
 -- an entry's change: one that this way's store holds, its numbers of their widths, the tables that it hasn't zero
 abbrev pub Writable : Way → Tables → Change → Type 0
@@ -152,137 +145,3 @@ tables-body w t (Unreset state made) h = sym (h .1)
 tables-body w t (SetMask mask) h = sym (h .1)
 tables-body w t (SetDeadman deadman) h = sym (h .1)
 tables-body w t (SetAreas areas) h = sym (h .2)
-
--- ---- writing what was read gives the body
-
-unfoldable pub bodyFound : Tables → Found → List ℕ
-bodyFound t (Good change) = bodyOf t change
-bodyFound t Bad = []
-
--- what is shown for each row of a table of lengths, where it isn't 0, holds at every place that has a length
-Rows : (ℕ → Type 0) → ℕ → List ℕ → Type 0
-Rows P i [] = Unit {0}
-Rows P i (n ∷ ns) = (1 ≤ n → P i) × Rows P (suc i) ns
-
-row-at : (P : ℕ → Type 0) (i : ℕ) (ns : List ℕ) → Rows P i ns → (k : ℕ) → 1 ≤ getD ns k 0 → P (i + k)
-unfolding Rows
-row-at P i [] h k s = absurd (not-suc-le-zero s)
-row-at P i (n ∷ ns) h zero s = subst P (sym (add-zero i)) (h .0 s)
-row-at P i (n ∷ ns) h (suc k) s = subst P (suc-add i k ∙ sym (add-suc i k)) (row-at P (suc i) ns (h .1) k s)
-
-by-kind : (P : ℕ → Type 0) → Rows P 0 bodyLengths → (k : ℕ) → 1 ≤ bodyLen k → P k
-unfolding bodyLen
-by-kind P h k s = subst P (zero-add k) (row-at P 0 bodyLengths h k s)
-
--- a number read from so many bytes is written as them
-part-back : (n at : ℕ) (b : List ℕ) → Bytes b → at + n ≤ length b → toBE n (beNat (take n (drop at b))) ≡ take n (drop at b)
-part-back n at b h l =
-    let m : length (take n (drop at b)) ≡ n = length-take-le n (drop at b) (simp length-drop (omega arith)) in
-    ap (λ (k : ℕ). toBE k (beNat (take n (drop at b)))) (sym m) ∙ toBE-be (take n (drop at b)) (bytes-take n (drop at b) (bytes-drop at b h))
-
--- two parts that stand side by side
-parts-joined : (n m at : ℕ) (b : List ℕ) → take n (drop at b) ++ take m (drop (at + n) b) ≡ take (n + m) (drop at b)
-parts-joined n m at b = sym (take-add n m (drop at b) ∙ rw drop-drop)
-
-fields-back : (n m at : ℕ) (b : List ℕ) → Bytes b → at + n + m ≤ length b
-    → toBE n (beNat (take n (drop at b))) ++ toBE m (beNat (take m (drop (at + n) b))) ≡ take (n + m) (drop at b)
-fields-back n m at b h l =
-    ap₂ (λ (x y : List ℕ). x ++ y) (part-back n at b h (omega arith)) (part-back m (at + n) b h l) ∙ parts-joined n m at b
-
--- the first byte and the rest
-head-on : (b : List ℕ) (n : ℕ) → length b ≡ suc n → getD b 0 0 ∷ take n (drop 1 b) ≡ b
-head-on [] n e = let z : ⊥ = omega arith in absurd z
-head-on (x ∷ b) n e = ap (λ (l : List ℕ). x ∷ l) (take-all n b (omega (arith, e)))
-
-one-byte : (b : List ℕ) (at : ℕ) → at < length b → getD b at 0 ∷ [] ≡ take 1 (drop at b)
-one-byte b at h = sym (ap (take 1) (drop-cons b at 0 h))
-
-two-bytes : (b : List ℕ) → length b ≡ 2 → getD b 0 0 ∷ getD b 1 0 ∷ [] ≡ b
-two-bytes b e = ap (λ (l : List ℕ). getD b 0 0 ∷ l) (one-byte b 1 (omega arith)) ∙ head-on b 1 e
-
-three-bytes : (b : List ℕ) → length b ≡ 3 → getD b 0 0 ∷ getD b 1 0 ∷ getD b 2 0 ∷ [] ≡ b
-three-bytes [] e = let z : ⊥ = omega arith in absurd z
-three-bytes (x ∷ b) e = ap (λ (l : List ℕ). x ∷ l) (two-bytes b (omega (arith, e)))
-
-whole-field : (n : ℕ) (b : List ℕ) → Bytes b → length b ≡ n → toBE n (beNat (take n (drop 0 b))) ≡ b
-whole-field n b h e = part-back n 0 b h (omega arith) ∙ take-all n b (omega arith)
-
-abbrev Back : ℕ → Type 0
-Back k = (w : Way) (b : List ℕ) → Bytes b → length b ≡ bodyLen k → bodyFound (tablesIn k b) (foundFor w k b) ≡ b
-
--- the two kinds that the ways read differently
-cleared-body : (w : Way) (b : List ℕ) → length b ≡ 3 → bodyFound noTables (Good (clearedAs w (getD b 0 0) (record { id = getD b 1 0; reason = getD b 2 0 }))) ≡ b
-unfolding bodyFound bodyOf clearedBody clearedAs
-cleared-body Before b e = three-bytes b e
-cleared-body After b e = three-bytes b e
-
-reset-body : (w : Way) (b : List ℕ) → length b ≡ 2 → bodyFound noTables (Good (resetAs w (getD b 0 0) (getD b 1 0))) ≡ b
-unfolding bodyFound bodyOf resetAs
-reset-body Before b e = two-bytes b e
-reset-body After b e = two-bytes b e
-
-caps-body : (b : List ℕ) → Bytes b → length b ≡ 7 → capsBody (getD b 0 0) (capsAt 1 b) ≡ b
-unfolding capsBody capsAt
-caps-body b h e =
-    ap (λ (l : List ℕ). getD b 0 0 ∷ (toBE 2 (beNat (take 2 (drop 1 b))) ++ l)) (fields-back 2 2 3 b h (omega arith))
-    ∙ ap (λ (l : List ℕ). getD b 0 0 ∷ (l ++ take 4 (drop 3 b))) (part-back 2 1 b h (omega arith))
-    ∙ ap (λ (l : List ℕ). getD b 0 0 ∷ l) (parts-joined 2 4 1 b)
-    ∙ head-on b 6 e
-
-throttles-body : (b : List ℕ) → Bytes b → length b ≡ 163 → throttlesBody (getD b 0 0) (throttlesFrom b) ≡ b
-unfolding throttlesBody throttlesFrom
-throttles-body b h e =
-    ap (λ (l : List ℕ). getD b 0 0 ∷ (l ++ take 160 (drop 3 b))) (part-back 2 1 b h (omega arith))
-    ∙ ap (λ (l : List ℕ). getD b 0 0 ∷ l) (parts-joined 2 160 1 b)
-    ∙ head-on b 162 e
-
-deadman-body : (b : List ℕ) → Bytes b → length b ≡ 9 → getD b 0 0 ∷ toBE 8 (beNat (take 8 (drop 1 b))) ≡ b
-deadman-body b h e = ap (λ (l : List ℕ). getD b 0 0 ∷ l) (part-back 8 1 b h (omega arith)) ∙ head-on b 8 e
-
-areas-body : (b : List ℕ) → Bytes b → length b ≡ 24 → areaBytes (areaAt 0 b) ++ areaBytes (areaAt 12 b) ≡ b
-unfolding areaBytes areaAt
-areas-body b h e =
-    ap₂ (λ (x y : List ℕ). x ++ y) (fields-back 8 4 0 b h (omega arith)) (fields-back 8 4 12 b h (omega arith))
-    ∙ parts-joined 12 12 0 b
-    ∙ take-all 24 b (omega arith)
-
--- the body that a kind's body says is that body
-pub body-found : (k : ℕ) → 1 ≤ bodyLen k → Back k
-unfolding Rows bodyLen bodyFound foundFor tablesIn bodyOf clearedBody deadmanBody areasBody
-body-found = by-kind Back (
-  (λ s. absurd (not-suc-le-zero s)),
-  (
-    (λ s w b h e. cleared-body w b e),
-    (
-      (λ s w b h e. head-on b 0 e),
-      (
-        (λ s w b h e. two-bytes b e),
-        (
-          (λ s w b h e. caps-body b h e),
-          (
-            (λ s w b h e. whole-field 2 b h e),
-            (
-              (λ s w b h e. head-on b 9 e),
-              (
-                (λ s w b h e. throttles-body b h e),
-                (
-                  (λ s w b h e. reset-body w b e),
-                  (
-                    (λ s w b h e. whole-field 4 b h e),
-                    (
-                      (λ s w b h e. deadman-body b h e),
-                      (
-                        (λ s w b h e. areas-body b h e),
-                        tt,
-                      ),
-                    ),
-                  ),
-                ),
-              ),
-            ),
-          ),
-        ),
-      ),
-    ),
-  ),
-)

@@ -1,15 +1,14 @@
--- What demand 3 needs of a store: after one more entry the bytes read as the entries before and this one, and cutting it off
--- gives the bytes back. Assumes nothing.
+-- What demand 3 needs of a store: after one more entry the bytes read as the entries before and this one. Assumes nothing.
 use Prim.Native.Nat.{ℕ, suc, _+_, _-_, _≤_}
 use mathlib.Core.Bool.{true}
 use mathlib.Core.Path.{_≡_, refl, sym, ap, _∙_}
 use mathlib.Core.List.{List, _∷_, _++_}
 use native.Mathlib.Numerals.{add-one}
 use native.Mathlib.Omega.{arith}
-use lib.ListN.{length, take, drop, replicate, length-replicate}
+use lib.ListN.{length, take, drop}
 use lib.Seq.{drop-drop}
 use Rattle.wire.specs.Wire.{allAre, pasted}
-use Rattle.wire.specs.laws.Wire.{length-pasted, take-pasted, drop-pasted, paste-over, paste-same, all-drop}
+use Rattle.wire.specs.laws.Wire.{length-pasted, take-pasted, drop-pasted, all-drop}
 use Rattle.wire.specs.laws.Cases.{else-lt}
 use Rattle.change.specs.declared.Edit.{Edit}
 use Rattle.change.specs.Change.{kindOf}
@@ -18,7 +17,7 @@ use Rattle.entries.specs.laws.Entries.{read-append}
 use Rattle.journal.specs.declared.End.the-variants.{At}
 use Rattle.journal.specs.declared.Way.{Way}
 use Rattle.journal.specs.Bytes.{entryFor, entryBytes}
-use Rattle.journal.specs.Add.{entryLen, endOf, addedTo, cutFrom}
+use Rattle.journal.specs.Add.{entryLen, endOf, addedTo}
 use Rattle.journal.specs.laws.Bodies.{Writable, length-body, some-body}
 
 pub length-entry : (way : Way) (e : Edit) → Writable way (e .tables) (e .change) → length (entryBytes e) ≡ entryLen e
@@ -61,14 +60,3 @@ module _ (way : Way) (e : Edit) (used : ℕ) (j : List ℕ) (w : Writable way (e
       ∙ ap (λ (l : List ℕ). allAre 0 (drop (used + length (entryBytes e)) l)) added
       ∙ ap (allAre 0) (drop-pasted used (entryBytes e) j long ∙ sym (drop-drop (length (entryBytes e)) used j))
       ∙ all-drop 0 (length (entryBytes e)) (drop used j) z
-
-  -- cutting it off gives the bytes back
-  pub cut-added : allAre 0 (drop used j) ≡ true → cutFrom used (used + entryLen e) (addedTo used e j) ≡ j
-  unfolding cutFrom
-  cut-added z =
-      let zeros : List ℕ = replicate (used + entryLen e - used) 0 in
-      let n : length zeros ≡ length (entryBytes e) = length-replicate (used + entryLen e - used) 0 ∙ omega (arith, length-entry way e w) in
-      sym (else-lt _ _ {m = length (addedTo used e j)} {n = used + entryLen e} (omega (arith, length-added)) (else-lt _ _ {m = used + entryLen e} {n = used} (omega arith) refl))
-      ∙ ap (pasted used zeros) added
-      ∙ paste-over used (entryBytes e) zeros j n long
-      ∙ paste-same used 0 (used + entryLen e - used) j z (omega arith)

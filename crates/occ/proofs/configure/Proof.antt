@@ -1,7 +1,6 @@
 -- The format chooses by the same numbers in the code and in the definition.
 use Rattle.occ.specs.Judge.{plainly, formatJudged, configureJudged}
-use Rattle.wire.specs.laws.Cases.{if-eq, else-eq}
-use Rattle.occ.proofs.Parts.{at-key}
+use Rattle.wire.specs.laws.Cases.{if-eq, else-eq, said-of}
 use mathlib.Core.Path.{ap, _∙_}
 use Prim.Native.Nat.{ℕ}
 use borrow.Author.Needs.{needs}
@@ -44,7 +43,7 @@ unfolding configureJudged formatJudged
 returns-2 c =
     let a = c .before .before .before .before .before .before .args in
     else-eq _ _ (c .before .before .before .before .if1 .left)
-    (at-key (λ (n : ℕ). formatJudged n (a .state) (a .role) (a .d .now)) (c .before .before .match .keys1)
+    (said-of (λ (n : ℕ). formatJudged n (a .state) (a .role) (a .d .now)) (c .before .before .match .keys1)
     (c .plain2 .ensures ∙ ap plainly (c .before .role-format .ensures)))
 
 returns-3 : tie.Need-returns-3
@@ -52,7 +51,7 @@ unfolding configureJudged formatJudged
 returns-3 c =
     let a = c .before .before .before .before .before .before .args in
     else-eq _ _ (c .before .before .before .before .if1 .left)
-    (at-key (λ (n : ℕ). formatJudged n (a .state) (a .role) (a .d .now)) (c .before .before .match .keys2)
+    (said-of (λ (n : ℕ). formatJudged n (a .state) (a .role) (a .d .now)) (c .before .before .match .keys2)
     (c .plain3 .ensures ∙ ap plainly (c .before .caps-format .ensures)))
 
 returns-4 : tie.Need-returns-4
@@ -60,7 +59,7 @@ unfolding configureJudged formatJudged
 returns-4 c =
     let a = c .before .before .before .before .before .args in
     else-eq _ _ (c .before .before .before .if1 .left)
-    (at-key (λ (n : ℕ). formatJudged n (a .state) (a .role) (a .d .now)) (c .before .match .keys3)
+    (said-of (λ (n : ℕ). formatJudged n (a .state) (a .role) (a .d .now)) (c .before .match .keys3)
     (c .throttles-format .ensures))
 
 returns-5 : tie.Need-returns-5
@@ -68,7 +67,7 @@ unfolding configureJudged formatJudged
 returns-5 c =
     let a = c .before .before .before .before .before .args in
     else-eq _ _ (c .before .before .before .if1 .left)
-    (at-key (λ (n : ℕ). formatJudged n (a .state) (a .role) (a .d .now)) (c .before .match .keys4)
+    (said-of (λ (n : ℕ). formatJudged n (a .state) (a .role) (a .d .now)) (c .before .match .keys4)
     (c .thermal-format .ensures))
 
 returns-6 : tie.Need-returns-6

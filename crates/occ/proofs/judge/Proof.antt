@@ -1,7 +1,6 @@
 -- After the sender the type chooses, by the same numbers in the code and in the definition.
 use Rattle.occ.specs.Judge.{plainly, typeJudged, judgeOf}
-use Rattle.wire.specs.laws.Cases.{else-eq, if-not, else-not}
-use Rattle.occ.proofs.Parts.{at-key}
+use Rattle.wire.specs.laws.Cases.{else-eq, if-not, else-not, said-of}
 use mathlib.Core.Path.{ap, _∙_}
 use Prim.Native.Nat.{ℕ}
 use borrow.Author.Needs.{needs}
@@ -60,7 +59,7 @@ returns-2 c =
     let q = c .before .before .before in
     let a = q .before .before .before .before .before .before .args in
     else-not _ _ (q .before .open-to .ensures) (q .if1 .left)
-    (at-key (λ (n : ℕ). typeJudged n (a .r) (a .w) (a .next) (a .d .now)) (c .before .before .match .keys1)
+    (said-of (λ (n : ℕ). typeJudged n (a .r) (a .w) (a .next) (a .d .now)) (c .before .before .match .keys1)
     (c .plain2 .ensures ∙ ap plainly (c .before .poll .ensures)))
 
 returns-3 : tie.Need-returns-3
@@ -69,7 +68,7 @@ returns-3 c =
     let q = c .before .before .before in
     let a = q .before .before .before .before .before .before .args in
     else-not _ _ (q .before .open-to .ensures) (q .if1 .left)
-    (at-key (λ (n : ℕ). typeJudged n (a .r) (a .w) (a .next) (a .d .now)) (c .before .before .match .keys2)
+    (said-of (λ (n : ℕ). typeJudged n (a .r) (a .w) (a .next) (a .d .now)) (c .before .before .match .keys2)
     (c .plain3 .ensures ∙ ap plainly (c .before .clear-log .ensures)))
 
 returns-4 : tie.Need-returns-4
@@ -78,7 +77,7 @@ returns-4 c =
     let q = c .before .before .before in
     let a = q .before .before .before .before .before .before .args in
     else-not _ _ (q .before .open-to .ensures) (q .if1 .left)
-    (at-key (λ (n : ℕ). typeJudged n (a .r) (a .w) (a .next) (a .d .now)) (c .before .before .match .keys3)
+    (said-of (λ (n : ℕ). typeJudged n (a .r) (a .w) (a .next) (a .d .now)) (c .before .before .match .keys3)
     (c .plain4 .ensures ∙ ap plainly (c .before .set-state .ensures)))
 
 returns-5 : tie.Need-returns-5
@@ -87,7 +86,7 @@ returns-5 c =
     let q = c .before .before in
     let a = q .before .before .before .before .before .before .args in
     else-not _ _ (q .before .open-to .ensures) (q .if1 .left)
-    (at-key (λ (n : ℕ). typeJudged n (a .r) (a .w) (a .next) (a .d .now)) (c .before .match .keys4)
+    (said-of (λ (n : ℕ). typeJudged n (a .r) (a .w) (a .next) (a .d .now)) (c .before .match .keys4)
     (c .configure .ensures))
 
 returns-6 : tie.Need-returns-6
@@ -96,7 +95,7 @@ returns-6 c =
     let q = c .before .before .before in
     let a = q .before .before .before .before .before .before .args in
     else-not _ _ (q .before .open-to .ensures) (q .if1 .left)
-    (at-key (λ (n : ℕ). typeJudged n (a .r) (a .w) (a .next) (a .d .now)) (c .before .before .match .keys5)
+    (said-of (λ (n : ℕ). typeJudged n (a .r) (a .w) (a .next) (a .d .now)) (c .before .before .match .keys5)
     (c .plain5 .ensures ∙ ap plainly (c .before .user-cap .ensures)))
 
 returns-7 : tie.Need-returns-7
@@ -105,7 +104,7 @@ returns-7 c =
     let q = c .before .before .before in
     let a = q .before .before .before .before .before .before .args in
     else-not _ _ (q .before .open-to .ensures) (q .if1 .left)
-    (at-key (λ (n : ℕ). typeJudged n (a .r) (a .w) (a .next) (a .d .now)) (c .before .before .match .keys6)
+    (said-of (λ (n : ℕ). typeJudged n (a .r) (a .w) (a .next) (a .d .now)) (c .before .before .match .keys6)
     (c .plain6 .ensures ∙ ap plainly (c .before .reset-prep .ensures)))
 
 returns-8 : tie.Need-returns-8

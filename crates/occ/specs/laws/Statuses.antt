@@ -11,7 +11,7 @@ use lib.ListN.{length, getD, drop}
 use Rattle.wire.specs.Conditions.{_and_, is, none, row}
 use Rattle.wire.specs.laws.Cases.{cond-cases}
 use Rattle.wire.specs.laws.Chains.{holds, eq-holds, le-passes, not-passes, eq-passes, unless, or-case, last-case}
-use Rattle.wire.specs.laws.Tables.{lt-holds, fails, ByTable, by-none, by-is, hit, miss, by-rows}
+use Rattle.wire.specs.laws.Tables.{lt-holds, fails, differs, ByTable, by-none, by-is, hit, miss, by-rows}
 use Rattle.record.specs.declared.Log.{Log}
 use Rattle.record.specs.declared.Caps.{Caps}
 use Rattle.record.specs.declared.Record.{Record}
@@ -52,10 +52,6 @@ polls = by-none Refuses (never Poll refl)
 makes : (ch : Change) → ByTable Refuses (Make ch) none
 unfolding accepts
 makes ch = by-none Refuses (never (Make ch) refl)
-
--- a number that isn't the one asked for
-abbrev differs : (m n : ℕ) → (not (eqb m n) ≡ true) ↔ (m ≡ n → ⊥)
-differs m n = fails (not-passes (eq-holds m n))
 
 -- ---- each command
 

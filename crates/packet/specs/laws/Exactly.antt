@@ -1,4 +1,4 @@
--- Document 01, "Statuses": a packet gets the first 0x12, 0x14 or neither exactly when its row says so. Assumes nothing.
+-- Document 01, "Statuses": a packet is in one of three rows, the first 0x12, 0x14 or neither, and its status tells which. Assumes nothing.
 use Prim.Native.Nat.{ℕ, _+_, _<_, _≤_}
 use mathlib.Core.Bool.{Bool, true, false}
 use mathlib.Core.Logic.{_⊎_, inl, inr, ⊎-elim, _↔_}
@@ -70,18 +70,4 @@ module _ (c : List ℕ) where
     λ e.
         by-row (λ o. clash (status-overlong o) e (λ z. omega arith)) (λ f s. (f, s)) (λ f s. clash (status-unsummed f s) e (λ z. omega arith)),
     λ h. status-summed (h .0) (h .1),
-  )
-
-  pub overlong-exactly : packetStatus c ≡ 0x12 ↔ Overlong c
-  overlong-exactly = (
-    λ e.
-        by-row (λ o. o) (λ f s. clash (status-summed f s) e (λ z. omega arith)) (λ f s. clash (status-unsummed f s) e (λ z. omega arith)),
-    status-overlong,
-  )
-
-  pub unsummed-exactly : packetStatus c ≡ 0x14 ↔ (Fits c × (Summed c → ⊥))
-  unsummed-exactly = (
-    λ e.
-        by-row (λ o. clash (status-overlong o) e (λ z. omega arith)) (λ f s. clash (status-summed f s) e (λ z. omega arith)) (λ f s. (f, s)),
-    λ h. status-unsummed (h .0) (h .1),
   )

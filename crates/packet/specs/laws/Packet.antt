@@ -33,10 +33,6 @@ module _ (seq kind status : ℕ) (part : List ℕ) where
   unfolding unsummed
   length-unsummed = simp (length-append, length-toBE) (omega arith)
 
-  pub length-reply : length (replyBytes seq kind status part) ≡ length part + 7
-  unfolding replyBytes
-  length-reply = simp (length-append, length-toBE) (omega (arith, length-unsummed))
-
   pub replied-room : (d : List ℕ) → 7 + length part ≤ length d → replied seq kind status part d ≡ pasted 0 (replyBytes seq kind status part) d
   unfolding replied
   replied-room d h =

@@ -10,6 +10,7 @@ use lib.Dec.{ltb, leb, eqb}
 use lib.ListN.{length, getD, take, drop}
 use lib.Seq.{getD-take, getD-drop}
 use Rattle.wire.specs.Wire.{beNat}
+use Rattle.wire.specs.laws.Cases.{by-both}
 use Rattle.record.specs.declared.Caps.{Caps}
 use Rattle.record.specs.declared.Log.{Log}
 use Rattle.record.specs.declared.Record.{Record}
@@ -69,9 +70,8 @@ made : (ch : Change) → Alike (Make ch) Nothing
 made ch = other (Make ch) (λ e. omega (arith, e))
 
 -- a test that both make, and one that the judge of statuses alone makes
-both : (t : Bool) {v w : Verdict} {a b : Blame} → Alike v a → Alike w b → Alike (cond t v w) (cond t a b)
-both true p q = p
-both false p q = q
+both : {A : Type 0} (Q : A → Blame → Type 0) (t : Bool) {v w : A} {a b : Blame} → Q v a → Q w b → Q (cond t v w) (cond t a b)
+both Q t p q = by-both Q t (λ e. p) (λ e. q)
 
 alone : (t : Bool) {v w : Verdict} {a : Blame} → Alike v a → Alike w a → Alike (cond t v w) a
 alone true p q = p
@@ -81,15 +81,15 @@ alone false p q = q
 
 -- the length that a type asks for
 sized : (d : List ℕ) (n : ℕ) {v : Verdict} {a : Blame} → Alike v a → Alike (cond (not (eqb (length d) n)) (Refuse 0x12) v) (cond (not (eqb (length d) n)) Nothing a)
-sized d n p = both (not (eqb (length d) n)) short p
+sized d n p = both Alike (not (eqb (length d) n)) short p
 
 poll-alike : (d : List ℕ) → Alike (pollVerdict d) (pollFault d)
 unfolding pollVerdict pollFault
-poll-alike d = sized d 1 (both (not (eqb (getD d 0 0) 0x10)) (wrongs BadVersion 1) (other Poll (λ e. omega (arith, e))))
+poll-alike d = sized d 1 (both Alike (not (eqb (getD d 0 0) 0x10)) (wrongs BadVersion 1) (other Poll (λ e. omega (arith, e))))
 
 clear-alike : (logs : List Log) (d : List ℕ) → Alike (clearVerdict logs d) (clearFault logs d)
 unfolding clearVerdict clearAt clearFault
-clear-alike logs d = sized d 1 (both (leb 4 (findOf (getD d 0 0) logs)) (wrongs NotPending 1) (made _))
+clear-alike logs d = sized d 1 (both Alike (leb 4 (findOf (getD d 0 0) logs)) (wrongs NotPending 1) (made _))
 
 -- the four tests of set state's bytes are one to the judge of statuses
 fits-alike : (a b c e : Bool) {v : Verdict} → Alike v Nothing
@@ -110,19 +110,19 @@ state-alike w d =
 
 role-alike : (held : ℕ) (d : List ℕ) → Alike (roleVerdict held d) (roleFault d)
 unfolding roleVerdict roleFault
-role-alike held d = sized d 2 (both (ltb 1 (getD d 1 0)) (wrongs OutOfRange 2) (alone (not (eqb held 1)) state (made _)))
+role-alike held d = sized d 2 (both Alike (ltb 1 (getD d 1 0)) (wrongs OutOfRange 2) (alone (not (eqb held 1)) state (made _)))
 
 caps-alike : (role : ℕ) (d : List ℕ) → Alike (capsVerdict role d) (capsFault d)
 unfolding capsVerdict capsFor sentCaps capsFault
 caps-alike role d =
     sized d 8
-    (both (not (eqb (getD d 1 0) 0x10)) (wrongs BadVersion 2)
-    (both (ltb (sentCaps d .max) (sentCaps d .min)) (wrongs Clash 5)
+    (both Alike (not (eqb (getD d 1 0) 0x10)) (wrongs BadVersion 2)
+    (both Alike (ltb (sentCaps d .max) (sentCaps d .min)) (wrongs Clash 5)
     (alone (eqb role 0) state (made _))))
 
 user-alike : (role got : ℕ) (caps : Caps) (d : List ℕ) → Alike (userVerdict role got caps d) (userFault got caps d)
 unfolding userVerdict userFor userFault
-user-alike role got caps d = sized d 2 (both (not (userAllowed got caps (beNat (take 2 d)))) (wrongs OutOfRange 1) (alone (eqb role 0) state (made _)))
+user-alike role got caps d = sized d 2 (both Alike (not (userAllowed got caps (beNat (take 2 d)))) (wrongs OutOfRange 1) (alone (eqb role 0) state (made _)))
 
 -- a log that isn't due or has no room
 log-alike : (role : ℕ) (logs : List Log) (next reason : ℕ) → Alike (resetFor role logs next reason) Nothing
@@ -134,7 +134,7 @@ log-alike role logs next reason =
 reset-alike : (role : ℕ) (logs : List Log) (next : ℕ) (d : List ℕ) → Alike (resetVerdict role logs next d) (resetFault d)
 unfolding resetVerdict resetFault
 reset-alike role logs next d =
-    sized d 2 (both (not (eqb (getD d 0 0) 0)) (wrongs BadVersion 1) (both (ltb 2 (getD d 1 0)) (wrongs OutOfRange 2) (log-alike role logs next (getD d 1 0))))
+    sized d 2 (both Alike (not (eqb (getD d 0 0) 0)) (wrongs BadVersion 1) (both Alike (ltb 2 (getD d 1 0)) (wrongs OutOfRange 2) (log-alike role logs next (getD d 1 0))))
 
 -- ---- the formats with sets: none of them is wrong exactly when they were read without fault
 
@@ -280,29 +280,25 @@ thermal-alike d =
 
 -- ---- every command
 
-judged-both : (t : Bool) {j k : Judged} {a b : Blame} → Judges j a → Judges k b → Judges (cond t j k) (cond t a b)
-judged-both true p q = p
-judged-both false p q = q
-
 configure-alike : (held role : ℕ) (d : List ℕ) → Judges (configureJudged held role d) (configureFault d)
 unfolding configureJudged formatJudged configureFault formatFault
 configure-alike held role d =
-    judged-both (eqb (length d) 0) (plain short)
-    (judged-both (eqb (getD d 0 0) 0x03) (plain (role-alike held d))
-    (judged-both (eqb (getD d 0 0) 0x07) (plain (caps-alike role d))
-    (judged-both (eqb (getD d 0 0) 0x12) (throttles-alike d)
-    (judged-both (eqb (getD d 0 0) 0x13) (thermal-alike d)
+    both Judges (eqb (length d) 0) (plain short)
+    (both Judges (eqb (getD d 0 0) 0x03) (plain (role-alike held d))
+    (both Judges (eqb (getD d 0 0) 0x07) (plain (caps-alike role d))
+    (both Judges (eqb (getD d 0 0) 0x12) (throttles-alike d)
+    (both Judges (eqb (getD d 0 0) 0x13) (thermal-alike d)
     (plain (wrongs OutOfRange 1))))))
 
 type-alike : (r : Record) (w : Worked) (next kind : ℕ) (d : List ℕ) → Judges (typeJudged kind r w next d) (faultOf r kind d)
 unfolding typeJudged faultOf
 type-alike r w next kind d =
-    judged-both (eqb kind 0x00) (plain (poll-alike d))
-    (judged-both (eqb kind 0x12) (plain (clear-alike (r .logs) d))
-    (judged-both (eqb kind 0x20) (plain (state-alike w d))
-    (judged-both (eqb kind 0x21) (configure-alike (r .state) (r .role) d)
-    (judged-both (eqb kind 0x22) (plain (user-alike (r .role) (r .received .caps) (r .caps) d))
-    (judged-both (eqb kind 0x25) (plain (reset-alike (r .role) (r .logs) next d))
+    both Judges (eqb kind 0x00) (plain (poll-alike d))
+    (both Judges (eqb kind 0x12) (plain (clear-alike (r .logs) d))
+    (both Judges (eqb kind 0x20) (plain (state-alike w d))
+    (both Judges (eqb kind 0x21) (configure-alike (r .state) (r .role) d)
+    (both Judges (eqb kind 0x22) (plain (user-alike (r .role) (r .received .caps) (r .caps) d))
+    (both Judges (eqb kind 0x25) (plain (reset-alike (r .role) (r .logs) next d))
     (plain (other (Refuse 0x11) (λ e. omega (arith, e)))))))))
 
 -- a fault is found exactly where the status is 0x13, of the types that are open to the sender

@@ -13,7 +13,7 @@ use lib.ListN.{length, getD}
 use Rattle.wire.specs.Conditions.{_and_, none, Rows, here, later}
 use Rattle.wire.specs.laws.Cases.{cond-cases}
 use Rattle.wire.specs.laws.Chains.{holds, eq-holds, le-passes, not-passes, zero-passes, unless, unless-last}
-use Rattle.wire.specs.laws.Tables.{lt-holds, fails}
+use Rattle.wire.specs.laws.Tables.{lt-holds, fails, differs}
 use Rattle.record.specs.declared.Record.{Record}
 use Rattle.formed.specs.Formed.{inOrder}
 use Rattle.formed.specs.laws.Thresholds.{out-of-order}
@@ -126,9 +126,6 @@ module _ {P : Type 0} {t : Bool} (at : ℕ) (reason : Reason) (p : (t ≡ true) 
       chosen false = refl
 
 -- ---- the small commands
-
-differs : (m n : ℕ) → (not (eqb m n) ≡ true) ↔ (m ≡ n → ⊥)
-differs m n = fails (not-passes (eq-holds m n))
 
 right-length : (m n : ℕ) → (not (eqb m n) ≡ false) ↔ (m ≡ n)
 right-length m n = not-passes (eq-holds m n)

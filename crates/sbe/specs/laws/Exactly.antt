@@ -34,7 +34,8 @@ accepted-either : (t : Bool) (v w : Ruling) → grants (cond t v w) ≡ true →
 accepted-either true v w h = inl (refl, h)
 accepted-either false v w h = inr h
 
-same-change : {v : Ruling} {a b : Change} → v ≡ Grant a → v ≡ Grant b → a ≡ b
+-- a ruling grants one change
+pub same-change : {v : Ruling} {a b : Change} → v ≡ Grant a → v ≡ Grant b → a ≡ b
 same-change p q = cc
 
 -- ---- the flags and an area's status

@@ -1,15 +1,12 @@
--- Laws of the mailbox that other crates build on: how long a response is, and what a change made may hold. Assumes nothing.
-use Prim.Native.Nat.{ℕ, _+_, _%_, _^_, _<_, _≤_}
+-- Laws of the mailbox that other crates build on: what a change made may hold. Assumes nothing.
+use Prim.Native.Nat.{ℕ, _+_, _%_, _^_, _<_}
 use mathlib.Core.Bool.{Bool, true, false, cond}
 use mathlib.Core.Logic.{⊎-elim}
 use mathlib.Core.Path.{_≡_, refl, sym}
 use mathlib.Core.List.{List}
-use native.Mathlib.Omega.{arith}
 use borrow.Author.Tests.{eqb-false, eq-eqb, le-leb}
 use lib.Dec.{lit<, eqb}
-use lib.ListN.{length, take, drop, length-append, length-drop, length-replicate}
-use lib.Seq.{length-take-le}
-use Rattle.wire.specs.laws.Wire.{length-toBE, part-fits}
+use Rattle.wire.specs.laws.Wire.{part-fits}
 use Rattle.wire.specs.Wire.{Bytes}
 use Rattle.wire.specs.laws.Cases.{else-b, cond-elim}
 use Rattle.record.specs.Widths.{AreaFits}
@@ -20,17 +17,9 @@ use Rattle.change.specs.declared.Change.the-variants.{Clear, Unclear, SetState,
 use Rattle.formed.specs.Formed.{flagOk, deadmanOk, multipleOf128, inMemory, areaOk, areasOk, changeOk}
 use Rattle.formed.specs.laws.Formed.{hold-both}
 use Rattle.sbe.specs.declared.Ruling.the-variants.{Grant}
-use Rattle.sbe.specs.Mailbox.{wordAt, registerAt, areaOf, requestRuling, responseBytes}
+use Rattle.sbe.specs.Mailbox.{wordAt, registerAt, areaOf, requestRuling}
 use Rattle.sbe.specs.laws.Exactly.{of-change}
 use Rattle.sbe.specs.Conditions.{AreaFine}
-
--- ---- a response is four registers
-
-pub length-response : (primary secondary : ℕ) (r : List ℕ) → 32 ≤ length r → length (responseBytes primary secondary r) ≡ 32
-unfolding responseBytes
-length-response primary secondary r h =
-    let n : length (take 4 (drop 4 r)) ≡ 4 = length-take-le 4 (drop 4 r) (simp length-drop (omega arith)) in
-    simp (length-append, length-toBE, length-replicate) (omega (arith, n))
 
 -- ---- a change made is one that a well-formed record could hold
 

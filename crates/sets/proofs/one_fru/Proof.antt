@@ -1,11 +1,9 @@
 -- `one_fru` meets its contract: its tests are those of `oneFru`, in that order.
 use mathlib.Core.Path.{refl}
 use native.Mathlib.Omega.{arith}
+use Rattle.wire.specs.laws.Cases.{else-b, else-lt, else-not, else-ne, if-b, if-lt, if-not, if-ne}
+use Rattle.sets.specs.Sets.{bitOf, oneFru}
 use borrow.Author.Needs.{needs}
-use Rattle.wire.specs.laws.Cases.{else-b, else-lt, else-not, if-b, if-lt, if-not}
-use Rattle.sets.specs.Sets.{oneFru}
-use Rattle.sets.proofs.Stored.{fru-below, bit-clear, if-bit, else-bit}
-use Rattle.sets.proofs.Powers.{power-positive}
 use Rattle.sets.proofs.one_fru.Statement.{statement}
 use Rattle.sets.proofs.one_fru.Tie as tie
 
@@ -40,33 +38,20 @@ bad-frus-requires-2 c κs = search needs
 
 returns-3 : tie.Need-returns-3
 unfolding oneFru
-returns-3 c =
-    let fru = c .before .before .before .before .before in
-    else-b _ _ (fru .before .if1 .left)
-    (else-lt _ _ (fru .if2 .left)
-    (if-not _ _ (c .before .before .in-order .ensures) (c .before .if3 .taken) (c .bad-frus2 .ensures)))
+returns-3 c = else-b _ _ (c .before .before .before .before .before .before .if1 .left) (else-lt _ _ (c .before .before .before .before .before .if2 .left) (if-not _ _ (c .before .before .in-order .ensures) (c .before .if3 .taken) (c .bad-frus2 .ensures)))
 
-mul-bit : tie.Need-mul-bit
-mul-bit c = search needs
+cast-if4 : tie.Need-cast-if4
+cast-if4 c = search needs
 
-array-read-bit : tie.Need-array-read-bit
-array-read-bit c = search needs
-
-div-if4 : tie.Need-div-if4
-div-if4 c = power-positive _ (fru-below _ (c .before .before .before .before .before .if2 .left))
+shr-if4 : tie.Need-shr-if4
+shr-if4 c = search needs
 
 bad-frus-requires-3 : tie.Need-bad-frus-requires-3
 bad-frus-requires-3 c κs = search needs
 
 returns-4 : tie.Need-returns-4
-unfolding oneFru
-returns-4 c =
-    let dvfs = c .before .before .before in
-    let fru = dvfs .before .before .before .before in
-    else-b _ _ (fru .before .if1 .left)
-    (else-lt _ _ (fru .if2 .left)
-    (else-not _ _ (dvfs .before .in-order .ensures) (dvfs .if3 .left)
-    (if-bit _ _ (fru-below _ (fru .if2 .left)) _ _ (c .before .if4 .taken) (c .bad-frus3 .ensures))))
+unfolding oneFru bitOf
+returns-4 c = else-b _ _ (c .before .before .before .before .before .before .before .before .if1 .left) (else-lt _ _ (c .before .before .before .before .before .before .before .if2 .left) (else-not _ _ (c .before .before .before .before .in-order .ensures) (c .before .before .before .if3 .left) (if-ne _ _ (c .before .if4 .taken) (c .bad-frus3 .ensures))))
 
 sub-with-fru : tie.Need-sub-with-fru
 sub-with-fru c = search needs
@@ -78,17 +63,11 @@ part-with-fru-end : tie.Need-part-with-fru-end
 part-with-fru-end c = search needs
 
 with-fru-requires : tie.Need-with-fru-requires
-with-fru-requires c κs = (search needs, search needs, bit-clear _ _ (fru-below _ (c .before .before .before .before .before .before .before .if2 .left)) (c .before .if4 .left))
+with-fru-requires c κs = (search needs, search needs, c .before .if4 .left)
 
 returns-5 : tie.Need-returns-5
-unfolding oneFru
-returns-5 c =
-    let dvfs = c .before .before .before .before in
-    let fru = dvfs .before .before .before .before in
-    else-b _ _ (fru .before .if1 .left)
-    (else-lt _ _ (fru .if2 .left)
-    (else-not _ _ (dvfs .before .in-order .ensures) (dvfs .if3 .left)
-    (else-bit _ _ (fru-below _ (fru .if2 .left)) _ _ (c .before .before .if4 .left) (c .with-fru .ensures))))
+unfolding oneFru bitOf
+returns-5 c = else-b _ _ (c .before .before .before .before .before .before .before .before .before .if1 .left) (else-lt _ _ (c .before .before .before .before .before .before .before .before .if2 .left) (else-not _ _ (c .before .before .before .before .before .in-order .ensures) (c .before .before .before .before .if3 .left) (else-ne _ _ (c .before .before .if4 .left) (c .with-fru .ensures))))
 
 pub one-fru-spec : {M : Type 1} → statement M
 one-fru-spec =
@@ -104,9 +83,8 @@ one-fru-spec =
     in-order-requires
     bad-frus-requires-2
     returns-3
-    mul-bit
-    array-read-bit
-    div-if4
+    cast-if4
+    shr-if4
     bad-frus-requires-3
     returns-4
     sub-with-fru

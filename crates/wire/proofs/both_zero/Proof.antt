@@ -1,7 +1,7 @@
 use native.Mathlib.Omega.{arith}
 use lib.Dec.{eqb}
 use lib.ListN.{length, getD, take}
-use mathlib.Core.Path.{_≡_, _∙_, ap, sym, refl}
+use mathlib.Core.Path.{_≡_, _∙_, ap}
 use Rattle.wire.specs.Wire.{allAre}
 use Rattle.wire.proofs.Loops.{are-none, are-next, are-all, higher-zero, both-bad, both-good}
 use Prim.Native.Nat.{ℕ, _≤_, _-_}

@@ -36,6 +36,11 @@ zero-passes n = (λ h. let e = eqb-false n 0 h in omega arith, λ h. ne-eqb n 0 
 pub not-passes : {b : Bool} {P : Type 0} → (b ≡ true) ↔ P → (not b ≡ false) ↔ P
 not-passes {b} p = (λ h. p .0 (not-false b h), λ h. ap not (p .1 h))
 
+-- what comes after a test that refuses
+pub passed : (t b : Bool) → cond t false b ≡ true → (t ≡ false) × (b ≡ true)
+passed true b h = absurd (false≢true h)
+passed false b h = (refl, h)
+
 -- ---- a chain: `accepts` says of what is chosen whether it accepts
 
 module _ {A : Type 0} (accepts : A → Bool) {x y : A} {P : Type 0} where

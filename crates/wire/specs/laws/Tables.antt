@@ -1,12 +1,13 @@
 -- A chain of tests and a table: each row's number is given exactly when the row holds and none before it. Assumes nothing.
 use Prim.Native.Nat.{ℕ, _<_}
-use mathlib.Core.Bool.{Bool, true, false, cond, false≢true, true≢false}
+use mathlib.Core.Bool.{Bool, true, false, cond, not, false≢true, true≢false}
 use mathlib.Core.Path.{_≡_, refl, sym, subst, _∙_}
 use mathlib.Core.Logic.{_↔_}
 use borrow.Author.Tests.{ltb-true, lt-ltb}
-use lib.Dec.{ltb}
+use lib.Dec.{ltb, eqb}
 use Rattle.wire.specs.Conditions.{is, none, Rows, here, later}
 use Rattle.wire.specs.laws.Cases.{cond-cases}
+use Rattle.wire.specs.laws.Chains.{eq-holds, not-passes}
 
 pub lt-holds : (m n : ℕ) → (ltb m n ≡ true) ↔ (m < n)
 lt-holds m n = (ltb-true m n, lt-ltb m n)
@@ -15,6 +16,9 @@ lt-holds m n = (ltb-true m n, lt-ltb m n)
 pub fails : {t : Bool} {P : Type 0} → (t ≡ false) ↔ P → (t ≡ true) ↔ (P → ⊥)
 fails {t = true} p = (λ h k. true≢false (p .1 k), λ h. refl)
 fails {t = false} p = (λ h. absurd (false≢true h), λ h. absurd (h (p .0 refl)))
+
+pub differs : (m n : ℕ) → (not (eqb m n) ≡ true) ↔ (m ≡ n → ⊥)
+differs m n = fails (not-passes (eq-holds m n))
 
 module _ {A N : Type 0} (Gives : A → N → Type 0) where
   -- x gives a number exactly when the table does

@@ -9,11 +9,10 @@ use native.Mathlib.Omega.{arith}
 use lib.Arith.{digits-div, digits-mod}
 use borrow.Author.Tests.{eqb-true}
 use lib.Dec.{lit<, eqb}
-use lib.ListN.{length, getD, take, drop, replicate, length-append, length-take, length-drop, take-append-drop, length-replicate}
+use lib.ListN.{length, getD, take, drop, replicate, length-append, length-take, length-drop, take-append-drop}
 use lib.Seq.{length-take-le, take-take, take-at, drop-at, drop-drop, take-all, take-append-seam, drop-append-add}
 use Rattle.wire.specs.laws.Cases.{if-eq}
-use Rattle.wire.specs.Wire.{beOnto, beNat, toBE, pasted, allAre}
-use Rattle.wire.specs.Wire.{Bytes}
+use Rattle.wire.specs.Wire.{beOnto, beNat, toBE, pasted, joined, allAre, Bytes}
 
 -- ---- big-endian numbers, over the width
 
@@ -133,16 +132,12 @@ paste-next at xs bs d e =
 pub field-next : (at : ℕ) (xs bs d x y : List ℕ) → x ≡ pasted 0 xs d → y ≡ pasted at bs x → at ≡ length xs → y ≡ pasted 0 (xs ++ bs) d
 field-next at xs bs d x y p q e = q ∙ ap (pasted at bs) p ∙ paste-next at xs bs d e
 
--- bytes written over as many
-pub paste-over : (at : ℕ) (xs ys d : List ℕ) → length ys ≡ length xs → at + length xs ≤ length d → pasted at ys (pasted at xs d) ≡ pasted at ys d
-unfolding pasted
-paste-over at xs ys d e h = ap₂ (λ (a b : List ℕ). a ++ (ys ++ b)) front back
-  where
-    front : take at (pasted at xs d) ≡ take at d
-    front = take-at (take at d) (xs ++ drop (at + length xs) d) at (length-take-le at d (omega arith))
+-- ---- rows one after the other
 
-    back : drop (at + length ys) (pasted at xs d) ≡ drop (at + length ys) d
-    back = ap (λ (n : ℕ). drop (at + n) (pasted at xs d)) e ∙ drop-pasted at xs d h ∙ ap (λ (n : ℕ). drop (at + n) d) (sym e)
+pub joined-append : (rs ss : List (List ℕ)) → joined (rs ++ ss) ≡ joined rs ++ joined ss
+unfolding joined
+joined-append [] ss = refl
+joined-append (r ∷ rs) ss = ap (λ (l : List ℕ). r ++ l) (joined-append rs ss) ∙ sym (append-assoc r (joined rs) (joined ss))
 
 -- ---- zeros
 
@@ -150,6 +145,15 @@ pub all-replicate : (v n : ℕ) → allAre v (replicate n v) ≡ true
 unfolding allAre
 all-replicate v zero = refl
 all-replicate v (suc n) = sym (if-eq (allAre v (replicate n v)) false {m = v} {n = v} refl (sym (all-replicate v n)))
+
+pub all-append : (v : ℕ) (xs ys : List ℕ) → allAre v (xs ++ ys) ≡ cond (allAre v xs) (allAre v ys) false
+unfolding allAre
+all-append v [] ys = refl
+all-append v (x ∷ xs) ys = go (eqb x v) (all-append v xs ys)
+  where
+    go : (t : Bool) → allAre v (xs ++ ys) ≡ cond (allAre v xs) (allAre v ys) false → cond t (allAre v (xs ++ ys)) false ≡ cond (cond t (allAre v xs) false) (allAre v ys) false
+    go true e = e
+    go false e = refl
 
 -- a list that begins with v
 all-cons : (v b : ℕ) (bs : List ℕ) → allAre v (b ∷ bs) ≡ true → (b ≡ v) × (allAre v bs ≡ true)
@@ -171,10 +175,3 @@ unfolding allAre
 all-drop v zero bs h = h
 all-drop v (suc n) [] h = refl
 all-drop v (suc n) (b ∷ bs) h = all-drop v n bs (all-cons v b bs h .1)
-
--- zeros written over zeros
-pub paste-same : (at v n : ℕ) (d : List ℕ) → allAre v (drop at d) ≡ true → at + n ≤ length d → pasted at (replicate n v) d ≡ d
-unfolding pasted
-paste-same at v n d h l =
-    let k : n ≤ length (drop at d) = simp length-drop (omega arith) in
-    rw (length-replicate, ← take-all-are v n (drop at d) h k, ← drop-drop n at d, take-append-drop, take-append-drop)

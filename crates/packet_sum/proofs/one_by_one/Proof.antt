@@ -1,12 +1,12 @@
 use Rattle.wire.specs.Wire.{packetSum}
-use Rattle.wire.proofs.Loops.{sum-none, sum-more, sum-all}
+use Rattle.packet_sum.proofs.Sums.{sum-none, sum-more, sum-all}
 use mathlib.Core.Path.{_≡_, sym, _∙_}
 use native.Mathlib.Omega.{arith}
 use borrow.Author.Needs.{needs}
 use lib.ListN.{length, take}
 use Prim.Native.Nat.{_≤_, _-_}
-use Rattle.wire.proofs.one_by_one.Statement.{statement}
-use Rattle.wire.proofs.one_by_one.Tie as tie
+use Rattle.packet_sum.proofs.one_by_one.Statement.{statement}
+use Rattle.packet_sum.proofs.one_by_one.Tie as tie
 
 abbrev Inv-loop : tie.InvT-loop
 Inv-loop s acc₀ i₀ acc i = (i ≤ length s) × (acc ≡ packetSum (take i s))

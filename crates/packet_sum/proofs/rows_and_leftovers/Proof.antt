@@ -1,7 +1,7 @@
-use Rattle.wire.proofs.Loops.{rest-joins}
+use Rattle.packet_sum.proofs.Sums.{rest-joins}
 use borrow.Author.Needs.{needs}
-use Rattle.wire.proofs.rows_and_leftovers.Statement.{statement}
-use Rattle.wire.proofs.rows_and_leftovers.Tie as tie
+use Rattle.packet_sum.proofs.rows_and_leftovers.Statement.{statement}
+use Rattle.packet_sum.proofs.rows_and_leftovers.Tie as tie
 
 mul-end : tie.Need-mul-end
 mul-end c = search needs

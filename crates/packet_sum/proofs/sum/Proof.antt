@@ -1,7 +1,7 @@
-use Rattle.wire.proofs.Loops.{rest-joins}
+use Rattle.packet_sum.proofs.Sums.{rest-joins}
 use borrow.Author.Needs.{needs}
-use Rattle.wire.proofs.sum.Statement.{statement}
-use Rattle.wire.proofs.sum.Tie as tie
+use Rattle.packet_sum.proofs.sum.Statement.{statement}
+use Rattle.packet_sum.proofs.sum.Tie as tie
 
 rows-and-leftovers-requires : tie.Need-rows-and-leftovers-requires
 rows-and-leftovers-requires c κs = search needs

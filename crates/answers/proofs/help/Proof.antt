@@ -1,6 +1,6 @@
 -- `answers::help` meets its contract: its parts are put one after the other. Assumes nothing.
-use Rattle.text.specs.Text.{putAll}
 use Rattle.answers.specs.Answers.{helpText}
+use Rattle.text.specs.laws.Pieces.{piece, pieces, last-piece}
 use borrow.Author.Needs.{needs}
 use Rattle.answers.proofs.help.Statement.{statement}
 use Rattle.answers.proofs.help.Tie as tie
@@ -42,8 +42,8 @@ same-length : tie.Need-same-length
 same-length c = search needs
 
 returns : tie.Need-returns
-unfolding helpText putAll
-returns c = (search needs, cc)
+unfolding helpText
+returns c = (search needs, pieces _ _ _ (c .before .before .before .before .before .before .before .before .before .before .before .before .before .before .before .before .before .before .before .before .before .before .before .before .before .before .before .before .before .before .put-calls .ensures) (pieces _ _ _ (c .before .before .before .before .before .before .before .before .before .before .before .before .before .before .before .before .before .before .before .before .before .before .before .before .before .before .put-sessions .ensures) (pieces _ _ _ (c .before .before .before .before .before .before .before .before .before .before .before .before .before .before .before .before .before .before .before .before .before .before .put-sends .ensures) (piece _ _ _ (c .before .before .before .before .before .before .before .before .before .before .before .before .before .before .before .before .before .put .ensures .1) (piece _ _ _ (c .before .before .before .before .before .before .before .before .before .before .before .before .put2 .ensures .1) (piece _ _ _ (c .before .before .before .before .before .before .before .put3 .ensures .1) (last-piece _ _ (c .before .before .put4 .ensures .1))))))))
 
 pub help-spec : {M : Type 1} → statement M
 help-spec =

@@ -105,7 +105,8 @@ pub fn complaint(out: &mut [u8], what: Wrong, column: usize) -> usize
         return not_an_image(out);
     }
     let words = nth(
-        b"line over 32768 bytes|unknown word|nothing more expected|hex digit expected|command over 8192 bytes|number expected|number over 8192|",
+        b"line over 32768 bytes|unknown word|nothing more expected|hex digit expected|\
+          command over 8192 bytes|number expected|number over 8192|",
         place,
     );
     at_column(out, words, column)
@@ -239,13 +240,25 @@ pub fn help(out: &mut [u8]) -> usize
     let a = put_words(
         out,
         0,
-        b"occ SS BYTES      an OCC command from sender SS (10 HTMGT, 20 BMC)\n|sbe BYTES         an SBE mailbox request of 32 bytes\n|undo              take the newest change back\n|redo              put the change last taken back in again\n|fresh             begin again with a fresh session\n|image             the session as |",
+        b"occ SS BYTES      an OCC command from sender SS (10 HTMGT, 20 BMC)\n|\
+          sbe BYTES         an SBE mailbox request of 32 bytes\n|\
+          undo              take the newest change back\n|\
+          redo              put the change last taken back in again\n|\
+          fresh             begin again with a fresh session\n|\
+          image             the session as |",
     );
     let b = text::put_decimal(out, a, orders::IMAGE as u64);
     let c = put_words(
         out,
         b,
-        b" bytes\n|load BYTES        go on with the session of such an image\n|send SS TT DATA   as occ: a packet of type TT, framed for you\n|buffer N          reply buffers of N bytes; alone: whole ones again\n|why               which data byte the last packet had wrong\n|show              the session for a person\n|journal           the journal's entries\n|help              these words\n|",
+        b" bytes\n|\
+          load BYTES        go on with the session of such an image\n|\
+          send SS TT DATA   as occ: a packet of type TT, framed for you\n|\
+          buffer N          reply buffers of N bytes; alone: whole ones again\n|\
+          why               which data byte the last packet had wrong\n|\
+          show              the session for a person\n|\
+          journal           the journal's entries\n|\
+          help              these words\n|",
     );
     text::put(out, c, b".\n")
 }

@@ -1,6 +1,5 @@
 -- What each test of an answer chooses to say. Assumes nothing.
 use Prim.Native.Nat.{ℕ, _+_, _<_, _≤_}
-use Prim.Native.String.{String}
 use mathlib.Core.Bool.{Bool, true, false, cond}
 use mathlib.Core.Path.{_≡_, refl, sym, ap, ap₂, _∙_}
 use mathlib.Core.List.{List, [], _∷_, _++_}
@@ -15,14 +14,8 @@ use Rattle.text.specs.Text.{Sheet, sheet, ascii, putOn, putAll, fromFront, line
 use Rattle.text.specs.laws.Pieces.{same-pieces, put-fits}
 use Rattle.listing.specs.Listing.{tooLong, listing, longest, listed, listedLength}
 use Rattle.listing.specs.laws.Lengths.{length-listing}
-use Rattle.orders.specs.declared.Wrong.{Wrong}
-use Rattle.places.specs.Reasons.{named, wordsAmong, wordsFor}
-use Rattle.answers.specs.Answers.{lineText, complaintText, callText, wholeReply, replyLength, whyText, listText}
-
--- ---- what is wrong: v is the variant that it is
-
-pub complains : (d : List ℕ) (column : ℕ) {s : Sheet} {w v : Wrong} → w ≡ v → s ≡ fromFront d (complaintText v column) → s ≡ fromFront d (complaintText w column)
-complains d column e = same-pieces (sheet d 0) (ap (λ (x : Wrong). complaintText x column) (sym e))
+use Rattle.places.specs.Reasons.{wordsFor}
+use Rattle.answers.specs.Answers.{lineText, callText, wholeReply, replyLength, whyText, listText}
 
 -- ---- after the session answer
 
@@ -53,19 +46,7 @@ module _ (s : List ℕ) where
     pub reply-whole : 7 + n ≤ length s → 7 + n ≡ replyLength s
     reply-whole h = else-lt 0 (7 + n) h refl ∙ reply-by
 
--- ---- the words of a reason: k is the number that it is
-
-module _ (p : Sheet) {s : Sheet} {n : ℕ} where
-  pub reason-is : (k : ℕ) → n ≡ k → s ≡ putOn p (ascii (wordsFor k)) → s ≡ putOn p (ascii (wordsFor n))
-  reason-is k e h = h ∙ ap (λ (m : ℕ). putOn p (ascii (wordsFor m))) (sym e)
-
-  pub no-reason : (n ≡ 1 → ⊥) → (n ≡ 2 → ⊥) → (n ≡ 3 → ⊥) → (n ≡ 4 → ⊥) → (n ≡ 5 → ⊥) → (n ≡ 6 → ⊥) → s ≡ putOn p [] → s ≡ putOn p (ascii (wordsFor n))
-  unfolding wordsFor wordsAmong named
-  no-reason a b c d e f h =
-      let not : (k : ℕ) → (n ≡ k → ⊥) → k ≡ n → ⊥ = λ k x y. x (sym y) in
-      h
-      ∙ ap (λ (w : String). putOn p (ascii w))
-      (else-eq _ _ (not 1 a) (else-eq _ _ (not 2 b) (else-eq _ _ (not 3 c) (else-eq _ _ (not 4 d) (else-eq _ _ (not 5 e) (else-eq _ _ (not 6 f) refl))))))
+-- ---- why
 
 module _ (reason at : ℕ) where
   pub why-none : reason ≡ 0 → lineText (ascii "0") ≡ whyText reason at

@@ -1,9 +1,10 @@
 // The text of each answer, put at the front of a lent buffer with its line feed; its length is given back. Nothing is written here.
 ghost use mathlib.Core.Path.{_≡_};
-ghost use lib.ListN.{length, take, drop};
+ghost use lib.ListN.{length};
 ghost use Rattle.io.specs.Counts.{Counts};
 ghost use Rattle.text.specs.Text.{sheet, ascii, putOn, putAll, fromFront, lineEnd};
 ghost use Rattle.places.specs.Reasons.{wordsFor};
+ghost use Rattle.answers.specs.Words.{wordsIn, wordAt, placeOf};
 ghost use Rattle.answers.specs.Answers.{lineText, columnText, imageComplaint, complaintText, replyLength, replyText, bellText, rungText, kindText, whyText, imageText, listText, journalText, helpText};
 use orders::Wrong;
 
@@ -20,6 +21,41 @@ pub fn line(out: &mut [u8], s: &[u8]) -> usize
 {
     let end = text::put(out, 0, s);
     put_end(out, end)
+}
+
+// ---- words in one text, each ended by a bar
+
+// None past the last.
+fn nth<'a>(words: &'a [u8], n: usize) -> &'a [u8]
+    ensures { λ r. ⌜ now r ≡ wordAt (now (words .entry)) n ⌝ }
+{
+    let mut at = 0;
+    let mut left = n;
+    while at < words.len() {
+        let rest = &words[at..];
+        let len = text::find(rest, b'|');
+        if left == 0 {
+            return &rest[..len];
+        }
+        at += len + 1;
+        left -= 1;
+    }
+    &words[..0]
+}
+
+// All of them, one after the other.
+fn put_words(out: &mut [u8], at: usize, words: &[u8]) -> usize
+    ensures { λ r. ⌜ sheet (now (out .exit)) r ≡ putAll (sheet (now (out .entry)) at) (wordsIn (now (words .entry))) ⌝ }
+{
+    let mut end = at;
+    let mut i = 0;
+    while i < words.len() {
+        let rest = &words[i..];
+        let len = text::find(rest, b'|');
+        end = text::put(out, end, &rest[..len]);
+        i += len + 1;
+    }
+    end
 }
 
 // ---- what is wrong in a line
@@ -44,20 +80,36 @@ fn not_an_image(out: &mut [u8]) -> usize
     text::put(out, number, b" bytes\n")
 }
 
+// Where its words stand among those for what is wrong at a column, which an image isn't.
+fn place_of(what: Wrong) -> usize
+    ensures { λ r. ⌜ r ≡ placeOf what ⌝ }
+{
+    match what {
+        Wrong::LongLine => 0,
+        Wrong::NoWord => 1,
+        Wrong::MoreText => 2,
+        Wrong::NoDigit => 3,
+        Wrong::TooMany => 4,
+        Wrong::NoNumber => 5,
+        Wrong::LongBuffer => 6,
+        Wrong::NoImage => 7,
+    }
+}
+
 pub fn complaint(out: &mut [u8], what: Wrong, column: usize) -> usize
     ensures { λ r. ⌜ Counts r (now (out .exit)) ⌝ }
     ensures { λ r. ⌜ sheet (now (out .exit)) r ≡ fromFront (now (out .entry)) (complaintText what column) ⌝ }
 {
-    match what {
-        Wrong::LongLine => at_column(out, b"line over 32768 bytes", column),
-        Wrong::NoWord => at_column(out, b"unknown word", column),
-        Wrong::MoreText => at_column(out, b"nothing more expected", column),
-        Wrong::NoDigit => at_column(out, b"hex digit expected", column),
-        Wrong::TooMany => at_column(out, b"command over 8192 bytes", column),
-        Wrong::NoImage => not_an_image(out),
-        Wrong::NoNumber => at_column(out, b"number expected", column),
-        Wrong::LongBuffer => at_column(out, b"number over 8192", column),
+    let place = place_of(what);
+    if place == 7 {
+        return not_an_image(out);
     }
+    let words = nth(
+        b"line over 32768 bytes|unknown word|nothing more expected|hex digit expected|\
+          command over 8192 bytes|number expected|number over 8192|",
+        place,
+    );
+    at_column(out, words, column)
 }
 
 // ---- calls
@@ -133,15 +185,11 @@ pub fn with_kind(out: &mut [u8], answer: u8, kind: u8) -> usize
 fn put_reason(out: &mut [u8], at: usize, reason: u8) -> usize
     ensures { λ r. ⌜ sheet (now (out .exit)) r ≡ putOn (sheet (now (out .entry)) at) (ascii (wordsFor reason)) ⌝ }
 {
-    match reason {
-        1 => text::put(out, at, b"bad version"),
-        2 => text::put(out, at, b"bad count"),
-        3 => text::put(out, at, b"out of range"),
-        4 => text::put(out, at, b"repeated"),
-        5 => text::put(out, at, b"clash"),
-        6 => text::put(out, at, b"not pending"),
-        _ => text::put(out, at, b""),
-    }
+    let words = nth(
+        b"|bad version|bad count|out of range|repeated|clash|not pending|",
+        reason as usize,
+    );
+    text::put(out, at, words)
 }
 
 // The data byte that the last OCC call had wrong and the reason by its number, of which 0 is none.
@@ -185,77 +233,32 @@ pub fn journal(out: &mut [u8], j: &[u8], used: usize) -> usize
     text::put(out, end, b".\n")
 }
 
-// The words for calls.
-fn put_calls(out: &mut [u8]) -> usize
-    ensures { λ r. ⌜ sheet (now (out .exit)) r ≡ fromFront (now (out .entry)) (take 4 helpText) ⌝ }
-{
-    let a = text::put(
-        out,
-        0,
-        b"occ SS BYTES      an OCC command from sender SS (10 HTMGT, 20 BMC)\n",
-    );
-    let b = text::put(
-        out,
-        a,
-        b"sbe BYTES         an SBE mailbox request of 32 bytes\n",
-    );
-    let c = text::put(out, b, b"undo              take the newest change back\n");
-    text::put(
-        out,
-        c,
-        b"redo              put the change last taken back in again\n",
-    )
-}
-
-// The words for the session as a whole.
-fn put_sessions(out: &mut [u8], at: usize) -> usize
-    ensures { λ r. ⌜ sheet (now (out .exit)) r ≡ putAll (sheet (now (out .entry)) at) (take 5 (drop 4 helpText)) ⌝ }
-{
-    let a = text::put(
-        out,
-        at,
-        b"fresh             begin again with a fresh session\n",
-    );
-    let b = text::put(out, a, b"image             the session as ");
-    let c = text::put_decimal(out, b, orders::IMAGE as u64);
-    let d = text::put(out, c, b" bytes\n");
-    text::put(
-        out,
-        d,
-        b"load BYTES        go on with the session of such an image\n",
-    )
-}
-
-// The words for packets, for reply buffers and for what was wrong in a packet.
-fn put_sends(out: &mut [u8], at: usize) -> usize
-    ensures { λ r. ⌜ sheet (now (out .exit)) r ≡ putAll (sheet (now (out .entry)) at) (take 3 (drop 9 helpText)) ⌝ }
-{
-    let a = text::put(
-        out,
-        at,
-        b"send SS TT DATA   as occ: a packet of type TT, framed for you\n",
-    );
-    let b = text::put(
-        out,
-        a,
-        b"buffer N          reply buffers of N bytes; alone: whole ones again\n",
-    );
-    text::put(
-        out,
-        b,
-        b"why               which data byte the last packet had wrong\n",
-    )
-}
-
 pub fn help(out: &mut [u8]) -> usize
     ensures { λ r. ⌜ Counts r (now (out .exit)) ⌝ }
     ensures { λ r. ⌜ sheet (now (out .exit)) r ≡ fromFront (now (out .entry)) helpText ⌝ }
 {
-    let calls = put_calls(out);
-    let sessions = put_sessions(out, calls);
-    let a = put_sends(out, sessions);
-    let b = text::put(out, a, b"show              the session for a person\n");
-    let c = text::put(out, b, b"journal           the journal's entries\n");
-    let d = text::put(out, c, b"help              these words\n");
-    text::put(out, d, b".\n")
+    let a = put_words(
+        out,
+        0,
+        b"occ SS BYTES      an OCC command from sender SS (10 HTMGT, 20 BMC)\n|\
+          sbe BYTES         an SBE mailbox request of 32 bytes\n|\
+          undo              take the newest change back\n|\
+          redo              put the change last taken back in again\n|\
+          fresh             begin again with a fresh session\n|\
+          image             the session as |",
+    );
+    let b = text::put_decimal(out, a, orders::IMAGE as u64);
+    let c = put_words(
+        out,
+        b,
+        b" bytes\n|\
+          load BYTES        go on with the session of such an image\n|\
+          send SS TT DATA   as occ: a packet of type TT, framed for you\n|\
+          buffer N          reply buffers of N bytes; alone: whole ones again\n|\
+          why               which data byte the last packet had wrong\n|\
+          show              the session for a person\n|\
+          journal           the journal's entries\n|\
+          help              these words\n|",
+    );
+    text::put(out, c, b".\n")
 }

@@ -1,20 +1,16 @@
 -- What `list` puts is the listing, by what it judged. Assumes nothing.
-use Prim.Native.Nat.{ℕ, _+_, _≤_, _<_}
+use Prim.Native.Nat.{ℕ, _≤_, _<_}
 use mathlib.Core.Path.{_≡_, refl, sym, ap, _∙_}
 use mathlib.Core.List.{List, [], _∷_}
-use native.Mathlib.Nat.{zero-add}
 use native.Mathlib.Omega.{arith}
 use lib.ListN.{length}
-use lib.Seq.{length-take-le}
-use Rattle.wire.specs.Wire.{pasted}
-use Rattle.wire.specs.laws.Wire.{length-pasted}
 use Rattle.wire.specs.laws.Cases.{if-lt, else-lt}
 use Rattle.entries.specs.declared.Reading.{Reading}
 use Rattle.entries.specs.declared.Reading.the-variants.{Whole, Unknown, Cut}
 use Rattle.entries.specs.Entries.{Entry, Scan, between, within, unknown, scan, entriesOf, readingOf}
 use Rattle.io.specs.Counts.{Counts}
-use Rattle.text.specs.Text.{Sheet, sheet, putAll, joined}
-use Rattle.text.specs.laws.Pieces.{all-fit}
+use Rattle.text.specs.Text.{sheet, putAll}
+use Rattle.text.specs.laws.Pieces.{fitting}
 use Rattle.listing.specs.Listing.{tooLong, whole, damagedAt, listingOf, piecesOf, listing, longest, listed, listedLength}
 use Rattle.listing.specs.laws.Lengths.{length-listing}
 
@@ -63,11 +59,6 @@ module _ (j d : List ℕ) where
   pub listed-put : {ps : List (List ℕ)} {d′ : List ℕ} {end : ℕ} → longest ≤ length d → ps ≡ piecesOf j → sheet d′ end ≡ putAll (sheet d 0) ps
       → (end ≡ listedLength j d) × ((d′ ≡ listed j d) × Counts end d′)
   unfolding listed listedLength listing
-  listed-put {ps} {d′} {end} h e p =
-      let fits : 0 + length (joined (piecesOf j)) ≤ length d = omega (arith, length-listing j) in
-      let put : sheet d′ end ≡ sheet (pasted 0 (joined (piecesOf j)) d) (0 + length (joined (piecesOf j))) =
-      p ∙ ap (putAll (sheet d 0)) e ∙ all-fit 0 (piecesOf j) d fits in
-      let past : end ≡ 0 + length (joined (piecesOf j)) = ap (λ (s : Sheet). s .past) put in
-      let text : d′ ≡ pasted 0 (joined (piecesOf j)) d = ap (λ (s : Sheet). s .text) put in
-      let counts : end ≤ length d′ = omega (arith, ap length text, length-pasted 0 (joined (piecesOf j)) d fits) in
-      (else-lt _ _ h (past ∙ zero-add _), (else-lt _ _ h text, (counts, sym (length-take-le end d′ counts))))
+  listed-put h e p =
+      let put = fitting (piecesOf j) d (omega (arith, length-listing j)) (p ∙ ap (putAll (sheet d 0)) e) in
+      (else-lt _ _ h (put .0), (else-lt _ _ h (put .1 .0), put .1 .1))

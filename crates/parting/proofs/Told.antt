@@ -2,23 +2,21 @@
 use Prim.Native.Nat.{ℕ, _+_, _≤_, _<_}
 use mathlib.Core.Path.{_≡_, refl, sym, ap, ap₂, _∙_}
 use mathlib.Core.List.{List, [], _∷_, _++_}
-use native.Mathlib.Nat.{zero-add}
 use native.Mathlib.Numerals.{add-one}
 use native.Mathlib.Omega.{arith}
 use lib.ListN.{length, take, length-append}
-use lib.Seq.{length-take-le}
 use Rattle.io.specs.Counts.{Counts}
-use Rattle.wire.specs.Wire.{pasted}
-use Rattle.wire.specs.laws.Wire.{length-pasted}
 use Rattle.wire.specs.laws.Cases.{if-lt, else-lt}
 use Rattle.text.specs.Text.{Sheet, sheet, putOn, putAll, ascii, lineEnd, decimal, joined}
-use Rattle.text.specs.laws.Pieces.{piece, pieces, last-piece, joined-append, all-fit}
-use Rattle.entries.specs.Entries.{written, entriesOf}
+use Rattle.text.specs.laws.Pieces.{piece, pieces, last-piece, joined-append, fitting}
+use Rattle.entries.specs.declared.Next.{Next}
+use Rattle.entries.specs.Entries.{written, entriesOf, nextBy}
 use Rattle.entries.specs.laws.ByTable.{count-written}
-use Rattle.trace.specs.Trace.{traceScan}
+use Rattle.trace.specs.Trace.{traceTable, traceScan}
 use Rattle.parting.specs.declared.Refusal.{Refusal}
+use Rattle.parting.specs.declared.Refusal.the-variants.{Nothing, UnknownInFirst, CutInFirst, UnknownInSecond, CutInSecond}
 use Rattle.parting.specs.declared.Parting.{Parting}
-use Rattle.parting.specs.Parting.{front, sharedEntries, sharedPart, refusalOf, partingOf}
+use Rattle.parting.specs.Parting.{front, sharedEntries, sharedPart, refusedFor, refusalOf, partingOf}
 use Rattle.parting.specs.Lines.{sharedLine, refusalLine, piecesOf, textOf, longest, told, toldLength}
 use Rattle.parting.specs.laws.Front.{begins-take, begins-fits, front-first}
 use Rattle.parting.specs.laws.Parting.{part-common}
@@ -56,6 +54,21 @@ module _ (t u : List ℕ) {n : ℕ} (agree : n ≡ length (front t u)) where
         ap₂ (λ (m : ℕ) (x : Refusal). partingAt m (m + 1) x) counted f
         ∙ ap (λ (m : ℕ). partingAt (length (sharedEntries t u)) m (refusalOf t u)) (add-one (length (sharedEntries t u)))
 
+-- ---- the refusal: n is what stands at the front of a trace, x the variant that it is
+
+pub refused-as : (kind cut later : Refusal) {n x : Next} → n ≡ x → refusedFor x kind cut later ≡ refusedFor n kind cut later
+refused-as kind cut later is = ap (λ (y : Next). refusedFor y kind cut later) (sym is)
+
+pub refusal-is : (t u : List ℕ) {m n : Next} {later r : Refusal} → n ≡ nextBy traceTable u → later ≡ refusedFor n UnknownInSecond CutInSecond Nothing
+    → m ≡ nextBy traceTable t
+    → r ≡ refusedFor m UnknownInFirst CutInFirst later
+    → r ≡ refusalOf t u
+unfolding refusalOf
+refusal-is t u n l m r =
+    r
+    ∙ ap₂ (λ (x : Next) (y : Refusal). refusedFor x UnknownInFirst CutInFirst y) m
+    (l ∙ ap (λ (x : Next). refusedFor x UnknownInSecond CutInSecond Nothing) n)
+
 -- ---- the lines
 
 pub shared-put : (p : Sheet) {p1 p2 p3 p4 p5 p6 p7 : Sheet} (entries bytes next : ℕ)
@@ -70,6 +83,10 @@ pub shared-put : (p : Sheet) {p1 p2 p3 p4 p5 p6 p7 : Sheet} (entries bytes next 
 unfolding sharedLine
 shared-put p {p1} {p2} {p3} {p4} {p5} {p6} entries bytes next e1 e2 e3 e4 e5 e6 e7 =
     piece p _ _ e1 (piece p1 _ _ e2 (piece p2 _ _ e3 (piece p3 _ _ e4 (piece p4 _ _ e5 (piece p5 _ _ e6 (last-piece p6 lineEnd e7))))))
+
+pub nothing-put : (p : Sheet) {r : Refusal} → r ≡ Nothing → p ≡ putAll p (refusalLine r)
+unfolding refusalLine putAll
+nothing-put p is = ap (λ (x : Refusal). putAll p (refusalLine x)) (sym is)
 
 -- r is the refusal, x the variant that it is
 pub refusal-put : (p : Sheet) {q : Sheet} {r : Refusal} (x : Refusal) (words : List ℕ) → words ∷ [] ≡ refusalLine x → r ≡ x → q ≡ putOn p words
@@ -88,11 +105,11 @@ module _ (t u d : List ℕ) where
       → sheet d′ end ≡ putAll q (refusalLine (x .refusal))
       → (end ≡ toldLength t u d) × ((d′ ≡ told t u d) × Counts end d′)
   unfolding told toldLength textOf piecesOf
-  told-put {x} {part} {d′} {q} {end} h e f first short second =
+  told-put {x} {part} h e f first short second =
       let line = sharedLine (x .entries) (length part) (x .next) in
       let both : line ++ refusalLine (x .refusal) ≡ piecesOf t u =
       ap₂ (λ (y : Parting) (l : List ℕ). sharedLine (y .entries) (length l) (y .next) ++ refusalLine (y .refusal)) e f in
-      let fits : 0 + length (joined (piecesOf t u)) ≤ length d =
+      let fits : length (joined (piecesOf t u)) ≤ length d =
       omega (
         arith,
         ap (λ (ps : List (List ℕ)). length (joined ps)) both,
@@ -100,9 +117,5 @@ module _ (t u d : List ℕ) where
         length-append (joined line) (joined (refusalLine (x .refusal))),
         length-refusal (x .refusal),
       ) in
-      let put : sheet d′ end ≡ sheet (pasted 0 (joined (piecesOf t u)) d) (0 + length (joined (piecesOf t u))) =
-      pieces (sheet d 0) line (refusalLine (x .refusal)) first second ∙ ap (putAll (sheet d 0)) both ∙ all-fit 0 (piecesOf t u) d fits in
-      let past : end ≡ 0 + length (joined (piecesOf t u)) = ap (λ (s : Sheet). s .past) put in
-      let text : d′ ≡ pasted 0 (joined (piecesOf t u)) d = ap (λ (s : Sheet). s .text) put in
-      let counts : end ≤ length d′ = omega (arith, ap length text, length-pasted 0 (joined (piecesOf t u)) d fits) in
-      (else-lt _ _ h (past ∙ zero-add _), (else-lt _ _ h text, (counts, sym (length-take-le end d′ counts))))
+      let put = fitting (piecesOf t u) d fits (pieces (sheet d 0) line (refusalLine (x .refusal)) first second ∙ ap (putAll (sheet d 0)) both) in
+      (else-lt _ _ h (put .0), (else-lt _ _ h (put .1 .0), put .1 .1))

@@ -1,6 +1,6 @@
 -- `answers::at_column` meets its contract: its parts are put one after the other. Assumes nothing.
-use Rattle.text.specs.Text.{putAll}
 use Rattle.answers.specs.Answers.{columnText}
+use Rattle.text.specs.laws.Pieces.{piece, last-piece}
 use borrow.Author.Needs.{needs}
 use Rattle.answers.proofs.at_column.Statement.{statement}
 use Rattle.answers.proofs.at_column.Tie as tie
@@ -30,8 +30,8 @@ same-length : tie.Need-same-length
 same-length c = search needs
 
 returns : tie.Need-returns
-unfolding columnText putAll
-returns c = (search needs, cc)
+unfolding columnText
+returns c = (search needs, piece _ _ _ (c .before .before .before .before .before .before .before .before .before .before .before .before .before .before .before .before .before .before .before .put .ensures .1) (piece _ _ _ (c .before .before .before .before .before .before .before .before .before .before .before .before .before .before .before .put2 .ensures .1) (piece _ _ _ (c .before .before .before .before .before .before .before .before .before .before .put3 .ensures .1) (piece _ _ _ (c .before .before .before .before .before .before .put-decimal .ensures .1) (last-piece _ _ (c .before .before .put-end .ensures .1))))))
 
 pub at-column-spec : {M : Type 1} → statement M
 at-column-spec =

@@ -1,7 +1,6 @@
 -- `answers::image` meets its contract: its parts are put one after the other. Assumes nothing.
-use Rattle.text.specs.Text.{putAll}
-use Rattle.text.specs.laws.Pieces.{putAll-append}
 use Rattle.answers.specs.Answers.{imageText}
+use Rattle.text.specs.laws.Pieces.{piece, pieces, last-piece}
 use borrow.Author.Needs.{needs}
 use Rattle.answers.proofs.image.Statement.{statement}
 use Rattle.answers.proofs.image.Tie as tie
@@ -22,8 +21,8 @@ same-length : tie.Need-same-length
 same-length c = search needs
 
 returns : tie.Need-returns
-unfolding imageText putAll
-returns c = (search needs, cc (putAll-append _ _ _))
+unfolding imageText
+returns c = (search needs, piece _ _ _ (c .before .before .before .before .before .before .before .before .before .before .put .ensures .1) (pieces _ _ _ (c .before .before .before .before .before .before .put-hexes .ensures) (last-piece _ _ (c .before .before .put-end .ensures .1))))
 
 pub image-spec : {M : Type 1} → statement M
 image-spec =

@@ -1,7 +1,6 @@
 -- `answers::journal` meets its contract: its parts are put one after the other. Assumes nothing.
-use Rattle.text.specs.Text.{putAll}
-use Rattle.text.specs.laws.Pieces.{putAll-append}
 use Rattle.answers.specs.Answers.{journalText}
+use Rattle.text.specs.laws.Pieces.{pieces, last-piece}
 use borrow.Author.Needs.{needs}
 use Rattle.answers.proofs.journal.Statement.{statement}
 use Rattle.answers.proofs.journal.Tie as tie
@@ -19,8 +18,8 @@ same-length : tie.Need-same-length
 same-length c = search needs
 
 returns : tie.Need-returns
-unfolding journalText putAll
-returns c = (search needs, cc (putAll-append _ _ _))
+unfolding journalText
+returns c = (search needs, pieces _ _ _ (c .before .before .before .before .before .before .before .list .ensures) (last-piece _ _ (c .before .before .put .ensures .1)))
 
 pub journal-spec : {M : Type 1} → statement M
 journal-spec =

@@ -1,6 +1,6 @@
 -- `answers::line` meets its contract: its parts are put one after the other. Assumes nothing.
-use Rattle.text.specs.Text.{putAll}
 use Rattle.answers.specs.Answers.{lineText}
+use Rattle.text.specs.laws.Pieces.{piece, last-piece}
 use borrow.Author.Needs.{needs}
 use Rattle.answers.proofs.line.Statement.{statement}
 use Rattle.answers.proofs.line.Tie as tie
@@ -15,8 +15,8 @@ same-length : tie.Need-same-length
 same-length c = search needs
 
 returns : tie.Need-returns
-unfolding lineText putAll
-returns c = (search needs, cc)
+unfolding lineText
+returns c = (search needs, piece _ _ _ (c .before .before .before .before .before .before .put .ensures .1) (last-piece _ _ (c .before .before .put-end .ensures .1)))
 
 pub line-spec : {M : Type 1} → statement M
 line-spec = tie.close (tie.spec put-requires put-end-requires same-length returns)

@@ -1,6 +1,6 @@
 -- `answers::not_an_image` meets its contract: its parts are put one after the other. Assumes nothing.
-use Rattle.text.specs.Text.{putAll}
 use Rattle.answers.specs.Answers.{imageComplaint}
+use Rattle.text.specs.laws.Pieces.{piece, last-piece}
 use borrow.Author.Needs.{needs}
 use Rattle.answers.proofs.not_an_image.Statement.{statement}
 use Rattle.answers.proofs.not_an_image.Tie as tie
@@ -24,8 +24,8 @@ same-length : tie.Need-same-length
 same-length c = search needs
 
 returns : tie.Need-returns
-unfolding imageComplaint putAll
-returns c = (search needs, cc)
+unfolding imageComplaint
+returns c = (search needs, piece _ _ _ (c .before .before .before .before .before .before .before .before .before .before .before .put .ensures .1) (piece _ _ _ (c .before .before .before .before .before .before .before .put-decimal .ensures .1) (last-piece _ _ (c .before .before .put2 .ensures .1))))
 
 pub not-an-image-spec : {M : Type 1} → statement M
 not-an-image-spec =

@@ -1,9 +1,10 @@
 -- `answers::put_bell` meets its contract: its parts are put one after the other. Assumes nothing.
-use Rattle.text.specs.Text.{putAll}
 use Rattle.answers.specs.Answers.{bellText}
-use Rattle.text.specs.laws.Pieces.{filled}
 use mathlib.Core.List.{[], _∷_}
 use mathlib.Core.Path.{refl}
+use mathlib.Core.Path.{refl, ap, _∙_}
+use Rattle.text.specs.Text.{hexes}
+use Rattle.text.specs.laws.Pieces.{piece, same-pieces, filled}
 use borrow.Author.Needs.{needs}
 use Rattle.answers.proofs.put_bell.Statement.{statement}
 use Rattle.answers.proofs.put_bell.Tie as tie
@@ -30,8 +31,8 @@ same-length : tie.Need-same-length
 same-length c = search needs
 
 returns : tie.Need-returns
-unfolding bellText putAll
-returns c = cc (filled 2 _ (0 ∷ 0 ∷ []) refl)
+unfolding bellText
+returns c = piece _ _ _ (c .before .before .before .before .before .before .before .before .before .before .put .ensures .1) (same-pieces _ (ap hexes (c .before .before .before .before .before .before .put-be .ensures ∙ filled 2 _ _ refl)) (c .before .before .put-hexes .ensures))
 
 pub put-bell-spec : {M : Type 1} → statement M
 put-bell-spec =

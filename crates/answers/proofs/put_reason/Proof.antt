@@ -1,129 +1,26 @@
--- `answers::put_reason` meets its contract: each arm has the words of its number. Assumes nothing.
-use Rattle.places.specs.Reasons.{named, wordsAmong, wordsFor}
-use Rattle.answers.proofs.Saying.{reason-is, no-reason}
+-- `answers::put_reason` meets its contract: the word at the reason's number. Assumes nothing.
+use mathlib.Core.Path.{ap, _∙_}
+use Rattle.text.specs.Text.{putOn}
+use Rattle.answers.proofs.Words.{reason-words}
 use borrow.Author.Needs.{needs}
 use Rattle.answers.proofs.put_reason.Statement.{statement}
 use Rattle.answers.proofs.put_reason.Tie as tie
 
-slice-aggregate-put : tie.Need-slice-aggregate-put
-slice-aggregate-put c = search needs
+slice-aggregate-nth : tie.Need-slice-aggregate-nth
+slice-aggregate-nth c = search needs
+
+nth-requires : tie.Need-nth-requires
+nth-requires c κs = search needs
 
 put-requires : tie.Need-put-requires
 put-requires c κs = search needs
-
-slice-aggregate-put-2 : tie.Need-slice-aggregate-put-2
-slice-aggregate-put-2 c = search needs
-
-put-requires-2 : tie.Need-put-requires-2
-put-requires-2 c κs = search needs
-
-slice-aggregate-put-3 : tie.Need-slice-aggregate-put-3
-slice-aggregate-put-3 c = search needs
-
-put-requires-3 : tie.Need-put-requires-3
-put-requires-3 c κs = search needs
-
-slice-aggregate-put-4 : tie.Need-slice-aggregate-put-4
-slice-aggregate-put-4 c = search needs
-
-put-requires-4 : tie.Need-put-requires-4
-put-requires-4 c κs = search needs
-
-slice-aggregate-put-5 : tie.Need-slice-aggregate-put-5
-slice-aggregate-put-5 c = search needs
-
-put-requires-5 : tie.Need-put-requires-5
-put-requires-5 c κs = search needs
-
-slice-aggregate-put-6 : tie.Need-slice-aggregate-put-6
-slice-aggregate-put-6 c = search needs
-
-put-requires-6 : tie.Need-put-requires-6
-put-requires-6 c κs = search needs
-
-slice-aggregate-put-7 : tie.Need-slice-aggregate-put-7
-slice-aggregate-put-7 c = search needs
-
-put-requires-7 : tie.Need-put-requires-7
-put-requires-7 c κs = search needs
 
 same-length : tie.Need-same-length
 same-length c = search needs
 
 returns : tie.Need-returns
-unfolding wordsFor wordsAmong named
-returns c = reason-is _ 1 (c .before .before .before .before .before .match .keys1) (c .before .before .put .ensures .1)
-
-same-length-2 : tie.Need-same-length-2
-same-length-2 c = search needs
-
-returns-2 : tie.Need-returns-2
-unfolding wordsFor wordsAmong named
-returns-2 c = reason-is _ 2 (c .before .before .before .before .before .match .keys2) (c .before .before .put2 .ensures .1)
-
-same-length-3 : tie.Need-same-length-3
-same-length-3 c = search needs
-
-returns-3 : tie.Need-returns-3
-unfolding wordsFor wordsAmong named
-returns-3 c = reason-is _ 3 (c .before .before .before .before .before .match .keys3) (c .before .before .put3 .ensures .1)
-
-same-length-4 : tie.Need-same-length-4
-same-length-4 c = search needs
-
-returns-4 : tie.Need-returns-4
-unfolding wordsFor wordsAmong named
-returns-4 c = reason-is _ 4 (c .before .before .before .before .before .match .keys4) (c .before .before .put4 .ensures .1)
-
-same-length-5 : tie.Need-same-length-5
-same-length-5 c = search needs
-
-returns-5 : tie.Need-returns-5
-unfolding wordsFor wordsAmong named
-returns-5 c = reason-is _ 5 (c .before .before .before .before .before .match .keys5) (c .before .before .put5 .ensures .1)
-
-same-length-6 : tie.Need-same-length-6
-same-length-6 c = search needs
-
-returns-6 : tie.Need-returns-6
-unfolding wordsFor wordsAmong named
-returns-6 c = reason-is _ 6 (c .before .before .before .before .before .match .keys6) (c .before .before .put6 .ensures .1)
-
-same-length-7 : tie.Need-same-length-7
-same-length-7 c = search needs
-
-returns-7 : tie.Need-returns-7
-returns-7 c = let r = c .before .before .before .before .before .match .rest in no-reason _ (r .0 .0 .0 .0 .0 .1) (r .0 .0 .0 .0 .1) (r .0 .0 .0 .1) (r .0 .0 .1) (r .0 .1) (r .1) (c .before .before .put7 .ensures .1)
+returns c = c .before .before .put .ensures .1 ∙ ap (putOn _) (c .before .before .before .before .nth .ensures ∙ reason-words _)
 
 pub put-reason-spec : {M : Type 1} → statement M
 put-reason-spec =
-    tie.close
-    (tie.spec
-    slice-aggregate-put
-    put-requires
-    slice-aggregate-put-2
-    put-requires-2
-    slice-aggregate-put-3
-    put-requires-3
-    slice-aggregate-put-4
-    put-requires-4
-    slice-aggregate-put-5
-    put-requires-5
-    slice-aggregate-put-6
-    put-requires-6
-    slice-aggregate-put-7
-    put-requires-7
-    same-length
-    returns
-    same-length-2
-    returns-2
-    same-length-3
-    returns-3
-    same-length-4
-    returns-4
-    same-length-5
-    returns-5
-    same-length-6
-    returns-6
-    same-length-7
-    returns-7)
+    tie.close (tie.spec slice-aggregate-nth nth-requires put-requires same-length returns)

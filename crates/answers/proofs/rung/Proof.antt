@@ -1,9 +1,9 @@
 -- `answers::rung` meets its contract: the answer decides whether response and doorbell follow. Assumes nothing.
 use mathlib.Core.List.{_++_}
 use Rattle.text.specs.Text.{putAll, spaced}
-use Rattle.text.specs.laws.Pieces.{putAll-append, same-pieces}
 use Rattle.answers.specs.Answers.{rungText}
 use Rattle.answers.proofs.Saying.{refused, accepted}
+use Rattle.text.specs.laws.Pieces.{piece, pieces, last-piece, same-pieces}
 use borrow.Author.Needs.{needs}
 use Rattle.answers.proofs.rung.Statement.{statement}
 use Rattle.answers.proofs.rung.Tie as tie
@@ -18,8 +18,8 @@ same-length : tie.Need-same-length
 same-length c = search needs
 
 returns : tie.Need-returns
-unfolding rungText putAll
-returns c = (search needs, same-pieces _ (refused _ _ (search needs)) (cc))
+unfolding rungText
+returns c = (search needs, same-pieces _ (refused _ _ (search needs)) (piece _ _ _ (c .before .before .before .before .before .before .before .put-decimal .ensures .1) (last-piece _ _ (c .before .before .put-end .ensures .1))))
 
 put-bytes-requires : tie.Need-put-bytes-requires
 put-bytes-requires c κs = search needs
@@ -34,8 +34,8 @@ same-length-2 : tie.Need-same-length-2
 same-length-2 c = search needs
 
 returns-2 : tie.Need-returns-2
-unfolding rungText putAll
-returns-2 c = (search needs, same-pieces _ (accepted _ _ (search needs)) (cc (putAll-append _ (spaced _ ++ _) _, putAll-append _ (spaced _) _)))
+unfolding rungText
+returns-2 c = (search needs, same-pieces _ (accepted _ _ (search needs)) (piece _ _ _ (c .before .before .before .before .before .before .before .before .before .before .before .before .before .before .before .put-decimal .ensures .1) (pieces _ _ _ (pieces _ _ _ (c .before .before .before .before .before .before .before .before .before .before .put-bytes .ensures) (c .before .before .before .before .before .before .put-bell .ensures)) (last-piece _ _ (c .before .before .put-end2 .ensures .1)))))
 
 pub rung-spec : {M : Type 1} → statement M
 rung-spec =

@@ -1,7 +1,6 @@
 -- `answers::why` meets its contract: the reason decides whether there is a place. Assumes nothing.
-use Rattle.text.specs.Text.{putAll}
-use Rattle.text.specs.laws.Pieces.{same-pieces}
 use Rattle.answers.proofs.Saying.{why-none, why-some}
+use Rattle.text.specs.laws.Pieces.{piece, last-piece, same-pieces}
 use borrow.Author.Needs.{needs}
 use Rattle.answers.proofs.why.Statement.{statement}
 use Rattle.answers.proofs.why.Tie as tie
@@ -37,8 +36,7 @@ same-length-2 : tie.Need-same-length-2
 same-length-2 c = search needs
 
 returns-2 : tie.Need-returns-2
-unfolding putAll
-returns-2 c = (search needs, same-pieces _ (why-some _ _ (search needs)) (cc))
+returns-2 c = (search needs, same-pieces _ (why-some _ _ (search needs)) (piece _ _ _ (c .before .before .before .before .before .before .before .before .before .before .before .before .before .before .before .put-decimal .ensures .1) (piece _ _ _ (c .before .before .before .before .before .before .before .before .before .before .put .ensures .1) (piece _ _ _ (c .before .before .before .before .before .before .put-reason .ensures) (last-piece _ _ (c .before .before .put-end .ensures .1))))))
 
 pub why-spec : {M : Type 1} → statement M
 why-spec =

@@ -1,8 +1,7 @@
 -- `answers::with_kind` meets its contract: the answer decides whether the kind follows. Assumes nothing.
-use Rattle.text.specs.Text.{putAll}
-use Rattle.text.specs.laws.Pieces.{same-pieces}
 use Rattle.answers.specs.Answers.{kindText}
 use Rattle.answers.proofs.Saying.{refused, accepted}
+use Rattle.text.specs.laws.Pieces.{piece, last-piece, same-pieces}
 use borrow.Author.Needs.{needs}
 use Rattle.answers.proofs.with_kind.Statement.{statement}
 use Rattle.answers.proofs.with_kind.Tie as tie
@@ -17,8 +16,8 @@ same-length : tie.Need-same-length
 same-length c = search needs
 
 returns : tie.Need-returns
-unfolding kindText putAll
-returns c = (search needs, same-pieces _ (refused _ _ (search needs)) (cc))
+unfolding kindText
+returns c = (search needs, same-pieces _ (refused _ _ (search needs)) (piece _ _ _ (c .before .before .before .before .before .before .before .put-decimal .ensures .1) (last-piece _ _ (c .before .before .put-end .ensures .1))))
 
 slice-aggregate-put : tie.Need-slice-aggregate-put
 slice-aggregate-put c = search needs
@@ -36,8 +35,8 @@ same-length-2 : tie.Need-same-length-2
 same-length-2 c = search needs
 
 returns-2 : tie.Need-returns-2
-unfolding kindText putAll
-returns-2 c = (search needs, same-pieces _ (accepted _ _ (search needs)) (cc))
+unfolding kindText
+returns-2 c = (search needs, same-pieces _ (accepted _ _ (search needs)) (piece _ _ _ (c .before .before .before .before .before .before .before .before .before .before .before .before .before .before .before .before .put-decimal .ensures .1) (piece _ _ _ (c .before .before .before .before .before .before .before .before .before .before .put .ensures .1) (piece _ _ _ (c .before .before .before .before .before .before .put-hex .ensures .1) (last-piece _ _ (c .before .before .put-end2 .ensures .1))))))
 
 pub with-kind-spec : {M : Type 1} → statement M
 with-kind-spec =

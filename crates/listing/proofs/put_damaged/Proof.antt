@@ -1,5 +1,5 @@
 -- `listing::put_damaged` meets its contract: its three parts are put one after the other. Assumes nothing.
-use Rattle.text.specs.Text.{putAll}
+use Rattle.text.specs.laws.Pieces.{piece, last-piece}
 use Rattle.listing.specs.Listing.{damagedAt}
 use borrow.Author.Needs.{needs}
 use Rattle.listing.proofs.put_damaged.Statement.{statement}
@@ -24,8 +24,8 @@ same-length : tie.Need-same-length
 same-length c = search needs
 
 returns : tie.Need-returns
-unfolding damagedAt putAll
-returns c = cc
+unfolding damagedAt
+returns c = piece _ _ _ (c .before .before .before .before .before .before .before .before .before .before .before .put .ensures .1) (piece _ _ _ (c .before .before .before .before .before .before .before .put-decimal .ensures .1) (last-piece _ _ (c .before .before .put2 .ensures .1)))
 
 pub put-damaged-spec : {M : Type 1} → statement M
 put-damaged-spec =

@@ -1,6 +1,5 @@
 -- `listing::put_line` meets its contract: its four parts are put one after the other. Assumes nothing.
-use Rattle.text.specs.Text.{putAll}
-use Rattle.text.specs.laws.Pieces.{putAll-append}
+use Rattle.text.specs.laws.Pieces.{piece, pieces, last-piece}
 use Rattle.listing.specs.Listing.{line}
 use borrow.Author.Needs.{needs}
 use Rattle.listing.proofs.put_line.Statement.{statement}
@@ -28,8 +27,8 @@ same-length : tie.Need-same-length
 same-length c = search needs
 
 returns : tie.Need-returns
-unfolding line putAll
-returns c = cc (putAll-append _ _ _)
+unfolding line
+returns c = piece _ _ _ (c .before .before .before .before .before .before .before .before .before .before .before .before .before .before .before .before .put-hex .ensures .1) (piece _ _ _ (c .before .before .before .before .before .before .before .before .before .before .before .put .ensures .1) (pieces _ _ _ (c .before .before .before .before .before .before .before .put-hexes .ensures) (last-piece _ _ (c .before .before .put2 .ensures .1))))
 
 pub put-line-spec : {M : Type 1} → statement M
 put-line-spec =

@@ -1,5 +1,5 @@
 -- `listing::put_whole` meets its contract: its four parts are put one after the other. Assumes nothing.
-use Rattle.text.specs.Text.{putAll}
+use Rattle.text.specs.laws.Pieces.{piece}
 use Rattle.listing.specs.Listing.{whole}
 use borrow.Author.Needs.{needs}
 use Rattle.listing.proofs.put_whole.Statement.{statement}
@@ -27,8 +27,8 @@ same-length : tie.Need-same-length
 same-length c = search needs
 
 returns : tie.Need-returns
-unfolding whole putAll
-returns c = cc
+unfolding whole
+returns c = piece _ _ _ (c .before .before .before .before .before .before .before .before .before .before .before .before .before .before .before .put .ensures .1) (piece _ _ _ (c .before .before .before .before .before .before .before .before .before .before .before .put-decimal .ensures .1) (piece _ _ _ (c .before .before .before .before .before .before .put2 .ensures .1) (c .before .before .put-lines .ensures)))
 
 pub put-whole-spec : {M : Type 1} → statement M
 put-whole-spec =

@@ -10,7 +10,7 @@ slice-aggregate-same : tie.Need-slice-aggregate-same
 slice-aggregate-same c = search needs
 
 same-requires : tie.Need-same-requires
-same-requires c κs = search needs
+same-requires c κs = tt
 
 returns : tie.Need-returns
 unfolding viewOf
@@ -20,7 +20,7 @@ slice-aggregate-same-2 : tie.Need-slice-aggregate-same-2
 slice-aggregate-same-2 c = search needs
 
 same-requires-2 : tie.Need-same-requires-2
-same-requires-2 c κs = search needs
+same-requires-2 c κs = tt
 
 returns-2 : tie.Need-returns-2
 unfolding viewOf
@@ -30,7 +30,7 @@ slice-aggregate-same-3 : tie.Need-slice-aggregate-same-3
 slice-aggregate-same-3 c = search needs
 
 same-requires-3 : tie.Need-same-requires-3
-same-requires-3 c κs = search needs
+same-requires-3 c κs = tt
 
 returns-3 : tie.Need-returns-3
 unfolding viewOf
@@ -40,7 +40,7 @@ slice-aggregate-same-4 : tie.Need-slice-aggregate-same-4
 slice-aggregate-same-4 c = search needs
 
 same-requires-4 : tie.Need-same-requires-4
-same-requires-4 c κs = search needs
+same-requires-4 c κs = tt
 
 returns-4 : tie.Need-returns-4
 unfolding viewOf
@@ -50,7 +50,7 @@ slice-aggregate-same-5 : tie.Need-slice-aggregate-same-5
 slice-aggregate-same-5 c = search needs
 
 same-requires-5 : tie.Need-same-requires-5
-same-requires-5 c κs = search needs
+same-requires-5 c κs = tt
 
 returns-5 : tie.Need-returns-5
 unfolding viewOf

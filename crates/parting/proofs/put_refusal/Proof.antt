@@ -1,9 +1,9 @@
 -- `parting::put_refusal` meets its contract: each arm puts the definition's line. Assumes nothing.
 use mathlib.Core.Path.{refl}
-use Rattle.text.specs.Text.{putAll, sheet, ascii}
+use Rattle.text.specs.Text.{sheet, ascii}
 use Rattle.parting.specs.declared.Refusal.the-variants.{UnknownInFirst, CutInFirst, UnknownInSecond, CutInSecond}
 use Rattle.parting.specs.Lines.{refusalLine}
-use Rattle.parting.proofs.Told.{refusal-put}
+use Rattle.parting.proofs.Told.{nothing-put, refusal-put}
 use borrow.Author.Needs.{needs}
 use Rattle.parting.proofs.put_refusal.Statement.{statement}
 use Rattle.parting.proofs.put_refusal.Tie as tie
@@ -48,8 +48,7 @@ put-requires-4 : tie.Need-put-requires-4
 put-requires-4 c κs = search needs
 
 returns : tie.Need-returns
-unfolding refusalLine putAll
-returns c = cc
+returns c = nothing-put _ (c .enum-told .given .1)
 
 same-length : tie.Need-same-length
 same-length c = search needs

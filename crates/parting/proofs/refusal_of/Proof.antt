@@ -1,5 +1,5 @@
 -- `parting::refusal_of` meets its contract: the first trace's before the second's. Assumes nothing.
-use Rattle.parting.specs.Parting.{refusalOf}
+use Rattle.parting.proofs.Told.{refusal-is}
 use borrow.Author.Needs.{needs}
 use Rattle.parting.proofs.refusal_of.Statement.{statement}
 use Rattle.parting.proofs.refusal_of.Tie as tie
@@ -17,8 +17,7 @@ refused-requires-2 : tie.Need-refused-requires-2
 refused-requires-2 c κs = search needs
 
 returns : tie.Need-returns
-unfolding refusalOf
-returns c = cc
+returns c = refusal-is _ _ (c .before .before .before .next .ensures) (c .before .before .refused .ensures) (c .before .next2 .ensures) (c .refused2 .ensures)
 
 pub refusal-of-spec : {M : Type 1} → statement M
 refusal-of-spec =

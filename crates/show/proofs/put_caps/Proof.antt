@@ -1,6 +1,6 @@
 -- `show::put_caps` meets its contract: its parts are put one after the other. Assumes nothing.
-use Rattle.text.specs.Text.{putAll}
 use Rattle.show.specs.Show.{capsText, numberText}
+use Rattle.text.specs.laws.Pieces.{piece, pieces, last-piece}
 use borrow.Author.Needs.{needs}
 use Rattle.show.proofs.put_caps.Statement.{statement}
 use Rattle.show.proofs.put_caps.Tie as tie
@@ -36,8 +36,8 @@ same-length : tie.Need-same-length
 same-length c = search needs
 
 returns : tie.Need-returns
-unfolding capsText numberText putAll
-returns c = cc
+unfolding capsText
+returns c = piece _ _ _ (c .before .before .before .before .before .before .before .before .before .before .before .before .before .before .before .before .before .before .before .before .before .put .ensures .1) (pieces _ _ _ (c .before .before .before .before .before .before .before .before .before .before .before .before .before .before .before .before .put-number .ensures) (pieces _ _ _ (c .before .before .before .before .before .before .before .before .before .before .before .put-number2 .ensures) (pieces _ _ _ (c .before .before .before .before .before .before .put-number3 .ensures) (last-piece _ _ (c .before .before .put-mark .ensures)))))
 
 pub put-caps-spec : {M : Type 1} → statement M
 put-caps-spec =

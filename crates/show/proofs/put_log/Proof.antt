@@ -3,7 +3,7 @@ use mathlib.Core.Path.{refl}
 use Rattle.text.specs.Text.{putAll}
 use Rattle.wire.specs.laws.Cases.{if-eq, else-eq}
 use Rattle.show.specs.Show.{logText, numberText}
-use Rattle.text.specs.laws.Pieces.{same-pieces}
+use Rattle.text.specs.laws.Pieces.{piece, pieces, last-piece, same-pieces}
 use borrow.Author.Needs.{needs}
 use Rattle.show.proofs.put_log.Statement.{statement}
 use Rattle.show.proofs.put_log.Tie as tie
@@ -31,8 +31,8 @@ same-length : tie.Need-same-length
 same-length c = search needs
 
 returns-2 : tie.Need-returns-2
-unfolding logText numberText putAll
-returns-2 c = same-pieces _ (else-eq _ _ (c .before .before .before .before .before .before .before .before .before .before .before .before .before .before .if1 .left) refl) (cc)
+unfolding logText
+returns-2 c = same-pieces _ (else-eq _ _ (c .before .before .before .before .before .before .before .before .before .before .before .before .before .before .if1 .left) refl) (pieces _ _ _ (c .before .before .before .before .before .before .before .before .before .before .before .before .put-byte .ensures) (piece _ _ _ (c .before .before .before .before .before .before .before .put .ensures .1) (last-piece _ _ (c .before .before .put-decimal .ensures .1))))
 
 pub put-log-spec : {M : Type 1} → statement M
 put-log-spec =

@@ -1,7 +1,6 @@
 -- `show::put_mask` meets its contract: its parts are put one after the other. Assumes nothing.
-use Rattle.text.specs.Text.{putAll}
-use Rattle.text.specs.laws.Pieces.{putAll-append}
 use Rattle.show.specs.Show.{maskText}
+use Rattle.text.specs.laws.Pieces.{piece, pieces, last-piece}
 use borrow.Author.Needs.{needs}
 use Rattle.show.proofs.put_mask.Statement.{statement}
 use Rattle.show.proofs.put_mask.Tie as tie
@@ -25,8 +24,8 @@ same-length : tie.Need-same-length
 same-length c = search needs
 
 returns : tie.Need-returns
-unfolding maskText putAll
-returns c = cc (putAll-append _ _ _)
+unfolding maskText
+returns c = piece _ _ _ (c .before .before .before .before .before .before .before .before .before .before .before .put .ensures .1) (pieces _ _ _ (c .before .before .before .before .before .before .before .put-cores .ensures) (last-piece _ _ (c .before .before .put2 .ensures .1)))
 
 pub put-mask-spec : {M : Type 1} → statement M
 put-mask-spec =

@@ -1,6 +1,6 @@
 -- `show::put_named` meets its contract: its parts are put one after the other. Assumes nothing.
-use Rattle.text.specs.Text.{putAll}
 use Rattle.show.specs.Show.{namedText, numberText}
+use Rattle.text.specs.laws.Pieces.{piece, pieces, last-piece}
 use borrow.Author.Needs.{needs}
 use Rattle.show.proofs.put_named.Statement.{statement}
 use Rattle.show.proofs.put_named.Tie as tie
@@ -21,8 +21,8 @@ same-length : tie.Need-same-length
 same-length c = search needs
 
 returns : tie.Need-returns
-unfolding namedText numberText putAll
-returns c = cc
+unfolding namedText
+returns c = piece _ _ _ (c .before .before .before .before .before .before .before .before .before .before .before .put .ensures .1) (pieces _ _ _ (c .before .before .before .before .before .before .before .put-number .ensures) (last-piece _ _ (c .before .before .put2 .ensures .1)))
 
 pub put-named-spec : {M : Type 1} → statement M
 put-named-spec =

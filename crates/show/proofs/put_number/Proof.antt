@@ -1,6 +1,6 @@
 -- `show::put_number` meets its contract: its parts are put one after the other. Assumes nothing.
-use Rattle.text.specs.Text.{putAll}
 use Rattle.show.specs.Show.{numberText}
+use Rattle.text.specs.laws.Pieces.{piece, last-piece}
 use borrow.Author.Needs.{needs}
 use Rattle.show.proofs.put_number.Statement.{statement}
 use Rattle.show.proofs.put_number.Tie as tie
@@ -18,8 +18,8 @@ same-length : tie.Need-same-length
 same-length c = search needs
 
 returns : tie.Need-returns
-unfolding numberText putAll
-returns c = cc
+unfolding numberText
+returns c = piece _ _ _ (c .before .before .before .before .before .before .put .ensures .1) (last-piece _ _ (c .before .before .put-decimal .ensures .1))
 
 pub put-number-spec : {M : Type 1} → statement M
 put-number-spec =

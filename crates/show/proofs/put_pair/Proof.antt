@@ -1,6 +1,6 @@
 -- `show::put_pair` meets its contract: its parts are put one after the other. Assumes nothing.
-use Rattle.text.specs.Text.{putAll}
 use Rattle.show.specs.Show.{pairText, numberText}
+use Rattle.text.specs.laws.Pieces.{piece, pieces, last-piece}
 use borrow.Author.Needs.{needs}
 use Rattle.show.proofs.put_pair.Statement.{statement}
 use Rattle.show.proofs.put_pair.Tie as tie
@@ -21,8 +21,8 @@ same-length : tie.Need-same-length
 same-length c = search needs
 
 returns : tie.Need-returns
-unfolding pairText numberText putAll
-returns c = cc
+unfolding pairText
+returns c = pieces _ _ _ (c .before .before .before .before .before .before .before .before .before .before .before .put-number .ensures) (piece _ _ _ (c .before .before .before .before .before .before .put .ensures .1) (last-piece _ _ (c .before .before .put-decimal .ensures .1)))
 
 pub put-pair-spec : {M : Type 1} → statement M
 put-pair-spec =

@@ -1,6 +1,6 @@
 -- `show::put_role` meets its contract: its parts are put one after the other. Assumes nothing.
-use Rattle.text.specs.Text.{putAll}
 use Rattle.show.specs.Show.{roleText, numberText}
+use Rattle.text.specs.laws.Pieces.{piece, pieces, last-piece}
 use borrow.Author.Needs.{needs}
 use Rattle.show.proofs.put_role.Statement.{statement}
 use Rattle.show.proofs.put_role.Tie as tie
@@ -24,8 +24,8 @@ same-length : tie.Need-same-length
 same-length c = search needs
 
 returns : tie.Need-returns
-unfolding roleText numberText putAll
-returns c = cc
+unfolding roleText
+returns c = piece _ _ _ (c .before .before .before .before .before .before .before .before .before .before .before .before .before .before .put .ensures .1) (pieces _ _ _ (c .before .before .before .before .before .before .before .before .before .before .put-byte .ensures) (piece _ _ _ (c .before .before .before .before .before .before .put-role-word .ensures) (last-piece _ _ (c .before .before .put-mark .ensures))))
 
 pub put-role-spec : {M : Type 1} → statement M
 put-role-spec =

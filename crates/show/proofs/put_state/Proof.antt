@@ -1,6 +1,6 @@
 -- `show::put_state` meets its contract: its parts are put one after the other. Assumes nothing.
-use Rattle.text.specs.Text.{putAll}
 use Rattle.show.specs.Show.{stateText, numberText}
+use Rattle.text.specs.laws.Pieces.{piece, pieces, last-piece}
 use borrow.Author.Needs.{needs}
 use Rattle.show.proofs.put_state.Statement.{statement}
 use Rattle.show.proofs.put_state.Tie as tie
@@ -21,8 +21,8 @@ same-length : tie.Need-same-length
 same-length c = search needs
 
 returns : tie.Need-returns
-unfolding stateText numberText putAll
-returns c = cc
+unfolding stateText
+returns c = piece _ _ _ (c .before .before .before .before .before .before .before .before .before .before .put .ensures .1) (pieces _ _ _ (c .before .before .before .before .before .before .put-byte .ensures) (last-piece _ _ (c .before .before .put-state-word .ensures)))
 
 pub put-state-spec : {M : Type 1} → statement M
 put-state-spec =

@@ -1,6 +1,6 @@
 -- `show::put_wanted` meets its contract: its parts are put one after the other. Assumes nothing.
-use Rattle.text.specs.Text.{putAll}
 use Rattle.show.specs.Show.{wantedText}
+use Rattle.text.specs.laws.Pieces.{piece, last-piece}
 use borrow.Author.Needs.{needs}
 use Rattle.show.proofs.put_wanted.Statement.{statement}
 use Rattle.show.proofs.put_wanted.Tie as tie
@@ -24,8 +24,8 @@ same-length : tie.Need-same-length
 same-length c = search needs
 
 returns : tie.Need-returns
-unfolding wantedText putAll
-returns c = cc
+unfolding wantedText
+returns c = piece _ _ _ (c .before .before .before .before .before .before .before .before .before .before .before .put .ensures .1) (piece _ _ _ (c .before .before .before .before .before .before .before .put-hex .ensures .1) (last-piece _ _ (c .before .before .put2 .ensures .1)))
 
 pub put-wanted-spec : {M : Type 1} → statement M
 put-wanted-spec =

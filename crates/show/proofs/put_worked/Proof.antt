@@ -1,6 +1,6 @@
 -- `show::put_worked` meets its contract: its parts are put one after the other. Assumes nothing.
-use Rattle.text.specs.Text.{putAll}
 use Rattle.show.specs.Show.{workedText, namedText, numberText, wantedText}
+use Rattle.text.specs.laws.Pieces.{piece, pieces}
 use borrow.Author.Needs.{needs}
 use Rattle.show.proofs.put_worked.Statement.{statement}
 use Rattle.show.proofs.put_worked.Tie as tie
@@ -39,8 +39,8 @@ same-length : tie.Need-same-length
 same-length c = search needs
 
 returns : tie.Need-returns
-unfolding workedText namedText numberText wantedText putAll
-returns c = cc
+unfolding workedText
+returns c = pieces _ _ _ (c .before .before .before .before .before .before .before .before .before .before .before .before .before .before .before .before .before .before .before .before .before .before .before .before .put-named .ensures) (piece _ _ _ (c .before .before .before .before .before .before .before .before .before .before .before .before .before .before .before .before .before .before .before .put .ensures .1) (piece _ _ _ (c .before .before .before .before .before .before .before .before .before .before .before .before .before .before .before .put-yes .ensures) (piece _ _ _ (c .before .before .before .before .before .before .before .before .before .before .put2 .ensures .1) (piece _ _ _ (c .before .before .before .before .before .before .put-yes2 .ensures) (c .before .before .put-wanted .ensures)))))
 
 pub put-worked-spec : {M : Type 1} → statement M
 put-worked-spec =

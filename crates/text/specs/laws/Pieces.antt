@@ -5,12 +5,13 @@ use mathlib.Core.List.{List, [], _∷_, _++_, append-assoc, append-nil}
 use native.Mathlib.Nat.{add-zero, zero-add}
 use native.Mathlib.Omega.{arith}
 use lib.ListN.{length, take, drop, length-append, drop-of-length-le}
-use lib.Seq.{drop-drop}
+use lib.Seq.{drop-drop, length-take-le}
+use Rattle.io.specs.Counts.{Counts}
 use Rattle.wire.specs.Wire.{pasted, toBE}
 use Rattle.wire.specs.laws.Wire.{length-toBE, length-pasted, take-pasted, drop-pasted}
 use Rattle.wire.specs.laws.Cases.{else-lt}
 use Rattle.wire.proofs.Loops.{paste-none}
-use Rattle.text.specs.Text.{Sheet, sheet, putOn, putAll, joined, hexOf, hexes}
+use Rattle.text.specs.Text.{Sheet, sheet, putOn, putAll, fromFront, joined, hexOf, hexes}
 
 -- ---- calls one after the other are one list of pieces: q is the sheet in between, r the last one
 
@@ -69,6 +70,16 @@ all-fit at (x ∷ xs) d h =
     ap (λ (s : Sheet). putAll s xs) (sym (put-fits at x d (omega arith) (omega arith) refl))
     ∙ all-fit (at + length x) xs (pasted at x d) there
     ∙ ap₂ sheet (paste-then at x (joined xs) d here) (omega (arith, length-append x (joined xs)))
+
+-- what a call says that puts pieces at the front of a buffer with room for them all: their length, the bytes, and that they stand within it
+pub fitting : (ps : List (List ℕ)) (d : List ℕ) {d′ : List ℕ} {end : ℕ} → length (joined ps) ≤ length d → sheet d′ end ≡ fromFront d ps
+    → (end ≡ length (joined ps)) × ((d′ ≡ pasted 0 (joined ps) d) × Counts end d′)
+fitting ps d {d′} {end} h e =
+    let put : sheet d′ end ≡ sheet (pasted 0 (joined ps) d) (0 + length (joined ps)) = e ∙ all-fit 0 ps d (omega arith) in
+    let past : end ≡ length (joined ps) = ap (λ (s : Sheet). s .past) put ∙ zero-add _ in
+    let text : d′ ≡ pasted 0 (joined ps) d = ap (λ (s : Sheet). s .text) put in
+    let within : end ≤ length d′ = omega (arith, ap length text, length-pasted 0 (joined ps) d (omega arith)) in
+    (past, (text, (within, sym (length-take-le end d′ within))))
 
 -- a number's bytes, written into an array of as many
 pub filled : (k v : ℕ) (d : List ℕ) → length d ≡ k → pasted 0 (toBE k v) d ≡ toBE k v

@@ -1,9 +1,10 @@
 //! Times of the proved library and of this program on the same calls, in one run. The proved library takes a session as its image and
 //! updates it in place; this program is measured the same way, and also on its own session value. `--stack`: the stack that a call uses.
+use second::calls::OccAnswer;
 use second::image::{self, IMAGE_LENGTH};
 use second::journal::Bytes;
 use second::occ::command_packet;
-use second::session::{OccAnswer, Session};
+use second::session::Session;
 use std::hint::black_box;
 use std::time::{Duration, Instant};
 

@@ -120,24 +120,23 @@ impl Run {
     }
 }
 
-/// The lines, and what they show; `None` if the calls, made again, show nothing.
+/// The lines, and what they show; `None` if the calls, made again, show nothing. Tried are all calls, from where they began and from a fresh
+/// session, and the last one alone.
 pub fn shortest(found: &Found) -> Option<(String, Difference)> {
-    let mut all = Run { image: found.start.clone(), calls: found.calls.clone() };
-    let last = found.calls.last().cloned().into_iter().collect();
-    let mut one = Run { image: found.before.clone(), calls: last };
-    let shown: Vec<Run> = [&mut all, &mut one]
-        .into_iter()
-        .filter_map(|run| {
-            run.cut().then(|| {
-                run.drop_calls();
-                run.whole_buffers();
-                run.near_fresh();
-                run.drop_calls();
-                run.clone()
-            })
+    let fresh = image::write(&Session::fresh());
+    let last: Vec<Call> = found.calls.last().cloned().into_iter().collect();
+    let tried = [(&found.start, &found.calls), (&fresh, &found.calls), (&found.before, &last)];
+    let shown = tried.into_iter().filter_map(|(image, calls)| {
+        let mut run = Run { image: image.clone(), calls: calls.clone() };
+        run.cut().then(|| {
+            run.drop_calls();
+            run.whole_buffers();
+            run.near_fresh();
+            run.drop_calls();
+            run
         })
-        .collect();
-    let best = shown.into_iter().min_by_key(|run| run.lines().len())?;
+    });
+    let best = shown.min_by_key(|run| run.lines().len())?;
     let (_, difference) = best.shows()?;
     Some((best.lines(), difference))
 }

@@ -100,13 +100,13 @@ pub struct Soak {
     pub reached: Reached,
     began: Instant,
     told: Instant,
-    tell: fn(u64, Duration),
+    tell: fn(u64, u64, Duration),
     every: Duration,
 }
 
 impl Soak {
-    /// `tell` is called with the calls made and the time, now and then.
-    pub fn new(count: u64, every: Duration, tell: fn(u64, Duration)) -> Self {
+    /// `tell` is called now and then, with the calls made, the calls wanted and the time.
+    pub fn new(count: u64, every: Duration, tell: fn(u64, u64, Duration)) -> Self {
         let longest = LONGEST_COMMAND.max(LONGEST_BUFFER as usize);
         let mut pair = Pair::new(longest);
         let start = image::write(&Session::fresh());
@@ -219,7 +219,7 @@ impl Soak {
         }
         if self.made & (BETWEEN_LOOKS - 1) == 0 && self.told.elapsed() >= self.every {
             self.told = Instant::now();
-            (self.tell)(self.made, self.began.elapsed());
+            (self.tell)(self.made, self.made + self.left, self.began.elapsed());
         }
     }
 }

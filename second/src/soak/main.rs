@@ -19,13 +19,17 @@ fn rate(calls: u64, time: Duration) -> u64 {
     (calls as f64 / time.as_secs_f64().max(0.001)) as u64
 }
 
-/// On a terminal one line that moves; else a line now and then.
-fn tell_terminal(made: u64, time: Duration) {
-    eprint!("\r\x1B[K{made} calls, {} s, {} calls/s", time.as_secs(), rate(made, time));
+fn progress(made: u64, wanted: u64, time: Duration) -> String {
+    format!("{made} of {wanted} calls, {} s, {} calls/s", time.as_secs(), rate(made, time))
 }
 
-fn tell_log(made: u64, time: Duration) {
-    eprintln!("{made} calls, {} s, {} calls/s", time.as_secs(), rate(made, time));
+/// One line that moves.
+fn tell_terminal(made: u64, wanted: u64, time: Duration) {
+    eprint!("\r\x1B[K{}", progress(made, wanted, time));
+}
+
+fn tell_log(made: u64, wanted: u64, time: Duration) {
+    eprintln!("{}", progress(made, wanted, time));
 }
 
 /// Tells the difference and the shortest lines that show it again.

@@ -2,6 +2,8 @@
 #![forbid(unsafe_code)]
 
 pub mod bytes;
+pub mod c;
+pub mod calls;
 pub mod coverage;
 pub mod generate;
 pub mod image;

@@ -1,9 +1,10 @@
 //! The line protocol: lines in, lines out.
 
 use crate::bytes::{hex, hex_spaced};
+use crate::calls::{OccAnswer, DONE, OCC_REPLY_LENGTH, SBE_REPLY_LENGTH};
 use crate::image::{self, IMAGE_LENGTH};
 use crate::occ::{command_packet, Fault};
-use crate::session::{OccAnswer, Session, DONE, OCC_REPLY_LENGTH, SBE_REPLY_LENGTH};
+use crate::session::Session;
 use crate::show::{journal_listing, show};
 use std::io::{BufRead, BufReader, Read, Write};
 

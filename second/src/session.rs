@@ -1,24 +1,7 @@
-//! The session, its answers, undo and redo.
+//! The session as a value: what it holds, when it is well formed, and a change put into it.
 
 use crate::journal::{Bytes, Change, Holding, Store, Survey, STORE_LENGTH};
-use crate::occ;
 use crate::record::*;
-use crate::sbe;
-
-pub const OCC_REPLY_LENGTH: usize = 4096;
-pub const SBE_REPLY_LENGTH: usize = 32;
-
-/// The session answers, by the paper's numbers.
-pub const DONE: u8 = 0;
-pub const NOT_WELL_FORMED: u8 = 1;
-pub const UNKNOWN_SENDER: u8 = 2;
-pub const REPLY_TOO_SHORT: u8 = 3;
-pub const COMMAND_TOO_SHORT: u8 = 4;
-pub const JOURNAL_FULL: u8 = 5;
-pub const NOTHING_TO_UNDO: u8 = 6;
-/// Redo alike.
-pub const CANNOT_UNDO: u8 = 7;
-pub const NOTHING_TO_REDO: u8 = 8;
 
 /// The bytes of the two stores are the session's own, or parts of an image that was lent.
 #[derive(Clone, PartialEq, Eq, Debug)]
@@ -48,24 +31,8 @@ pub struct Accepted {
 pub struct Inspection<'a> {
     standing: Standing<'a>,
     due: WorkedOut,
-    journal: Survey,
-    redo: Survey,
-}
-
-/// What an OCC call gives beside the reply.
-#[derive(Clone, Copy, PartialEq, Eq, Debug)]
-pub struct OccAnswer {
-    pub answer: u8,
-    /// The reply's length, 0 when none is written.
-    pub length: usize,
-    /// Which data byte is wrong; `None` when the status isn't 0x13.
-    pub fault: Option<occ::Fault>,
-}
-
-impl OccAnswer {
-    fn refused(answer: u8) -> Self {
-        OccAnswer { answer, length: 0, fault: None }
-    }
+    pub journal: Survey,
+    pub redo: Survey,
 }
 
 /// A rule of well-formedness: its name and whether a session obeys it.
@@ -107,7 +74,7 @@ impl Inspection<'_> {
         usize::from(self.journal.used) + usize::from(self.redo.used)
     }
 
-    fn well_formed(&self) -> bool {
+    pub fn well_formed(&self) -> bool {
         RULES.iter().all(|(_, obeyed)| obeyed(self))
     }
 }
@@ -125,7 +92,7 @@ impl<B: Bytes> Session<B> {
         Standing { record: &self.record, worked_out: &self.worked_out, next_id: self.next_id }
     }
 
-    fn inspect(&self) -> Inspection<'_> {
+    pub fn inspect(&self) -> Inspection<'_> {
         Inspection {
             standing: self.standing(),
             due: self.record.work_out(),
@@ -151,7 +118,7 @@ impl<B: Bytes> Session<B> {
 
     /// Adds the entry, makes the change and empties the redo store; false, and nothing done, if the entry is longer than
     /// the journal's room.
-    fn accept(&mut self, accepted: &Accepted) -> bool {
+    pub fn accept(&mut self, accepted: &Accepted) -> bool {
         if !self.journal.push(&accepted.before) {
             return false;
         }
@@ -159,90 +126,5 @@ impl<B: Bytes> Session<B> {
         self.next_id = accepted.next_id;
         self.redo.cut(0);
         true
-    }
-
-    pub fn occ(&mut self, sender: u8, command: &[u8], reply: &mut [u8]) -> OccAnswer {
-        if !self.well_formed() {
-            return OccAnswer::refused(NOT_WELL_FORMED);
-        }
-        if sender != occ::HTMGT && sender != occ::BMC {
-            return OccAnswer::refused(UNKNOWN_SENDER);
-        }
-        if reply.len() < OCC_REPLY_LENGTH {
-            return OccAnswer::refused(REPLY_TOO_SHORT);
-        }
-        let [sequence, command_type, _, _, ..] = *command else {
-            return OccAnswer::refused(COMMAND_TOO_SHORT);
-        };
-        let mut fault = None;
-        let (status, data) = match occ::judge(&self.standing(), sender, command) {
-            Err(refusal) => {
-                fault = refusal.fault;
-                (refusal.status, occ::Data::log_id(0))
-            }
-            Ok(occ::Effect::Poll) => (occ::SUCCESS, occ::poll_data(&self.standing())),
-            Ok(occ::Effect::Change(accepted)) if self.accept(&accepted) => (occ::SUCCESS, occ::Data::none()),
-            Ok(occ::Effect::Change(_)) => return OccAnswer::refused(JOURNAL_FULL),
-        };
-        let length = occ::write_reply(reply, [sequence, command_type, status], data.bytes());
-        OccAnswer { answer: DONE, length, fault }
-    }
-
-    /// The answer and the doorbell; the response is 32 bytes when the answer is 0.
-    pub fn sbe(&mut self, request: &[u8], response: &mut [u8]) -> (u8, u16) {
-        if !self.well_formed() {
-            return (NOT_WELL_FORMED, 0);
-        }
-        if response.len() < SBE_REPLY_LENGTH {
-            return (REPLY_TOO_SHORT, 0);
-        }
-        let Some(request) = sbe::Request::read(request) else {
-            return (COMMAND_TOO_SHORT, 0);
-        };
-        let status = match sbe::judge(&self.standing(), &request) {
-            Err(status) => status,
-            Ok(accepted) if self.accept(&accepted) => sbe::SUCCESS,
-            Ok(_) => return (JOURNAL_FULL, 0),
-        };
-        response[..SBE_REPLY_LENGTH].copy_from_slice(&sbe::response(&request, status));
-        (DONE, sbe::doorbell(request.flags))
-    }
-
-    /// Takes the newest change back: the answer and its kind, 0 when refused. The next id is never wound back.
-    pub fn undo(&mut self) -> (u8, u8) {
-        self.take_newest(Holding::Before)
-    }
-
-    /// Puts the change last taken back in again: likewise. The next id doesn't move.
-    pub fn redo(&mut self) -> (u8, u8) {
-        self.take_newest(Holding::After)
-    }
-
-    /// The newest entry of the store that holds that goes into the record; what it finds there goes into the other store.
-    fn take_newest(&mut self, holding: Holding) -> (u8, u8) {
-        let inspection = self.inspect();
-        if !inspection.well_formed() {
-            return (NOT_WELL_FORMED, 0);
-        }
-        let newest = [inspection.journal.newest, inspection.redo.newest];
-        let (from, to, newest, nothing) = match holding {
-            Holding::Before => (&mut self.journal, &mut self.redo, newest[0], NOTHING_TO_UNDO),
-            Holding::After => (&mut self.redo, &mut self.journal, newest[1], NOTHING_TO_REDO),
-        };
-        let Some(newest) = newest else {
-            return (nothing, 0);
-        };
-        let change = from.read(newest, holding);
-        let record = change.and_then(|change| change.put(&self.record));
-        let (Some(change), Some(record)) =
-            (change, record.filter(|record| record_fits(record, self.next_id)))
-        else {
-            return (CANNOT_UNDO, 0);
-        };
-        from.cut(newest);
-        let moved = to.push(&change.opposite(&self.record));
-        assert!(moved, "both stores together hold at most what one has room for");
-        self.set_record(record);
-        (DONE, change.kind())
     }
 }

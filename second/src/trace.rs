@@ -1,8 +1,9 @@
 //! Recorded traces: a row of entries, one byte of kind and a body whose length the kind fixes. Played from a fresh session.
 
+use crate::calls::{DONE, OCC_REPLY_LENGTH, SBE_REPLY_LENGTH};
 use crate::occ::command_packet;
 use crate::protocol::{for_each_line, parse, Order};
-use crate::session::{Session, DONE, OCC_REPLY_LENGTH, SBE_REPLY_LENGTH};
+use crate::session::Session;
 use std::io::{BufReader, Read, Write};
 
 pub const SHORT: u8 = 0x01;

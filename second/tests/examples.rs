@@ -1,5 +1,6 @@
 //! The ten worked examples of the document, through the line protocol and, where buffers matter, the calls.
 
+use second::calls::*;
 use second::image;
 use second::protocol::Program;
 use second::session::*;

@@ -1,11 +1,10 @@
 //! Episodes: what is done to one session, from `fresh` or a `load` on.
 
 use super::commands::About;
-use super::{commands, damage, malformed, requests, scene, Generator};
-use crate::protocol::LONGEST_BUFFER;
+use super::{commands, damage, malformed, requests, scene, Bench, Generator};
+use crate::protocol::{Order, LONGEST_BUFFER};
 use crate::record::*;
 use crate::session::Session;
-use std::io::Write;
 
 /// The lengths of the entries that `change` makes: state, deadman, cores, areas, role, reset, user cap, clear,
 /// caps, thermal, throttles.
@@ -15,37 +14,31 @@ const CHANGES: usize = 11;
 /// Reply buffers at the bounds of SBE and OCC calls and of `buffer`.
 const BUFFER_LENGTHS: [usize; 6] = [0, 31, 32, 4095, 4096, 8192];
 
-impl Generator {
+impl<B: Bench> Generator<B> {
     /// Each sort of damage and of malformed line once, so that no file lacks any.
-    pub fn tour(&mut self, output: &mut impl Write) -> std::io::Result<()> {
+    pub fn tour(&mut self) {
         for number in 0..malformed::short_count() {
-            self.emit(&malformed::short(number));
-            self.write_to(output)?;
+            self.say(&malformed::short(number));
         }
         for number in 0..malformed::long_count() {
             if self.small && malformed::MORE_OF_THE_SAME.contains(&number) {
                 continue;
             }
             let line = malformed::long(&mut self.random, number);
-            self.emit(&line);
-            self.write_to(output)?;
+            self.say(&line);
         }
         let rounds = if self.small { 1 } else { 2 };
         for number in 0..rounds * damage::count() {
             self.broken_session(number % damage::count());
-            self.write_to(output)?;
         }
         for number in 0..damage::HARD_UNDOS {
             self.hard_undo(number);
-            self.write_to(output)?;
         }
         for number in 0..damage::HARD_REDOS {
             self.hard_redo(number);
-            self.write_to(output)?;
         }
         for number in 0..2 * CHANGES {
             self.loaded_brim(number / 2, number % 2);
-            self.write_to(output)?;
         }
         self.every_redo();
         self.every_fault();
@@ -55,15 +48,14 @@ impl Generator {
             self.framed(0x10, 0xEE, &vec![0xFF; length]);
         }
         self.long_packets(if self.small { 4 } else { 20 });
-        self.write_to(output)
     }
 
     /// Each sort of command with each sort of fault that any command can have.
     fn every_fault(&mut self) {
-        self.line("fresh", &[]);
+        self.give(Order::Fresh);
         self.framed(0x10, 0x21, &[FORMAT_ROLE, 1]);
         for about in commands::ALL {
-            let (kind, data) = commands::right(&mut self.random, &self.program.session, about);
+            let (kind, data) = commands::right(&mut self.random, self.bench.session(), about);
             for sender in [0x10, 0x11, 0x20] {
                 self.framed(sender, kind, &data);
             }
@@ -81,10 +73,10 @@ impl Generator {
 
     /// Each command with each of its first bytes, or those of each set, set to values in and out of range.
     fn every_wrong_byte(&mut self) {
-        self.line("fresh", &[]);
+        self.give(Order::Fresh);
         self.framed(0x10, 0x21, &[FORMAT_ROLE, 1]);
         for about in commands::ALL {
-            let (kind, data) = commands::right(&mut self.random, &self.program.session, about);
+            let (kind, data) = commands::right(&mut self.random, self.bench.session(), about);
             let values = if self.small { &[0xFF][..] } else { &[0, 1, 2, 3, 8, 0x10, 0xFE, 0xFF] };
             for place in 0..data.len().min(if self.small { 8 } else { 40 }) {
                 for value in values {
@@ -94,7 +86,7 @@ impl Generator {
                 }
             }
             (0..if self.small { 4 } else { 20 }).for_each(|_| {
-                let (kind, data) = commands::several_off(&mut self.random, &self.program.session, about);
+                let (kind, data) = commands::several_off(&mut self.random, self.bench.session(), about);
                 self.framed(0x10, kind, &data);
             });
         }
@@ -103,12 +95,12 @@ impl Generator {
     /// Packets of sets most of all, with one or several bytes wrong.
     fn wrong_packets(&mut self) {
         if self.random.one_in(2) {
-            self.line("fresh", &[]);
+            self.give(Order::Fresh);
         }
         for _ in 0..self.random.between(20, 60) {
             let sets = [About::Throttles, About::Throttles, About::Thermal, About::Thermal];
             let about = if self.random.one_in(4) { self.about() } else { self.random.pick(&sets) };
-            let (random, session) = (&mut self.random, &self.program.session);
+            let (random, session) = (&mut self.random, self.bench.session());
             let (kind, data) = if random.one_in(2) {
                 commands::off(random, session, about)
             } else {
@@ -122,12 +114,12 @@ impl Generator {
     fn every_buffer(&mut self) {
         for length in BUFFER_LENGTHS {
             self.buffer(length);
-            self.line("fresh", &[]);
+            self.give(Order::Fresh);
             self.framed(0x10, 0x21, &[FORMAT_ROLE, 1]);
             self.framed(0x11, 0x00, &[0x10]);
             self.occ(0x20, &[1, 0, 0]);
             self.sbe_right(1);
-            self.line("sbe", &[&[0; 31]]);
+            self.give(Order::Sbe(vec![0; 31]));
             self.undo();
             self.whole_buffers();
         }
@@ -190,7 +182,7 @@ impl Generator {
             _ => self.bounds(),
         }
         if !self.small || self.random.one_in(4) {
-            self.line("image", &[]);
+            self.give(Order::Image);
         }
     }
 
@@ -258,7 +250,7 @@ impl Generator {
     }
 
     fn back_and_forth_from_fresh(&mut self) {
-        self.line("fresh", &[]);
+        self.give(Order::Fresh);
         self.framed(0x10, 0x21, &[FORMAT_ROLE, 1]);
         if self.random.one_in(30) {
             // the longest chain there can be: entries of two bytes
@@ -273,14 +265,14 @@ impl Generator {
         let rounds = self.random.between(2, 8);
         self.back_and_forth(rounds);
         self.undo_to_the_start();
-        self.line("show", &[]);
+        self.give(Order::Show);
         self.redo_to_the_end();
-        self.line("show", &[]);
+        self.give(Order::Show);
     }
 
     /// One change of each kind, each undone and redone, then all of them.
     fn every_redo(&mut self) {
-        self.line("fresh", &[]);
+        self.give(Order::Fresh);
         self.framed(0x10, 0x21, &[FORMAT_ROLE, 1]);
         for number in [5, 4, 8, 9, 10, 6, 0, 1, 2, 3, 7, 5] {
             self.change(number);
@@ -293,11 +285,11 @@ impl Generator {
         let number = self.random.below(CHANGES);
         self.change(number);
         self.redo();
-        self.line("image", &[]);
+        self.give(Order::Image);
     }
 
     fn redo_to_the_end(&mut self) {
-        while self.left > 0 && self.session().redo.used > 0 {
+        while self.bench.left() > 0 && self.session().redo.used > 0 {
             let before = self.session().redo.used;
             self.redo();
             if self.session().redo.used == before {
@@ -308,7 +300,7 @@ impl Generator {
     }
 
     fn walk_from_fresh(&mut self) {
-        self.line("fresh", &[]);
+        self.give(Order::Fresh);
         self.steps(20, 120);
         self.undos(12);
         self.redos(12);
@@ -316,7 +308,7 @@ impl Generator {
 
     /// Role, thresholds, caps and throttles in any order, states in between, then commands near the bounds.
     fn bring_up(&mut self) {
-        self.line("fresh", &[]);
+        self.give(Order::Fresh);
         let master = u8::from(self.random.percent(70));
         let role_first = self.random.percent(80);
         if role_first {
@@ -351,7 +343,7 @@ impl Generator {
                 0 => self.right(About::Caps),
                 1 => self.right(About::UserCap),
                 2 => {
-                    let (kind, data) = commands::off(&mut self.random, &self.program.session, About::UserCap);
+                    let (kind, data) = commands::off(&mut self.random, self.bench.session(), About::UserCap);
                     let sender = commands::sender(&mut self.random, kind);
                     self.framed(sender, kind, &data);
                 }
@@ -363,7 +355,7 @@ impl Generator {
     }
 
     fn undo_to_the_start(&mut self) {
-        while self.left > 0 && self.session().journal.used > 0 {
+        while self.bench.left() > 0 && self.session().journal.used > 0 {
             let before = self.session().journal.used;
             self.undo();
             if self.session().journal.used == before {
@@ -375,7 +367,7 @@ impl Generator {
 
     /// The journal filled by real commands until a change just fits, or misses by one byte.
     fn brim(&mut self) {
-        self.line("fresh", &[]);
+        self.give(Order::Fresh);
         self.framed(0x10, 0x21, &[FORMAT_ROLE, 1]);
         self.framed(0x10, 0x25, &[0, 1]);
         let number = self.random.below(CHANGES);
@@ -420,7 +412,7 @@ impl Generator {
         self.redos(2);
         self.change(number);
         self.redo();
-        self.line("show", &[]);
+        self.give(Order::Show);
     }
 
     /// Entries of 25, 5, 3 and 2 bytes until the room is that, or as near as they come.
@@ -442,7 +434,7 @@ impl Generator {
         let head = [[0xD1, 1], [0xD1, 3], [0xD7, 4]][which % 3];
         request[6..8].copy_from_slice(&head);
         request[3] = if which == 0 { 1 + self.random.below(2) as u8 } else { 0 };
-        self.line("sbe", &[&request]);
+        self.give(Order::Sbe(request));
     }
 
     /// One change of each kind, in any order, with a log to clear if there can be one.
@@ -474,7 +466,7 @@ impl Generator {
 
     /// Resets, clears and undos until four pend and beyond.
     fn logs_from_fresh(&mut self) {
-        self.line("fresh", &[]);
+        self.give(Order::Fresh);
         if self.random.one_in(2) {
             self.framed(0x10, 0x21, &[FORMAT_ROLE, 1]);
         }
@@ -564,7 +556,7 @@ impl Generator {
         } else if self.random.one_in(2) {
             self.steps(1, 3);
         }
-        self.line("show", &[]);
+        self.give(Order::Show);
         self.look();
     }
 
@@ -606,13 +598,13 @@ impl Generator {
         }
         let mut request = requests::any(&mut self.random);
         request.extend(self.random.bytes(40));
-        self.line("sbe", &[&request]);
+        self.give(Order::Sbe(request));
     }
 
     fn bounds(&mut self) {
         let number = self.random.below(malformed::long_count());
         let line = malformed::long(&mut self.random, number);
-        self.emit(&line);
+        self.say(&line);
         self.step();
     }
 }

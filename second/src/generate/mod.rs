@@ -1,8 +1,10 @@
-//! Calls for the comparison of the two programs: episodes that look at the session as they go.
+//! Calls for the comparison of the two programs: episodes that look at the session as they go. What becomes of the calls is the bench's: lines
+//! for `standin`, or calls on both programs in one process.
 
 mod commands;
 mod damage;
 mod episodes;
+mod lines;
 mod malformed;
 mod random;
 mod requests;
@@ -12,109 +14,57 @@ pub mod traces;
 
 use crate::image;
 use crate::occ::{self, command_packet};
-use crate::protocol::{parse, Order, Program};
+use crate::protocol::Order;
 use crate::session::Session;
 use commands::About;
-use random::Random;
-use spelling::Style;
-use std::io::Write;
+pub use lines::generate;
+pub use random::Random;
 
-/// Writes lines and lets this program answer them, so that the session is always known.
-pub struct Generator {
-    random: Random,
-    program: Program,
-    text: Vec<u8>,
-    left: u64,
+/// Takes the orders of a generator as they come, makes the calls, and so knows the session.
+pub trait Bench {
+    fn session(&mut self) -> &Session;
+
+    /// How many calls are still wanted; once it is 0, orders do nothing.
+    fn left(&self) -> u64;
+
+    fn give(&mut self, random: &mut Random, order: Order);
+
+    /// A line that need not be an order: for a bench that reads lines.
+    fn say(&mut self, _random: &mut Random, _line: &[u8]) {}
+}
+
+/// Draws orders for a bench.
+pub struct Generator<B> {
+    pub random: Random,
+    pub bench: B,
     small: bool,
 }
 
-pub fn generate(count: u64, seed: u64, small: bool, output: &mut impl Write) -> std::io::Result<()> {
-    let mut generator = Generator {
-        random: Random::new(seed),
-        program: Program::default(),
-        text: Vec::new(),
-        left: count,
-        small,
-    };
-    generator.tour(output)?;
-    while generator.left > 0 {
-        generator.episode();
-        generator.write_to(output)?;
-    }
-    generator.finish();
-    generator.write_to(output)
-}
-
-fn is_call(order: &Order) -> bool {
-    matches!(order, Order::Occ { .. } | Order::Sbe(_) | Order::Undo | Order::Redo | Order::Send { .. })
-}
-
-impl Generator {
-    fn write_to(&mut self, output: &mut impl Write) -> std::io::Result<()> {
-        output.write_all(&self.text)?;
-        self.text.clear();
-        Ok(())
+impl<B: Bench> Generator<B> {
+    pub fn new(seed: u64, small: bool, bench: B) -> Self {
+        Generator { random: Random::new(seed), bench, small }
     }
 
-    fn session(&self) -> &Session {
-        &self.program.session
+    fn session(&mut self) -> &Session {
+        self.bench.session()
     }
 
-    /// Writes a line, unless all calls are made, and asks `why` after a call. A return at its end is the line end's.
-    fn emit(&mut self, line: &[u8]) {
-        if self.left == 0 {
-            return;
-        }
-        self.text.extend(line);
-        let was_call = if self.random.one_in(10) {
-            self.text.push(b'\r');
-            self.take_in(line)
-        } else {
-            self.take_in(line.strip_suffix(b"\r").unwrap_or(line))
-        };
-        self.text.push(b'\n');
-        if was_call {
-            self.text.extend(self.random.pick(&[&b"why\n"[..], b"why\n", b"why\n", b" why\t\n", b"why\r\n"]));
-        }
+    fn give(&mut self, order: Order) {
+        self.bench.give(&mut self.random, order);
     }
 
-    /// True for a call.
-    fn take_in(&mut self, line: &[u8]) -> bool {
-        let Some(Ok(order)) = parse(line) else {
-            return false;
-        };
-        let call = is_call(&order);
-        self.left -= u64::from(call);
-        self.program.obey(order);
-        call
-    }
-
-    /// The end of a file: the whole session once more, and a last line without a line feed.
-    fn finish(&mut self) {
-        self.text.extend(b"show\njournal\nimage");
-        if self.random.one_in(2) {
-            self.text.extend(b"\r");
-        }
-    }
-
-    fn line(&mut self, word: &str, parts: &[&[u8]]) {
-        let bytes: usize = parts.iter().map(|part| part.len()).sum();
-        let mut style = spelling::style(&mut self.random, self.small);
-        if bytes > 4200 {
-            style = Style::Compact; // spelled wider, it might pass the longest line
-        }
-        let line = spelling::line(&mut self.random, word, parts, style);
-        self.emit(&line);
+    fn say(&mut self, line: &[u8]) {
+        self.bench.say(&mut self.random, line);
     }
 
     fn occ(&mut self, sender: u8, command: &[u8]) {
-        self.line("occ", &[&[sender], command]);
+        self.give(Order::Occ { sender, command: command.to_vec() });
     }
 
     /// A right frame, as `occ` or as `send`.
     fn framed(&mut self, sender: u8, command_type: u8, data: &[u8]) {
         if self.random.one_in(3) {
-            self.line("send", &[&[sender], &[command_type], data]);
+            self.give(Order::Send { sender, command_type, data: data.to_vec() });
         } else {
             let packet = command_packet(self.random.byte(), command_type, data);
             self.occ(sender, &packet);
@@ -123,7 +73,7 @@ impl Generator {
 
     /// A command that is right as far as the session allows.
     fn right(&mut self, about: About) {
-        let (kind, data) = commands::right(&mut self.random, &self.program.session, about);
+        let (kind, data) = commands::right(&mut self.random, self.bench.session(), about);
         let for_bmc = matches!(about, About::Poll | About::UserCap);
         let sender = if for_bmc && self.random.one_in(3) { occ::BMC } else { occ::HTMGT };
         self.framed(sender, kind, &data);
@@ -132,7 +82,7 @@ impl Generator {
     /// A command with one thing off: data, length, sender or frame.
     fn nearly_right(&mut self) {
         let about = self.about();
-        let (random, session) = (&mut self.random, &self.program.session);
+        let (random, session) = (&mut self.random, self.bench.session());
         let fault = random.below(11);
         let (kind, mut data) = if fault == 10 {
             commands::several_off(random, session, about)
@@ -163,15 +113,15 @@ impl Generator {
 
     fn sbe(&mut self) {
         let request = requests::any(&mut self.random);
-        self.line("sbe", &[&request]);
+        self.give(Order::Sbe(request));
     }
 
     fn undo(&mut self) {
-        self.line("undo", &[]);
+        self.give(Order::Undo);
     }
 
     fn redo(&mut self) {
-        self.line("redo", &[]);
+        self.give(Order::Redo);
     }
 
     fn long_packet(&mut self) {
@@ -185,20 +135,17 @@ impl Generator {
         self.occ(sender, &packet);
     }
 
-    /// Reply buffers of that length from now on, with zeros before the number now and then.
+    /// Reply buffers of that length from now on.
     fn buffer(&mut self, length: usize) {
-        let zeros = if self.random.one_in(6) { self.random.between(1, 30) } else { 0 };
-        let line =
-            spelling::number_line(&mut self.random, "buffer", &format!("{}{length}", "0".repeat(zeros)));
-        self.emit(&line);
+        self.give(Order::Buffer(Some(length)));
     }
 
     fn whole_buffers(&mut self) {
-        self.line("buffer", &[]);
+        self.give(Order::Buffer(None));
     }
 
     fn load(&mut self, image: &[u8]) {
-        self.line("load", &[image]);
+        self.give(Order::Load(image.to_vec()));
     }
 
     fn load_session(&mut self, session: &Session) {
@@ -207,16 +154,16 @@ impl Generator {
 
     /// Lines that aren't calls: the image most of all.
     fn look(&mut self) {
-        let word = match self.random.below(6) {
-            0 => "show",
-            1 => "journal",
-            2 if self.random.one_in(8) => "help",
-            3 if self.random.one_in(2) => "why",
-            2 | 3 if self.small => "show",
-            4 if self.small => "journal",
-            _ => "image",
+        let order = match self.random.below(6) {
+            0 => Order::Show,
+            1 => Order::Journal,
+            2 if self.random.one_in(8) => Order::Help,
+            3 if self.random.one_in(2) => Order::Why,
+            2 | 3 if self.small => Order::Show,
+            4 if self.small => Order::Journal,
+            _ => Order::Image,
         };
-        self.line(word, &[]);
+        self.give(order);
     }
 
     fn odd_line(&mut self) {
@@ -225,6 +172,6 @@ impl Generator {
             1 => malformed::odd(&mut self.random),
             _ => malformed::short(self.random.below(malformed::short_count())),
         };
-        self.emit(&line);
+        self.say(&line);
     }
 }

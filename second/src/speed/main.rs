@@ -1,17 +1,17 @@
 //! Times of the proved library and of this program on the same calls, in one run. The proved library takes a session as its image and
 //! updates it in place; this program is measured the same way, and also on its own session value. `--stack`: the stack that a call uses.
+use second::c;
 use second::image::{self, IMAGE_LENGTH};
-use second::journal::Bytes;
 use second::occ::command_packet;
-use second::session::{OccAnswer, Session};
+use second::session::Session;
 use std::hint::black_box;
 use std::time::{Duration, Instant};
 
 mod stack;
 
 #[allow(dead_code)] // no session is made fresh here
-#[path = "../../../include/bjargolsk.rs"]
-mod ffi;
+#[path = "../proved.rs"]
+mod proved;
 
 const ROUNDS: usize = 7;
 const ROUND: Duration = Duration::from_millis(150);
@@ -31,50 +31,31 @@ struct Work {
     calls: Vec<Call>,
 }
 
-/// Answer in the low 8 bits, doorbell or kind in the high 16, as the C interface has it.
-fn packed(answer: u8, high: u16) -> u32 {
-    u32::from(high) << 16 | u32::from(answer)
-}
-
-/// A packet's fault: the reason in bits 8 to 15, the data byte in the high 16.
-fn with_fault(told: OccAnswer) -> u32 {
-    let (reason, byte) = told.fault.map_or((0, 0), |fault| (fault.reason.number(), fault.byte as u16));
-    packed(told.answer, byte) | u32::from(reason) << 8
-}
-
-fn with_kind((answer, kind): (u8, u8)) -> u32 {
-    packed(answer, u16::from(kind))
-}
-
-fn proved(session: &mut [u8], call: &Call, reply: &mut [u8]) -> u32 {
-    let (s, n) = (session.as_mut_ptr(), session.len());
-    // SAFETY: each pointer comes with the length of the slice that it was taken from, and no two slices overlap.
-    unsafe {
-        match call {
-            Call::Occ(c) => {
-                ffi::bjargolsk_occ(s, n, HTMGT, c.as_ptr(), c.len(), reply.as_mut_ptr(), reply.len())
-            }
-            Call::Sbe(r) => ffi::bjargolsk_sbe(s, n, r.as_ptr(), r.len(), reply.as_mut_ptr(), 32),
-            Call::Undo => ffi::bjargolsk_undo(s, n),
-            Call::Redo => ffi::bjargolsk_redo(s, n),
-        }
-    }
-}
-
-fn on_value<B: Bytes>(session: &mut Session<B>, call: &Call, reply: &mut [u8]) -> u32 {
+fn proved(image: &mut [u8], call: &Call, reply: &mut [u8]) -> u32 {
     match call {
-        Call::Occ(c) => with_fault(session.occ(HTMGT, c, reply)),
-        Call::Sbe(r) => {
-            let (answer, bell) = session.sbe(r, &mut reply[..32]);
-            packed(answer, bell)
-        }
-        Call::Undo => with_kind(session.undo()),
-        Call::Redo => with_kind(session.redo()),
+        Call::Occ(command) => proved::occ(image, HTMGT, command, reply),
+        Call::Sbe(request) => proved::sbe(image, request, &mut reply[..32]),
+        Call::Undo => proved::undo(image),
+        Call::Redo => proved::redo(image),
     }
 }
 
-fn on_image(lent: &mut [u8], call: &Call, reply: &mut [u8]) -> u32 {
-    image::call(lent, |session| on_value(session, call, reply)).unwrap_or(1)
+fn on_value(session: &mut Session, call: &Call, reply: &mut [u8]) -> u32 {
+    match call {
+        Call::Occ(command) => c::with_fault(session.occ(HTMGT, command, reply)),
+        Call::Sbe(request) => c::with_bell(session.sbe(request, &mut reply[..32])),
+        Call::Undo => c::with_kind(session.undo()),
+        Call::Redo => c::with_kind(session.redo()),
+    }
+}
+
+fn on_image(image: &mut [u8], call: &Call, reply: &mut [u8]) -> u32 {
+    match call {
+        Call::Occ(command) => c::occ(image, HTMGT, command, reply),
+        Call::Sbe(request) => c::sbe(image, request, &mut reply[..32]),
+        Call::Undo => c::undo(image),
+        Call::Redo => c::redo(image),
+    }
 }
 
 /// An active master with caps, from fresh.

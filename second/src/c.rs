@@ -1,0 +1,56 @@
+//! The functions of bjargolsk.h by this program: a session is lent as its image and updated in place, results are packed.
+
+use crate::calls::{OccAnswer, DONE, NOT_WELL_FORMED};
+use crate::image;
+use crate::session::Session;
+
+/// The answer in bits 0 to 7, a small number in bits 8 to 15, one of 16 bits above.
+fn packed(answer: u8, small: u8, high: u16) -> u32 {
+    u32::from(high) << 16 | u32::from(small) << 8 | u32::from(answer)
+}
+
+/// The reason, and the number of the data byte.
+pub fn with_fault(told: OccAnswer) -> u32 {
+    match told.fault {
+        Some(fault) => packed(told.answer, fault.reason.number(), fault.byte as u16),
+        None => packed(told.answer, 0, 0),
+    }
+}
+
+pub fn with_bell((answer, bell): (u8, u16)) -> u32 {
+    packed(answer, 0, bell)
+}
+
+pub fn with_kind((answer, kind): (u8, u8)) -> u32 {
+    packed(answer, 0, u16::from(kind))
+}
+
+/// An image of another length isn't well formed.
+fn on(image: &mut [u8], call: impl FnOnce(&mut Session<&mut [u8]>) -> u32) -> u32 {
+    image::call(image, call).unwrap_or(NOT_WELL_FORMED.into())
+}
+
+pub fn fresh(image: &mut [u8]) -> u32 {
+    let bytes = image::write(&Session::fresh());
+    if image.len() != bytes.len() {
+        return NOT_WELL_FORMED.into();
+    }
+    image.copy_from_slice(&bytes);
+    DONE.into()
+}
+
+pub fn occ(image: &mut [u8], sender: u8, command: &[u8], reply: &mut [u8]) -> u32 {
+    on(image, |session| with_fault(session.occ(sender, command, reply)))
+}
+
+pub fn sbe(image: &mut [u8], request: &[u8], reply: &mut [u8]) -> u32 {
+    on(image, |session| with_bell(session.sbe(request, reply)))
+}
+
+pub fn undo(image: &mut [u8]) -> u32 {
+    on(image, |session| with_kind(session.undo()))
+}
+
+pub fn redo(image: &mut [u8]) -> u32 {
+    on(image, |session| with_kind(session.redo()))
+}

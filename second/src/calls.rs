@@ -1,0 +1,125 @@
+//! The calls on a session and their answers: OCC and SBE commands, undo and redo.
+
+use crate::journal::{Bytes, Holding};
+use crate::occ;
+use crate::record::record_fits;
+use crate::sbe;
+use crate::session::Session;
+
+pub const OCC_REPLY_LENGTH: usize = 4096;
+pub const SBE_REPLY_LENGTH: usize = 32;
+
+/// The session answers, by the paper's numbers.
+pub const DONE: u8 = 0;
+pub const NOT_WELL_FORMED: u8 = 1;
+pub const UNKNOWN_SENDER: u8 = 2;
+pub const REPLY_TOO_SHORT: u8 = 3;
+pub const COMMAND_TOO_SHORT: u8 = 4;
+pub const JOURNAL_FULL: u8 = 5;
+pub const NOTHING_TO_UNDO: u8 = 6;
+/// Redo alike.
+pub const CANNOT_UNDO: u8 = 7;
+pub const NOTHING_TO_REDO: u8 = 8;
+
+/// What an OCC call gives beside the reply.
+#[derive(Clone, Copy, PartialEq, Eq, Debug)]
+pub struct OccAnswer {
+    pub answer: u8,
+    /// The reply's length, 0 when none is written.
+    pub length: usize,
+    /// Which data byte is wrong; `None` when the status isn't 0x13.
+    pub fault: Option<occ::Fault>,
+}
+
+impl OccAnswer {
+    fn refused(answer: u8) -> Self {
+        OccAnswer { answer, length: 0, fault: None }
+    }
+}
+
+impl<B: Bytes> Session<B> {
+    pub fn occ(&mut self, sender: u8, command: &[u8], reply: &mut [u8]) -> OccAnswer {
+        if !self.well_formed() {
+            return OccAnswer::refused(NOT_WELL_FORMED);
+        }
+        if sender != occ::HTMGT && sender != occ::BMC {
+            return OccAnswer::refused(UNKNOWN_SENDER);
+        }
+        if reply.len() < OCC_REPLY_LENGTH {
+            return OccAnswer::refused(REPLY_TOO_SHORT);
+        }
+        let [sequence, command_type, _, _, ..] = *command else {
+            return OccAnswer::refused(COMMAND_TOO_SHORT);
+        };
+        let mut fault = None;
+        let (status, data) = match occ::judge(&self.standing(), sender, command) {
+            Err(refusal) => {
+                fault = refusal.fault;
+                (refusal.status, occ::Data::log_id(0))
+            }
+            Ok(occ::Effect::Poll) => (occ::SUCCESS, occ::poll_data(&self.standing())),
+            Ok(occ::Effect::Change(accepted)) if self.accept(&accepted) => (occ::SUCCESS, occ::Data::none()),
+            Ok(occ::Effect::Change(_)) => return OccAnswer::refused(JOURNAL_FULL),
+        };
+        let length = occ::write_reply(reply, [sequence, command_type, status], data.bytes());
+        OccAnswer { answer: DONE, length, fault }
+    }
+
+    /// The answer and the doorbell; the response is 32 bytes when the answer is 0.
+    pub fn sbe(&mut self, request: &[u8], response: &mut [u8]) -> (u8, u16) {
+        if !self.well_formed() {
+            return (NOT_WELL_FORMED, 0);
+        }
+        if response.len() < SBE_REPLY_LENGTH {
+            return (REPLY_TOO_SHORT, 0);
+        }
+        let Some(request) = sbe::Request::read(request) else {
+            return (COMMAND_TOO_SHORT, 0);
+        };
+        let status = match sbe::judge(&self.standing(), &request) {
+            Err(status) => status,
+            Ok(accepted) if self.accept(&accepted) => sbe::SUCCESS,
+            Ok(_) => return (JOURNAL_FULL, 0),
+        };
+        response[..SBE_REPLY_LENGTH].copy_from_slice(&sbe::response(&request, status));
+        (DONE, sbe::doorbell(request.flags))
+    }
+
+    /// Takes the newest change back: the answer and its kind, 0 when refused. The next id is never wound back.
+    pub fn undo(&mut self) -> (u8, u8) {
+        self.take_newest(Holding::Before)
+    }
+
+    /// Puts the change last taken back in again: likewise. The next id doesn't move.
+    pub fn redo(&mut self) -> (u8, u8) {
+        self.take_newest(Holding::After)
+    }
+
+    /// The newest entry of the store that holds that goes into the record; what it finds there goes into the other store.
+    fn take_newest(&mut self, holding: Holding) -> (u8, u8) {
+        let inspection = self.inspect();
+        if !inspection.well_formed() {
+            return (NOT_WELL_FORMED, 0);
+        }
+        let newest = [inspection.journal.newest, inspection.redo.newest];
+        let (from, to, newest, nothing) = match holding {
+            Holding::Before => (&mut self.journal, &mut self.redo, newest[0], NOTHING_TO_UNDO),
+            Holding::After => (&mut self.redo, &mut self.journal, newest[1], NOTHING_TO_REDO),
+        };
+        let Some(newest) = newest else {
+            return (nothing, 0);
+        };
+        let change = from.read(newest, holding);
+        let record = change.and_then(|change| change.put(&self.record));
+        let (Some(change), Some(record)) =
+            (change, record.filter(|record| record_fits(record, self.next_id)))
+        else {
+            return (CANNOT_UNDO, 0);
+        };
+        from.cut(newest);
+        let moved = to.push(&change.opposite(&self.record));
+        assert!(moved, "both stores together hold at most what one has room for");
+        self.set_record(record);
+        (DONE, change.kind())
+    }
+}

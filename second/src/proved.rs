@@ -1,0 +1,32 @@
+//! The functions of bjargolsk.h by the proved library, on slices: for the programs that link it. Beside `speed`'s stack meter the one file with
+//! `unsafe`.
+#![allow(unsafe_code)]
+
+#[path = "../../include/bjargolsk.rs"]
+mod ffi;
+
+// SAFETY, of each: a pointer comes with the length of the slice that it was taken from, and no two slices overlap, as one of them at most is shared.
+
+pub fn fresh(image: &mut [u8]) -> u32 {
+    unsafe { ffi::bjargolsk_fresh(image.as_mut_ptr(), image.len()) }
+}
+
+pub fn occ(image: &mut [u8], sender: u8, command: &[u8], reply: &mut [u8]) -> u32 {
+    let (session, length) = (image.as_mut_ptr(), image.len());
+    let (to, room) = (reply.as_mut_ptr(), reply.len());
+    unsafe { ffi::bjargolsk_occ(session, length, sender, command.as_ptr(), command.len(), to, room) }
+}
+
+pub fn sbe(image: &mut [u8], request: &[u8], reply: &mut [u8]) -> u32 {
+    let (session, length) = (image.as_mut_ptr(), image.len());
+    let (to, room) = (reply.as_mut_ptr(), reply.len());
+    unsafe { ffi::bjargolsk_sbe(session, length, request.as_ptr(), request.len(), to, room) }
+}
+
+pub fn undo(image: &mut [u8]) -> u32 {
+    unsafe { ffi::bjargolsk_undo(image.as_mut_ptr(), image.len()) }
+}
+
+pub fn redo(image: &mut [u8]) -> u32 {
+    unsafe { ffi::bjargolsk_redo(image.as_mut_ptr(), image.len()) }
+}

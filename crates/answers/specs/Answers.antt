@@ -9,7 +9,7 @@ use Rattle.text.specs.Text.{ascii, lineEnd, hexOf, hexes, spaced, decimal}
 use Rattle.listing.specs.Listing.{tooLong, listing, longest}
 use Rattle.places.specs.Reasons.{wordsFor}
 use Rattle.orders.specs.declared.Wrong.{Wrong}
-use Rattle.orders.specs.Orders.{imageBytes}
+use Rattle.layout.specs.Layout.{imageLength}
 use Rattle.orders.specs.declared.Wrong.the-variants.{LongLine, NoWord, MoreText, NoDigit, TooMany, NoImage, NoNumber, LongBuffer}
 
 -- "Every answer line ends in one LF"
@@ -22,7 +22,7 @@ unfoldable pub columnText : List ℕ → ℕ → List (List ℕ)
 columnText what column = ascii "? " ∷ what ∷ ascii " at column " ∷ decimal column ∷ lineEnd ∷ []
 
 unfoldable pub imageComplaint : List (List ℕ)
-imageComplaint = ascii "? image must be " ∷ decimal imageBytes ∷ ascii " bytes\n" ∷ []
+imageComplaint = ascii "? image must be " ∷ decimal imageLength ∷ ascii " bytes\n" ∷ []
 
 unfoldable pub complaintText : Wrong → ℕ → List (List ℕ)
 complaintText LongLine column = columnText (ascii "line over 32768 bytes") column
@@ -91,7 +91,7 @@ helpText =
     ∷ ascii "undo              take the newest change back\n"
     ∷ ascii "redo              put the change last taken back in again\n"
     ∷ ascii "fresh             begin again with a fresh session\n"
-    ∷ ascii "image             the session as " ∷ decimal imageBytes ∷ ascii " bytes\n"
+    ∷ ascii "image             the session as " ∷ decimal imageLength ∷ ascii " bytes\n"
     ∷ ascii "load BYTES        go on with the session of such an image\n"
     ∷ ascii "send SS TT DATA   as occ: a packet of type TT, framed for you\n"
     ∷ ascii "buffer N          reply buffers of N bytes; alone: whole ones again\n"

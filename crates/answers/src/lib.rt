@@ -76,7 +76,7 @@ fn not_an_image(out: &mut [u8]) -> usize
     ensures { λ r. ⌜ sheet (now (out .exit)) r ≡ fromFront (now (out .entry)) imageComplaint ⌝ }
 {
     let mark = text::put(out, 0, b"? image must be ");
-    let number = text::put_decimal(out, mark, orders::IMAGE as u64);
+    let number = text::put_decimal(out, mark, layout::IMAGE as u64);
     text::put(out, number, b" bytes\n")
 }
 
@@ -247,7 +247,7 @@ pub fn help(out: &mut [u8]) -> usize
           fresh             begin again with a fresh session\n|\
           image             the session as |",
     );
-    let b = text::put_decimal(out, a, orders::IMAGE as u64);
+    let b = text::put_decimal(out, a, layout::IMAGE as u64);
     let c = put_words(
         out,
         b,

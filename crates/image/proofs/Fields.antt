@@ -7,8 +7,8 @@ use native.Mathlib.Omega.{arith}
 use lib.Dec.{lit<}
 use lib.ListN.{length, take, drop, length-append, drop-of-length-le}
 use lib.Seq.{drop-drop}
-use Rattle.wire.specs.Wire.{sumOf, toBE, pasted}
-use Rattle.wire.specs.laws.Wire.{take-pasted, drop-pasted}
+use Rattle.wire.specs.Wire.{sumOf, toBE, pasted, joined}
+use Rattle.wire.specs.laws.Wire.{take-pasted, drop-pasted, joined-append}
 use Rattle.record.specs.declared.Caps.{Caps}
 use Rattle.record.specs.declared.Areas.{Areas}
 use Rattle.record.specs.declared.Deadman.{Deadman}
@@ -16,8 +16,8 @@ use Rattle.record.specs.declared.Record.{Record}
 use Rattle.record.specs.declared.Throttles.{Throttles}
 use Rattle.record.specs.declared.Worked.{Worked}
 use Rattle.session.specs.declared.Session.{Session}
-use Rattle.image.specs.Rows.{joined, widthsOf}
-use Rattle.image.specs.laws.Rows.{length-joined, joined-append}
+use Rattle.image.specs.Rows.{widthsOf}
+use Rattle.image.specs.laws.Rows.{length-joined}
 use Rattle.image.specs.laws.Image.{recordWidths, widths-record}
 use Rattle.image.specs.Image.{byte, headRows, throttlesRows, thermalRows, logsRows, mailboxRows, workedRows, recordRows, sessionRows, imageOf}
 use Rattle.layout.specs.Layout.{imageLength}

@@ -5,9 +5,8 @@ use mathlib.Core.List.{List}
 use native.Mathlib.Omega.{arith}
 use lib.ListN.{length, take, drop, length-drop}
 use lib.Seq.{length-take-le, drop-drop}
-use Rattle.wire.specs.Wire.{toBE, pasted}
+use Rattle.wire.specs.Wire.{toBE, pasted, joined}
 use Rattle.wire.specs.laws.Wire.{drop-pasted, length-pasted, paste-self}
-use Rattle.image.specs.Rows.{joined}
 use Rattle.image.specs.declared.Head.{Head}
 use Rattle.image.specs.Image.{recordRows, workedRows, imageOf, partAt, journalIn, redoIn, withStore, sessionIn}
 use Rattle.layout.specs.Layout.{imageLength}

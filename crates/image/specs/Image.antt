@@ -4,7 +4,7 @@ use mathlib.Core.Bool.{cond, not}
 use mathlib.Core.List.{List, [], _∷_, _++_}
 use lib.ListN.{length, getD, take, drop}
 use lib.Dec.{eqb}
-use Rattle.wire.specs.Wire.{beNat, toBE}
+use Rattle.wire.specs.Wire.{beNat, toBE, joined}
 use Rattle.record.specs.Record.{noLog, workedOf}
 use Rattle.record.specs.declared.Log.{Log}
 use Rattle.record.specs.declared.Caps.{Caps}
@@ -18,7 +18,6 @@ use Rattle.journal.specs.declared.Way.{Way}
 use Rattle.journal.specs.declared.Way.the-variants.{Before, After}
 use Rattle.session.specs.declared.Session.{Session}
 use Rattle.layout.specs.Layout.{storeSize, journalAt, aheadAt, redoAt, imageLength}
-use Rattle.image.specs.Rows.{joined}
 use Rattle.image.specs.declared.Head.{Head}
 
 -- ---- a session as bytes

@@ -1,11 +1,7 @@
--- Rows of bytes one after the other: joined, and read apart again by their widths. Assumes nothing.
+-- Rows of bytes one after the other, read apart again by their widths. Assumes nothing.
 use Prim.Native.Nat.{ℕ, _+_}
-use mathlib.Core.List.{List, [], _∷_, _++_}
+use mathlib.Core.List.{List, [], _∷_}
 use lib.ListN.{length, take, drop}
-
-unfoldable pub joined : List (List ℕ) → List ℕ
-joined [] = []
-joined (r ∷ rs) = r ++ joined rs
 
 unfoldable pub widthsOf : List (List ℕ) → List ℕ
 widthsOf [] = []

@@ -2,8 +2,7 @@
 ghost use mathlib.Core.Path.{_≡_};
 ghost use Prim.Native.Nat.{_≤_, _+_};
 ghost use lib.ListN.{length};
-ghost use Rattle.wire.specs.Wire.{pasted, Bytes};
-ghost use Rattle.image.specs.Rows.{joined};
+ghost use Rattle.wire.specs.Wire.{pasted, Bytes, joined};
 ghost use Rattle.image.specs.Image.{headRows, throttlesRows, thermalRows, logsRows, mailboxRows, workedRows, recordRows, imageOf, writtenTo, partAt, capsIn, throttlesIn, receivedIn, logAt, logsIn, deadmanIn, areasIn, recordIn, workedIn, headIn, headRenewed, storeAt, journalIn, redoIn, sessionIn};
 ghost use Rattle.layout.specs.Layout.{journalAt, redoAt, imageLength};
 use journal::Way;
@@ -17,7 +16,6 @@ use record::Record;
 use record::Throttles;
 use record::Worked;
 use session::Session;
-
 
 // A session without its journal and its redo store, which stay in the lent bytes.
 pub struct Head {

@@ -5,10 +5,12 @@ pub const STORE: usize = 2048;
 
 // The journal begins, and ends where the used bytes of the redo store stand.
 pub const JOURNAL: usize = 239;
+
 pub const AHEAD: usize = 2287;
 
 // The redo store begins and ends.
 pub const REDO: usize = 2289;
+
 pub const REDO_END: usize = 4337;
 
 // All of it.

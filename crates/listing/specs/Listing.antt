@@ -4,9 +4,9 @@ use mathlib.Core.Bool.{cond}
 use mathlib.Core.List.{List, [], _∷_, _++_}
 use lib.Dec.{ltb}
 use lib.ListN.{length}
-use Rattle.wire.specs.Wire.{pasted}
+use Rattle.wire.specs.Wire.{pasted, joined}
 use Rattle.entries.specs.Entries.{Entry, Scan, between, within, unknown, scan, written}
-use Rattle.text.specs.Text.{ascii, lineEnd, hexOf, hexes, decimal, joined}
+use Rattle.text.specs.Text.{ascii, lineEnd, hexOf, hexes, decimal}
 
 -- ---- lines, in pieces
 

@@ -7,6 +7,7 @@ use native.Mathlib.Nat.{zero-add, add-sub-cancel-left}
 use native.Mathlib.Omega.{arith}
 use lib.ListN.{length, take, drop, length-take, length-drop, take-append-drop}
 use lib.Seq.{drop-append-le, drop-drop}
+use Rattle.layout.specs.Layout.{imageLength}
 use Rattle.wire.specs.Wire.{pasted}
 use Rattle.wire.specs.laws.Wire.{tail-part}
 use Rattle.wire.specs.laws.Cases.{if-b, else-b, if-lt, else-lt, if-le, else-le, if-ne, else-ne}
@@ -26,7 +27,7 @@ use Rattle.orders.specs.declared.Wrong.the-variants.{LongLine, MoreText,
 use Rattle.orders.specs.declared.Word.{Word}
 use Rattle.orders.specs.declared.Word.the-variants.{Make, Look, Lend, Fail, Skip}
 use Rattle.orders.specs.declared.Order.{Order}
-use Rattle.orders.specs.Orders.{imageBytes, plainly, wrongAt, wordOf, aloneAt, aloneOf, bytesBy, imageBy, sizeBy, bufferAt, bufferOf, ReadsAs, Ordered, ordered, callOf, orderBy, wordLength, orderAt, remark, orderFrom, orderOf, lineLength, orderIn}
+use Rattle.orders.specs.Orders.{plainly, wrongAt, wordOf, aloneAt, aloneOf, bytesBy, imageBy, sizeBy, bufferAt, bufferOf, ReadsAs, Ordered, ordered, callOf, orderBy, wordLength, orderAt, remark, orderFrom, orderOf, lineLength, orderIn}
 
 -- ---- by what follows
 
@@ -91,11 +92,11 @@ module _ (n : ℕ) {f : Fault} {r : Order} where
   unfolding imageBy
   over-image e h = h ∙ sym (ap (λ (x : Fault). imageBy x n) e)
 
-  pub short-image : f ≡ Nothing → (n ≡ imageBytes → ⊥) → r ≡ wrongAt NoImage 0 → r ≡ imageBy f n
+  pub short-image : f ≡ Nothing → (n ≡ imageLength → ⊥) → r ≡ wrongAt NoImage 0 → r ≡ imageBy f n
   unfolding imageBy
   short-image e k h = if-ne _ _ k h ∙ sym (ap (λ (x : Fault). imageBy x n) e)
 
-  pub good-image : f ≡ Nothing → n ≡ imageBytes → r ≡ plainly (Make Load) → r ≡ imageBy f n
+  pub good-image : f ≡ Nothing → n ≡ imageLength → r ≡ plainly (Make Load) → r ≡ imageBy f n
   unfolding imageBy
   good-image e k h = else-ne _ _ k h ∙ sym (ap (λ (x : Fault). imageBy x n) e)
 

@@ -5,6 +5,7 @@ use mathlib.Core.Path.{_≡_}
 use mathlib.Core.List.{List}
 use lib.Dec.{eqb, ltb, leb}
 use lib.ListN.{length, take, drop, getD}
+use Rattle.layout.specs.Layout.{imageLength}
 use Rattle.wire.specs.Wire.{pasted}
 use Rattle.text.specs.declared.Fault.{Fault}
 use Rattle.text.specs.declared.Fault.the-variants.{Nothing, Digit, Over}
@@ -21,10 +22,6 @@ use Rattle.orders.specs.declared.Wrong.the-variants.{LongLine, NoWord, M
 use Rattle.orders.specs.declared.Word.{Word}
 use Rattle.orders.specs.declared.Word.the-variants.{Make, Look, Lend, Fail, Skip}
 use Rattle.orders.specs.declared.Order.{Order}
-
--- how many bytes an image has
-abbrev pub imageBytes : ℕ
-imageBytes = 4337
 
 abbrev pub plainly : Word → Order
 plainly w = record { word = w; count = 0; column = 0 }
@@ -85,7 +82,7 @@ bytesBy (Over column) call n due end = wrongAt TooMany column
 
 -- "another number of bytes"
 unfoldable pub imageBy : Fault → ℕ → Order
-imageBy Nothing n = cond (not (eqb n imageBytes)) (wrongAt NoImage 0) (plainly (Make Load))
+imageBy Nothing n = cond (not (eqb n imageLength)) (wrongAt NoImage 0) (plainly (Make Load))
 imageBy (Digit column) n = wrongAt NoDigit column
 imageBy (Over column) n = wrongAt NoImage 0
 
@@ -117,8 +114,8 @@ sendOf line from d = ordered (bytesOf Send 2 (hexRun line from 8188) line) (past
 
 unfoldable pub loadOf : List ℕ → ℕ → List ℕ → Ordered
 loadOf line from d =
-    ordered (imageBy ((hexRun line from imageBytes) .fault) (length ((hexRun line from imageBytes) .bytes)))
-    (pasted 0 ((hexRun line from imageBytes) .bytes) d)
+    ordered (imageBy ((hexRun line from imageLength) .fault) (length ((hexRun line from imageLength) .bytes)))
+    (pasted 0 ((hexRun line from imageLength) .bytes) d)
 
 unfoldable pub callOf : Call → List ℕ → ℕ → List ℕ → Ordered
 callOf Occ line from d = occOf line from d

@@ -11,10 +11,6 @@ use text::Number;
 use text::Taken;
 
 pub const MOST_LINE: usize = 32768;
-
-// How many bytes an image has.
-pub const IMAGE: usize = 4337;
-
 // A buffer with room for the longest command, as it is read and as it is framed.
 pub const ROOM: usize = 8198;
 
@@ -222,7 +218,7 @@ fn with_image(taken: Taken) -> Order
         Fault::Digit(column) => wrong_at(Wrong::NoDigit, column),
         Fault::Over(_) => wrong_at(Wrong::NoImage, 0),
         Fault::Nothing => {
-            if n != IMAGE {
+            if n != layout::IMAGE {
                 return wrong_at(Wrong::NoImage, 0);
             }
             plain(Word::Make(Call::Load))
@@ -275,7 +271,7 @@ fn load(line: &[u8], from: usize, sent: &mut [u8]) -> Order
     ensures { λ r. ⌜ ordered r (now (sent .exit)) ≡ loadOf (now (line .entry)) from (now (sent .entry)) ⌝ }
     ensures { λ r. ⌜ r .count ≤ 8192 ⌝ }
 {
-    with_image(take(line, from, sent, 0, IMAGE))
+    with_image(take(line, from, sent, 0, layout::IMAGE))
 }
 
 fn read_call(call: Call, line: &[u8], from: usize, sent: &mut [u8]) -> Order

@@ -5,10 +5,12 @@ use mathlib.Core.List.{List, [], _∷_, _++_}
 use native.Mathlib.Numerals.{add-one}
 use native.Mathlib.Omega.{arith}
 use lib.ListN.{length, take, length-append}
+use Rattle.wire.specs.laws.Wire.{joined-append}
+use Rattle.wire.specs.Wire.{joined}
 use Rattle.io.specs.Counts.{Counts}
 use Rattle.wire.specs.laws.Cases.{if-lt, else-lt}
-use Rattle.text.specs.Text.{Sheet, sheet, putOn, putAll, ascii, lineEnd, decimal, joined}
-use Rattle.text.specs.laws.Pieces.{piece, pieces, last-piece, joined-append, fitting}
+use Rattle.text.specs.Text.{Sheet, sheet, putOn, putAll, ascii, lineEnd, decimal}
+use Rattle.text.specs.laws.Pieces.{piece, pieces, last-piece, fitting}
 use Rattle.entries.specs.declared.Next.{Next}
 use Rattle.entries.specs.Entries.{written, entriesOf, nextBy}
 use Rattle.entries.specs.laws.ByTable.{count-written}

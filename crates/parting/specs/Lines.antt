@@ -4,8 +4,8 @@ use mathlib.Core.Bool.{cond}
 use mathlib.Core.List.{List, [], _∷_, _++_}
 use lib.Dec.{ltb}
 use lib.ListN.{length}
-use Rattle.wire.specs.Wire.{pasted}
-use Rattle.text.specs.Text.{ascii, lineEnd, decimal, joined}
+use Rattle.wire.specs.Wire.{pasted, joined}
+use Rattle.text.specs.Text.{ascii, lineEnd, decimal}
 use Rattle.parting.specs.declared.Refusal.{Refusal}
 use Rattle.parting.specs.declared.Refusal.the-variants.{Nothing, UnknownInFirst, CutInFirst, UnknownInSecond, CutInSecond}
 use Rattle.parting.specs.Parting.{sharedPart, partingOf}

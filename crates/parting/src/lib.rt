@@ -2,8 +2,9 @@
 ghost use mathlib.Core.Path.{_≡_};
 ghost use Prim.Native.Nat.{_≤_};
 ghost use lib.ListN.{length};
+ghost use Rattle.wire.specs.Wire.{joined};
 ghost use Rattle.io.specs.Counts.{Counts};
-ghost use Rattle.text.specs.Text.{sheet, putAll, joined};
+ghost use Rattle.text.specs.Text.{sheet, putAll};
 ghost use Rattle.entries.specs.Entries.{written, entriesOf};
 ghost use Rattle.trace.specs.Trace.{traceScan};
 ghost use Rattle.parting.specs.Parting.{front, sharedPart, refusedFor, refusalOf, partingOf};

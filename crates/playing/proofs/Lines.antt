@@ -8,10 +8,11 @@ use lib.Dec.{eqb}
 use lib.ListN.{length, getD, take, drop, replicate}
 use lib.Seq.{drop-drop}
 use borrow.Author.Tests.{eqb-true, eqb-false}
+use Rattle.wire.specs.Wire.{joined}
 use Rattle.wire.specs.laws.Wire.{tail-part}
 use Rattle.wire.specs.laws.Cases.{if-eq, else-eq, if-ne, else-ne, cond-cases}
 use Rattle.io.specs.Counts.{Counts}
-use Rattle.text.specs.Text.{Sheet, sheet, putOn, putAll, ascii, lineEnd, hexes, decimal, joined}
+use Rattle.text.specs.Text.{Sheet, sheet, putOn, putAll, ascii, lineEnd, hexes, decimal}
 use Rattle.text.specs.laws.Pieces.{piece, pieces, last-piece}
 use Rattle.inplace.specs.declared.Told.{Told}
 use Rattle.inplace.specs.InPlace.{Left}

@@ -11,13 +11,13 @@ use borrow.Author.Tests.{eq-eqb, lt-leb, leb-true, leb-false, not-true, not-fals
 use lib.Dec.{leb}
 use lib.ListN.{length, take, drop, getD, length-append, length-drop}
 use lib.Seq.{length-take-le}
-use Rattle.wire.specs.Wire.{pasted}
+use Rattle.wire.specs.Wire.{pasted, joined}
 use Rattle.wire.specs.Conditions.{_and_}
-use Rattle.wire.specs.laws.Wire.{tail-part}
+use Rattle.wire.specs.laws.Wire.{tail-part, joined-append}
 use Rattle.wire.specs.laws.Cases.{if-not, else-not, if-ne, else-ne, if-lt, else-lt, else-eq, same-le}
 use Rattle.io.specs.Counts.{Counts}
-use Rattle.text.specs.Text.{Sheet, sheet, putAll, joined}
-use Rattle.text.specs.laws.Pieces.{pieces, joined-append, all-fit}
+use Rattle.text.specs.Text.{Sheet, sheet, putAll}
+use Rattle.text.specs.laws.Pieces.{pieces, fitting}
 use Rattle.entries.specs.declared.Reading.{Reading}
 use Rattle.entries.specs.declared.Next.{Next}
 use Rattle.entries.specs.declared.Next.the-variants.{Stands, NoKind, CutShort, End}
@@ -34,16 +34,6 @@ use Rattle.layout.specs.Layout.{imageLength}
 use Rattle.playing.specs.declared.Played.{Played}
 use Rattle.playing.specs.declared.Played.the-variants.{NoImage, NoRoom, Lines}
 use Rattle.playing.specs.Playing.{Heard, heard, line, lineRoom, Puts, imageAfter, linesOf, stopLine, piecesOf, textOf, wholeEntry, Stepped, stepped, roomFor, Replayed, replayed}
-
--- ---- one piece of text where all of it fits
-
-abbrev Text : ℕ → List ℕ → List ℕ → List (List ℕ) → Type 0
-Text end d d′ ps = (end ≡ length (joined ps)) × (d′ ≡ pasted 0 (joined ps) d)
-
-fitting : (ps : List (List ℕ)) (d d′ : List ℕ) (end : ℕ) → length (joined ps) ≤ length d → sheet d′ end ≡ putAll (sheet d 0) ps → Text end d d′ ps
-fitting ps d d′ end h e =
-    let put : sheet d′ end ≡ sheet (pasted 0 (joined ps) d) (0 + length (joined ps)) = e ∙ all-fit 0 ps d (omega arith) in
-    (ap (λ (s : Sheet). s .past) put ∙ zero-add _, ap (λ (s : Sheet). s .text) put)
 
 -- ---- `step`
 
@@ -65,8 +55,8 @@ module _ (b : List ℕ) (number : ℕ) (e d : List ℕ) {x : Bool} (judged : x �
   pub step-put : {r : ℕ} {b′ d′ : List ℕ} → not x ≡ false → lineRoom ≤ length d → Puts number (heard b (entryOf e)) 0 d b′ d′ r → Steps r b′ d′ (stepped b number e d)
   unfolding stepped
   step-put {r} {b′} {d′} h room p =
-      let text = fitting (line number (heard b (entryOf e))) d d′ r (omega (arith, p .fits)) (p .puts) in
-      subst (Steps r b′ d′) (else-not _ _ judged h (else-lt _ _ room refl)) ((text .0, (p .image, text .1)), p .counts)
+      let text = fitting (line number (heard b (entryOf e))) d (omega (arith, p .fits)) (p .puts) in
+      subst (Steps r b′ d′) (else-not _ _ judged h (else-lt _ _ room refl)) ((text .0, (p .image, text .1 .0)), p .counts)
 
 -- ---- the bytes of the next entry
 
@@ -214,9 +204,9 @@ module _ (b t d : List ℕ) where
         let all : sheet d″ past ≡ putAll (sheet d 0) (linesOf es ++ stopLine reading) = pieces (sheet d 0) (linesOf es) (stopLine reading) (done .1 .0) stop in
         let long-enough : length (joined (linesOf es ++ stopLine reading)) ≤ length d =
         omega (arith, ap length (joined-append (linesOf es) (stopLine reading)), length-append (joined (linesOf es)) (joined (stopLine reading)), done .1 .1) in
-        let text = fitting (linesOf es ++ stopLine reading) d d″ past long-enough all in
+        let text = fitting (linesOf es ++ stopLine reading) d long-enough all in
         let same : linesOf es ++ stopLine reading ≡ linesOf es ++ stopLine (readingOf (traceScan t)) = ap (λ (r : Reading). linesOf es ++ stopLine r) e in
         subst (Plays (Lines past reading) b′ d″) (else-ne _ _ long (else-lt _ _ room refl)) (
           ap₂ Lines (text .0 ∙ ap (λ (ps : List (List ℕ)). length (joined ps)) same) e,
-          (done .0, text .1 ∙ ap (λ (ps : List (List ℕ)). pasted 0 (joined ps) d) same),
+          (done .0, text .1 .0 ∙ ap (λ (ps : List (List ℕ)). pasted 0 (joined ps) d) same),
         )

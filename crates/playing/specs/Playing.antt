@@ -5,10 +5,10 @@ use mathlib.Core.Path.{_≡_}
 use mathlib.Core.List.{List, [], _∷_, _++_}
 use lib.Dec.{ltb, eqb}
 use lib.ListN.{length, getD, take, drop, replicate}
-use Rattle.wire.specs.Wire.{pasted}
+use Rattle.wire.specs.Wire.{pasted, joined}
 use Rattle.wire.specs.Conditions.{_and_}
 use Rattle.io.specs.Counts.{Counts}
-use Rattle.text.specs.Text.{ascii, lineEnd, hexes, decimal, sheet, putAll, joined}
+use Rattle.text.specs.Text.{ascii, lineEnd, hexes, decimal, sheet, putAll}
 use Rattle.entries.specs.Entries.{Entry, entryOf, entriesOf, readingOf}
 use Rattle.entries.specs.declared.Reading.{Reading}
 use Rattle.entries.specs.declared.Reading.the-variants.{Whole, Unknown, Cut}

@@ -7,7 +7,7 @@ use mathlib.Core.Path.{_≡_, ap, _∙_}
 use mathlib.Core.List.{List, [], _++_}
 use native.Mathlib.Omega.{arith}
 use lib.ListN.{length, getD}
-use Rattle.wire.specs.Wire.{Bytes, pasted}
+use Rattle.wire.specs.Wire.{Bytes, pasted, joined}
 use Rattle.record.specs.Record.{freshRecord, workedOf}
 use Rattle.wire.specs.Conditions.{_and_}
 use Rattle.change.specs.Change.{putOf}
@@ -32,7 +32,6 @@ use Rattle.occ_call.specs.laws.Speaks.{occ-speaks}
 use Rattle.sbe_call.specs.Sbe.{sbeAsks, sbeCall, SbeAllows}
 use Rattle.sbe_call.specs.laws.Speaks.{sbe-speaks}
 use Rattle.undo_call.specs.Undo.{moveAsks, moveCall, undoCall, redoCall, UndoAllows, RedoAllows}
-use Rattle.text.specs.Text.{joined}
 use Rattle.trace.specs.Trace.{traceScan}
 use Rattle.parting.specs.Parting.{Longest, sharedPart, refusalOf, PlayersRefusal, partingOf}
 use Rattle.parting.specs.declared.Refusal.the-variants.{Nothing}

@@ -5,7 +5,6 @@ pub mod Asked
 pub mod Ids
 pub mod Struck
 pub mod Marks
-pub mod ByTest
 pub mod Sound
 pub mod Settled
 pub mod Demand3

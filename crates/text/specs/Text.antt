@@ -120,11 +120,6 @@ putAll p (x ∷ xs) = putAll (putOn p x) xs
 abbrev pub fromFront : List ℕ → List (List ℕ) → Sheet
 fromFront d pieces = putAll (sheet d 0) pieces
 
--- the pieces as one text
-unfoldable pub joined : List (List ℕ) → List ℕ
-joined [] = []
-joined (x ∷ xs) = x ++ joined xs
-
 -- a text as its ASCII numbers
 abbrev pub ascii : String → List ℕ
 ascii empty = []

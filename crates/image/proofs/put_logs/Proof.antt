@@ -1,4 +1,4 @@
-use Rattle.image.specs.Rows.{joined}
+use Rattle.wire.specs.Wire.{joined}
 use Rattle.image.specs.Image.{logsRows}
 use borrow.Author.Needs.{needs}
 use Rattle.image.proofs.put_logs.Statement.{statement}

@@ -7,14 +7,14 @@ use native.Mathlib.Omega.{arith}
 use lib.Dec.{lit<}
 use lib.ListN.{length, getD, take, drop, length-drop}
 use lib.Seq.{take-all, length-take-le, drop-cons, getD-take, getD-drop}
-use Rattle.wire.specs.Wire.{sumOf, beNat, toBE, Bytes}
+use Rattle.wire.specs.Wire.{sumOf, beNat, toBE, Bytes, joined}
 use Rattle.wire.specs.laws.Wire.{bytes-take, bytes-drop, be-toBE, toBE-be}
 use Rattle.record.specs.Record.{noLog}
 use Rattle.record.specs.declared.Log.{Log}
 use Rattle.record.specs.declared.Record.{Record}
 use Rattle.session.specs.declared.Session.{Session}
 use Rattle.links.specs.Typed.{TypedSession}
-use Rattle.image.specs.Rows.{joined, widthsOf, rowsFrom}
+use Rattle.image.specs.Rows.{widthsOf, rowsFrom}
 use Rattle.image.specs.laws.Rows.{length-joined, rows-joined, joined-rows}
 use Rattle.image.specs.Image.{byte, headRows, throttlesRows, thermalRows, logsRows, mailboxRows, workedRows, recordRows, sessionRows, imageOf, byteAt, partAt, numberAt, capsIn, throttlesIn, receivedIn, logAt, logsIn, deadmanIn, areasIn, recordIn, workedIn, headIn, sessionIn, sessionOf}
 use Rattle.layout.specs.Layout.{storeSize, laterWidths, imageLength}

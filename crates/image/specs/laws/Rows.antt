@@ -4,18 +4,13 @@ use mathlib.Core.Path.{_≡_, refl, sym, ap, ap₂, _∙_}
 use mathlib.Core.List.{List, [], _∷_, _++_, append-assoc}
 use lib.ListN.{length, take, drop, length-append}
 use lib.Seq.{take-at, drop-at, take-add, drop-drop}
-use Rattle.wire.specs.Wire.{sumOf}
-use Rattle.image.specs.Rows.{joined, widthsOf, rowsFrom}
+use Rattle.wire.specs.Wire.{sumOf, joined}
+use Rattle.image.specs.Rows.{widthsOf, rowsFrom}
 
 pub length-joined : (rs : List (List ℕ)) → length (joined rs) ≡ sumOf (widthsOf rs)
 unfolding joined widthsOf sumOf
 length-joined [] = refl
 length-joined (r ∷ rs) = length-append r (joined rs) ∙ ap (λ (n : ℕ). length r + n) (length-joined rs)
-
-pub joined-append : (rs ss : List (List ℕ)) → joined (rs ++ ss) ≡ joined rs ++ joined ss
-unfolding joined
-joined-append [] ss = refl
-joined-append (r ∷ rs) ss = ap (λ (l : List ℕ). r ++ l) (joined-append rs ss) ∙ sym (append-assoc r (joined rs) (joined ss))
 
 rows-after : (at : ℕ) (front : List ℕ) (rs : List (List ℕ)) → length front ≡ at → rowsFrom at (widthsOf rs) (front ++ joined rs) ≡ rs
 unfolding rowsFrom widthsOf joined

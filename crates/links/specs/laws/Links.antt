@@ -27,7 +27,7 @@ use Rattle.journal.specs.Ways.{byWay, other}
 use Rattle.journal.specs.laws.Says.{Holds}
 use Rattle.session.specs.Session.{madeOf}
 use Rattle.links.specs.Typed.{TypedRecord}
-use Rattle.links.specs.laws.Logs.{passed}
+use Rattle.wire.specs.laws.Chains.{passed}
 use Rattle.links.specs.laws.Made.{NewLog, Made}
 use Rattle.links.specs.laws.Landing.{next-ok, lands}
 use Rattle.links.specs.laws.Entry.{entry-got, entry-ok}
@@ -159,7 +159,6 @@ pub record Link (r : Record) (n : ℕ) (e : Edit) : Type 0 where
   pub put-typed : TypedRecord (putOf r e .after)
   pub back-writable : Writable Before (inverseOf r e .tables) (inverseOf r e .change)
   pub here-writable : Writable After (e .tables) (e .change)
-  pub back-ok : editOk (inverseOf r e) ≡ true
   pub put-back : putOf (putOf r e .after) (inverseOf r e) ≡ accepted r
   pub again : inverseOf (putOf r e .after) (inverseOf r e) ≡ e
   pub kind-back : kindOf (inverseOf r e .change) ≡ kindOf (e .change)
@@ -185,7 +184,6 @@ link r n e ok y m =
       put-typed = l .typed;
       back-writable = back;
       here-writable = here;
-      back-ok = good;
       put-back = l .back;
       again = λ i. record { change = l .again i; tables = tables i };
       kind-back = kind;

@@ -9,6 +9,7 @@ use borrow.Author.Tests.{eqb-true, eqb-false, ltb-false}
 use lib.Dec.{ltb, eqb}
 use lib.ListN.{length, getD, take, drop, length-append, length-take}
 use lib.Seq.{take-append-seam}
+use Rattle.wire.specs.laws.Chains.{passed}
 use Rattle.wire.specs.laws.Cases.{if-lt, if-eq, else-eq, cond-elim}
 use Rattle.record.specs.Record.{noLog}
 use Rattle.record.specs.declared.Log.{Log}
@@ -129,10 +130,6 @@ used-below zero (suc q) (y ∷ l) h u = omega arith
 used-below (suc p) (suc q) (y ∷ l) h u = omega (arith, used-below p q l h u)
 
 -- ---- what a clear finds
-
-pub passed : (t b : Bool) → cond t false b ≡ true → (t ≡ false) × (b ≡ true)
-passed false b h = (refl, h)
-passed true b h = (cc, cc)
 
 -- the place is one of four, and holds that log, which is used
 record Pends (p : ℕ) (x : Log) (l : List Log) : Type 0 where

@@ -6,13 +6,15 @@ use native.Mathlib.Omega.{arith}
 use lib.Dec.{ltb, lit≤}
 use lib.ListN.{length, length-append}
 use borrow.Author.Tests.{ltb-false}
+use Rattle.wire.specs.laws.Wire.{joined-append}
+use Rattle.wire.specs.Wire.{joined}
 use Rattle.wire.specs.laws.Cases.{cond-cases}
 use Rattle.entries.specs.Entries.{Entry, journalTable, Scan, between, within, unknown, scan, entriesOf, written}
 use Rattle.entries.specs.laws.ByTable.{whole-length}
 use Rattle.entries.specs.laws.Entries.{Proper, scan-written, scan-proper, length-written, count-written}
-use Rattle.text.specs.Text.{lineEnd, hexOf, hexes, decimal, joined}
+use Rattle.text.specs.Text.{lineEnd, hexOf, hexes, decimal}
 use Rattle.text.specs.laws.Decimal.{length-decimal}
-use Rattle.text.specs.laws.Pieces.{joined-append, length-hexes}
+use Rattle.text.specs.laws.Pieces.{length-hexes}
 use Rattle.listing.specs.Listing.{line, linesOf, whole, damagedAt, listingOf, piecesOf, listing, longest}
 
 -- ---- lengths

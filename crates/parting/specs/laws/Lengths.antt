@@ -3,7 +3,8 @@ use Prim.Native.Nat.{ℕ, _^_, _≤_, _<_}
 use mathlib.Core.List.{[], _++_}
 use native.Mathlib.Omega.{arith}
 use lib.ListN.{length, length-append}
-use Rattle.text.specs.Text.{ascii, lineEnd, decimal, joined}
+use Rattle.wire.specs.Wire.{joined}
+use Rattle.text.specs.Text.{ascii, lineEnd, decimal}
 use Rattle.text.specs.laws.Decimal.{length-decimal}
 use Rattle.parting.specs.declared.Refusal.{Refusal}
 use Rattle.parting.specs.declared.Refusal.the-variants.{Nothing, UnknownInFirst, CutInFirst, UnknownInSecond, CutInSecond}

@@ -6,10 +6,12 @@ use mathlib.Core.List.{List, [], _∷_, _++_}
 use native.Mathlib.Omega.{arith}
 use lib.Dec.{eqb}
 use lib.ListN.{length, length-append}
+use Rattle.wire.specs.laws.Wire.{joined-append}
+use Rattle.wire.specs.Wire.{joined}
 use Rattle.wire.specs.laws.Cases.{cond-elim}
-use Rattle.text.specs.Text.{ascii, lineEnd, decimal, joined}
+use Rattle.text.specs.Text.{ascii, lineEnd, decimal}
 use Rattle.text.specs.laws.Decimal.{length-decimal}
-use Rattle.text.specs.laws.Pieces.{joined-append, length-hexes}
+use Rattle.text.specs.laws.Pieces.{length-hexes}
 use Rattle.playing.specs.Playing.{ifWritten, statusText, lineWith, lineRoom, placeText}
 
 length-status : (status : List ℕ) → length status ≤ 4 → length (joined (statusText status)) ≤ 9

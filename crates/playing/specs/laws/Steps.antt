@@ -8,10 +8,9 @@ use native.Mathlib.Omega.{arith}
 use lib.ListN.{length, take, drop, length-append}
 use lib.Seq.{take-append-seam}
 use borrow.Author.Tests.{eq-eqb}
-use Rattle.wire.specs.Wire.{pasted}
+use Rattle.wire.specs.laws.Wire.{joined-append}
+use Rattle.wire.specs.Wire.{pasted, joined}
 use Rattle.wire.specs.laws.Cases.{else-eq, else-b, else-lt}
-use Rattle.text.specs.Text.{joined}
-use Rattle.text.specs.laws.Pieces.{joined-append}
 use Rattle.entries.specs.Entries.{Entry, bytesOf, written, Scan, between, entriesOf, readingOf}
 use Rattle.entries.specs.laws.ByTable.{Sized, Proper, scan-proper, whole-reads}
 use Rattle.trace.specs.Trace.{traceTable, traceScan}

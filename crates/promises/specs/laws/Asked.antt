@@ -11,6 +11,7 @@ use lib.ListN.{length, getD, take, drop, replicate}
 use Rattle.wire.specs.laws.Wire.{bytes-take, bytes-drop, part-fits}
 use Rattle.wire.specs.Wire.{Bytes, beNat}
 use Rattle.packet.specs.Packet.{dataLength, dataAt, dataOf}
+use Rattle.wire.specs.laws.Chains.{passed}
 use Rattle.wire.specs.laws.Cases.{cond-elim, if-eq}
 use Rattle.record.specs.Record.{noLog, noThrottles}
 use Rattle.record.specs.declared.Log.{Log}
@@ -190,11 +191,7 @@ module _ (d : List ℕ) (bytes : Bytes d) where
 
 pub next-some : (r : Record) (n : ℕ) → recordOk r n ≡ true → 1 ≤ n
 unfolding nextOk
-next-some r n ok = ltb-false n 1 (passed (ltb n 1) _ (sound ok .next))
-  where
-    passed : (t b : Bool) → cond t false b ≡ true → t ≡ false
-    passed true b h = absurd (false≢true h)
-    passed false b h = refl
+next-some r n ok = ltb-false n 1 (passed (ltb n 1) _ (sound ok .next) .0)
 
 reason-ok : (reason : ℕ) → (reason ≡ 1) ⊎ (reason ≡ 2) → reasonOk reason ≡ true
 unfolding reasonOk

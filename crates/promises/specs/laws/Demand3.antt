@@ -7,7 +7,7 @@ use native.Mathlib.Nat.{suc-add}
 use native.Mathlib.Omega.{arith}
 use lib.Dec.{ltb}
 use lib.ListN.{length}
-use Rattle.wire.specs.laws.Cases.{cond-elim}
+use Rattle.wire.specs.laws.Cases.{cond-elim, by-both}
 use Rattle.record.specs.Record.{workedOf}
 use Rattle.record.specs.declared.Record.{Record}
 use Rattle.change.specs.declared.Tables.{Tables}
@@ -31,7 +31,6 @@ use Rattle.sbe_call.specs.laws.Speaks.{sbe-speaks}
 use Rattle.undo_call.specs.Undo.{moveAsks, moveCall, undoCall, redoCall}
 use Rattle.promises.specs.Calls.{Call, occ, sbe, undo, redo, bufferOf, asks, said}
 use Rattle.promises.specs.History.{Deed, keeps, adds, strikes, unstrikes, adding, deedBy, deed, marked, undosAfter, sinceAfter, applied, Run, did, next-run, run, OfBytes, AllOfBytes, Demand3}
-use Rattle.promises.specs.laws.ByTest.{by-both}
 use Rattle.promises.specs.laws.Sound.{Sound, occ-sound, sbe-sound}
 use Rattle.promises.specs.laws.ByHistory.{standing, journalOf, byHistory, own-history, Sane, history-formed}
 use Rattle.promises.specs.laws.Stores.{padded}

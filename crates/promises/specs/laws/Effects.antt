@@ -10,7 +10,7 @@ use lib.Dec.{eqb}
 use lib.ListN.{length, getD, replicate}
 use Rattle.wire.specs.Wire.{Bytes}
 use Rattle.wire.specs.Conditions.{_and_}
-use Rattle.wire.specs.laws.Cases.{else-b, else-eq, else-le}
+use Rattle.wire.specs.laws.Cases.{else-b, else-eq, else-le, by-both}
 use Rattle.record.specs.declared.Log.{Log}
 use Rattle.record.specs.declared.Record.{Record}
 use Rattle.change.specs.Logs.{pendingOf, removeAt, insertAt, pendsAt}
@@ -42,7 +42,6 @@ use Rattle.links.specs.Typed.{TypedSession}
 use Rattle.links.specs.laws.Made.{Made}
 use Rattle.promises.specs.Calls.{Call, occ, sbe, bufferOf, asks, said}
 use Rattle.promises.specs.History.{Deed, keeps, adds, strikes, unstrikes, adding, deedBy, deed}
-use Rattle.promises.specs.laws.ByTest.{by-both}
 use Rattle.promises.specs.Demand1.{OccDue}
 use Rattle.promises.specs.Demand2.{atFront, NotPoll, successReply, OccSucceeds, SbeSucceeds}
 use Rattle.promises.specs.Effects.{becomes, OccEffect, poll, clear-log, set-state, set-role, set-caps, set-throttles, set-thermal, set-user, reset, reset-logged, SbeEffect, start-deadman, stop-deadman, set-mask, set-areas}

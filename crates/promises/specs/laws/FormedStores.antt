@@ -8,7 +8,7 @@ use lib.Dec.{eqb}
 use lib.ListN.{length, take, drop, replicate, length-append, length-replicate}
 use lib.Seq.{length-take-le, take-take, take-at, drop-at}
 use Rattle.wire.specs.Wire.{allAre, pasted}
-use Rattle.wire.specs.laws.Wire.{all-replicate}
+use Rattle.wire.specs.laws.Wire.{all-replicate, all-append}
 use Rattle.wire.specs.laws.Cases.{if-b, else-lt}
 use Rattle.change.specs.declared.Edit.{Edit}
 use Rattle.entries.specs.Entries.{Entry, written, Scan, between, within, unknown, scanFrom, scanBy, scan, newestAt}
@@ -79,15 +79,6 @@ module _ (w : Way) (j : List ℕ) (used : ℕ) (store : Store w j used) (e : Edi
 
 -- ---- the newest entry cut off
 
-all-append : (v : ℕ) (xs ys : List ℕ) → allAre v xs ≡ true → allAre v ys ≡ true → allAre v (xs ++ ys) ≡ true
-unfolding allAre
-all-append v [] ys p q = q
-all-append v (x ∷ xs) ys p q = go (eqb x v) p (λ h. all-append v xs ys h q)
-  where
-    go : (t : Bool) → cond t (allAre v xs) false ≡ true → (allAre v xs ≡ true → allAre v (xs ++ ys) ≡ true) → cond t (allAre v (xs ++ ys)) false ≡ true
-    go true p f = f p
-    go false p f = p
-
 length-zeros : (n : ℕ) → length (replicate {A = ℕ} n 0) ≡ n
 length-zeros n = length-replicate {A = ℕ} n 0
 
@@ -115,7 +106,7 @@ module _ (j : List ℕ) (at used : ℕ) (low : at ≤ used) (high : used ≤ len
   drop-cut z =
       ap (λ (l : List ℕ). allAre 0 (drop at l)) cut-is
       ∙ ap (allAre 0) (drop-at (take at j) (zeros ++ drop used j) at front)
-      ∙ all-append 0 zeros (drop used j) (all-replicate 0 (used - at)) z
+      ∙ all-append 0 zeros (drop used j) ∙ sym (if-b _ false (all-replicate 0 (used - at)) (sym z))
 
   length-cut : at ≤ length (cutFrom at used j)
   length-cut = omega (arith, ap length cut-is, length-append (take at j) (zeros ++ drop used j), front)

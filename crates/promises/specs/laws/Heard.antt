@@ -7,6 +7,7 @@ use mathlib.Core.List.{List}
 use borrow.Author.Tests.{eqb-true, not-false}
 use lib.Dec.{eqb}
 use lib.ListN.{length, getD}
+use Rattle.wire.specs.laws.Cases.{by-both, by-same}
 use Rattle.wire.specs.Wire.{Bytes, pasted}
 use Rattle.change.specs.Change.{noTables, kindOf}
 use Rattle.change.specs.declared.Change.{Change}
@@ -33,7 +34,6 @@ use Rattle.sbe_call.specs.Sbe as sbes
 use Rattle.undo_call.specs.Undo.{moveAsks}
 use Rattle.promises.specs.Calls.{Call, occ, sbe, undo, bufferOf, asks, said}
 use Rattle.promises.specs.History.{Deed, keeps, adds, strikes, unstrikes, adding, deedBy, deed, OfBytes}
-use Rattle.promises.specs.laws.ByTest.{by-both, by-same}
 use Rattle.promises.specs.laws.Shifted.{shiftedChange, shiftedEdit, choose}
 use Rattle.promises.specs.Shifted.{shiftedRecord}
 use Rattle.promises.specs.laws.Judgements.{shiftedVerdict, shiftedJudged, Ended, Likewise, asked-same, asked-clears}
@@ -74,7 +74,7 @@ module _ (k : ℕ) (low : 1 ≤ k) (s t : Session) (tw : Twins k s t) (from-k : 
   settled-alike d a b (both-tell bell y y′ h) = (record { answer = refl; bell = refl; kind = refl; reply = h }, refl)
   settled-alike d a b (both-make e bell y) = (
     by-same (Alike k s) (carriedOf s e .full) (carriedOf t (shiftedEdit k e) .full) (full-is e)
-        (record { answer = refl; bell = refl; kind = refl; reply = same-bytes d }) (record { answer = refl; bell = refl; kind = refl; reply = same-bytes y }),
+        (λ f. record { answer = refl; bell = refl; kind = refl; reply = same-bytes d }) (λ f. record { answer = refl; bell = refl; kind = refl; reply = same-bytes y }),
     choose (shiftedDeed k) {b = carriedOf s e .full} {x = keeps} {y = adds e} (full-is e) refl refl,
   )
   settled-alike d a b (both-move w at at′ e e′ h) = (record { answer = refl; bell = refl; kind = h; reply = same-bytes d }, shifted-way w)

@@ -9,7 +9,7 @@ use borrow.Author.Tests.{leb-true, leb-false, eqb-true, not-false, le-leb}
 use lib.Dec.{ltb, leb, eqb}
 use lib.ListN.{length, getD, take, drop}
 use Rattle.wire.specs.Wire.{beNat}
-use Rattle.wire.specs.laws.Cases.{else-ne, cond-elim, cond-cases}
+use Rattle.wire.specs.laws.Cases.{else-ne, cond-elim, cond-cases, by-both}
 use Rattle.record.specs.Record.{noLog}
 use Rattle.record.specs.declared.Log.{Log}
 use Rattle.record.specs.declared.Caps.{Caps}
@@ -30,7 +30,6 @@ use Rattle.promises.specs.laws.Shifted.{shiftedChange, shifted-low, shif
 use Rattle.promises.specs.Shifted.{shifted, shiftedLog, shiftedRecord}
 use Rattle.packet.specs.Packet.{packetStatus, dataOf}
 use Rattle.occ_call.specs.Occ.{askedFor, askedOf}
-use Rattle.promises.specs.laws.ByTest.{by-both}
 use Rattle.promises.specs.Later.{named, Clears}
 
 unfoldable pub shiftedVerdict : ℕ → Verdict → Verdict

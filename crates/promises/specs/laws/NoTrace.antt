@@ -29,7 +29,8 @@ use Rattle.journal.specs.Bytes.{entryBytes}
 use Rattle.journal.specs.Ways.{byWay}
 use Rattle.wire.specs.Wire.{pasted}
 use Rattle.undo_call.specs.Undo.{moveAsks, moveCall, undoCall, redoCall}
-use Rattle.links.specs.laws.Logs.{unused-parts, passed}
+use Rattle.links.specs.laws.Logs.{unused-parts}
+use Rattle.wire.specs.laws.Chains.{passed}
 use Rattle.links.specs.laws.Made.{Made}
 use Rattle.promises.specs.Calls.{Call, undo, redo, bufferOf, asks, said}
 use Rattle.promises.specs.Marks.{Mark, left, logsMade, undoAnswer}

@@ -7,7 +7,7 @@ use mathlib.Core.List.{List, []}
 use borrow.Author.Tests.{not-false, not-true, eqb-true, eqb-false, ltb-true, ltb-false}
 use lib.Dec.{eqb, ltb}
 use lib.ListN.{length, getD}
-use Rattle.wire.specs.laws.Cases.{cond-cases}
+use Rattle.wire.specs.laws.Cases.{cond-cases, by-both}
 use Rattle.wire.specs.laws.Chains.{holds, eq-holds, or-else}
 use Rattle.change.specs.declared.Change.{Change}
 use Rattle.change.specs.declared.Edit.{Edit}
@@ -23,7 +23,6 @@ use Rattle.session.specs.declared.Session.{Session}
 use Rattle.occ_call.specs.Occ.{knownSender, refusalOf, occRefusal, toldOf, verdictAsks, judgedAsks, askedFor, askedOf, occRead, occAsks, occCall}
 use Rattle.promises.specs.Calls.{occ, asks}
 use Rattle.promises.specs.History.{Deed, keeps, adds, adding, deedBy, deed}
-use Rattle.promises.specs.laws.ByTest.{by-both}
 use Rattle.promises.specs.Demand1.{OccDue}
 use Rattle.promises.specs.Demand2.{KnownSender}
 

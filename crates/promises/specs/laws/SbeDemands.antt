@@ -11,7 +11,7 @@ use lib.Dec.{eqb, ltb}
 use lib.ListN.{length, getD}
 use Rattle.wire.specs.Wire.{toBE, pasted}
 use Rattle.wire.specs.Conditions.{_and_, is, here, later, row}
-use Rattle.wire.specs.laws.Cases.{cond-cases}
+use Rattle.wire.specs.laws.Cases.{cond-cases, by-both}
 use Rattle.wire.specs.laws.Tables.{ByTable, by-is, hit, miss}
 use Rattle.change.specs.Change.{noTables, kindOf}
 use Rattle.change.specs.declared.Change.{Change}
@@ -22,7 +22,7 @@ use Rattle.sbe.specs.Conditions.{grants, Names, Accepted, startAsked, stopAsked
 use Rattle.sbe.specs.Statuses.{Status, RequestStatus}
 use Rattle.sbe.specs.declared.Ruling.{Ruling}
 use Rattle.sbe.specs.declared.Ruling.the-variants.{Decline, Grant}
-use Rattle.sbe.specs.laws.Exactly.{deadman-start, deadman-stop, cores-set, areas-set, accepted-exactly}
+use Rattle.sbe.specs.laws.Exactly.{same-change, deadman-start, deadman-stop, cores-set, areas-set, accepted-exactly}
 use Rattle.sbe.specs.laws.Statuses.{request-rows}
 use Rattle.session.specs.Session.{wellFormed, carriedOf}
 use Rattle.session.specs.Road.{Asks, due, Said, kept, done, carriedSays, settled}
@@ -31,7 +31,6 @@ use Rattle.sbe_call.specs.Sbe.{refusalOf, sbeRefusal, toldOf, rulingAsks, sbeRe
 use Rattle.promises.specs.Calls.{sbe}
 use Rattle.promises.specs.Calls as calls
 use Rattle.promises.specs.History.{Deed, keeps, adds, adding, deedBy, deed}
-use Rattle.promises.specs.laws.ByTest.{by-both}
 use Rattle.links.specs.Typed.{TypedSession}
 use Rattle.promises.specs.Demand1.{NoRoom, SbeAnswer, SbeDue, sbeError}
 use Rattle.promises.specs.Demand2.{atFront, HasRoom, sbeKind, SbeAccepted, SbeSucceeds}
@@ -49,9 +48,6 @@ module _ (r : List ℕ) where
     stops : Names 0xD1 0x01 r → flagsOf r % 0x0100 ≡ 0x02 → RequestAsks (SetDeadman stopAsked)
     masks : Names 0xD1 0x03 r → RequestAsks (SetMask (wordAt 8 r))
     sets-areas : Names 0xD7 0x04 r → RequestAsks (SetAreas (areasAsked r))
-
-  same-change : {v : Ruling} {a b : Change} → v ≡ Grant a → v ≡ Grant b → a ≡ b
-  same-change p q = cc
 
   asks-of : (ch : Change) → requestRuling r ≡ Grant ch → Accepted r → RequestAsks ch
   asks-of ch e (inl (n, (h, inl x))) = subst RequestAsks (same-change (deadman-start r n h x) e) (starts n x)

@@ -5,6 +5,7 @@ use mathlib.Core.Path.{_≡_, refl, ap, _∙_}
 use mathlib.Core.List.{List}
 use lib.Dec.{ltb}
 use lib.ListN.{length}
+use Rattle.wire.specs.laws.Cases.{by-same}
 use Rattle.change.specs.Change.{kindOf, inverseOf}
 use Rattle.change.specs.declared.Edit.{Edit}
 use Rattle.entries.specs.Entries.{bodyLen}
@@ -16,7 +17,6 @@ use Rattle.session.specs.declared.Session.{Session}
 use Rattle.links.specs.laws.Links.{kind-of-back}
 use Rattle.promises.specs.History.{keeps, adds, adding, deedBy}
 use Rattle.promises.specs.NoTrace.{SameSaid}
-use Rattle.promises.specs.laws.ByTest.{by-same}
 
 -- ---- answer 5 looks at the journal's room and at the change's kind
 
@@ -49,7 +49,7 @@ module _ (s t : Session) (full-is : (e : Edit) → carriedOf t e .full ≡ carri
   same-settled (refuses n) = (alike refl refl refl refl, refl)
   same-settled (tells bell y) = (alike refl refl refl refl, refl)
   same-settled (makes e bell y) = (
-    by-same SameSaid (carriedOf s e .full) (carriedOf t e .full) (full-is e) (alike refl refl refl refl) (alike refl refl refl refl),
+    by-same SameSaid (carriedOf s e .full) (carriedOf t e .full) (full-is e) (λ f. alike refl refl refl refl) (λ f. alike refl refl refl refl),
     ap (λ (b : Bool). cond b keeps (adds e)) (full-is e),
   )
   same-settled (moves w at e) = (alike refl refl refl refl, refl)

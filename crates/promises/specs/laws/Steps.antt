@@ -7,6 +7,7 @@ use native.Mathlib.Omega.{arith}
 use borrow.Author.Tests.{leb-true}
 use lib.Dec.{ltb}
 use lib.ListN.{length, take, drop, length-append}
+use Rattle.wire.specs.laws.Chains.{passed}
 use Rattle.wire.specs.laws.Cases.{if-eq, else-b, else-eq}
 use Rattle.wire.specs.Wire.{pasted}
 use Rattle.record.specs.declared.Record.{Record}
@@ -41,11 +42,7 @@ use Rattle.promises.specs.laws.ByHistory.{standing, backs, journalOf, by
 -- a well-formed record's next id is 256 at most
 next-small : (r : Record) (n : ℕ) → recordOk r n ≡ true → n ≤ 256
 unfolding nextOk
-next-small r n h = leb-true n 256 (passed (ltb n 1) _ (sound h .next))
-  where
-    passed : (t b : Bool) → cond t false b ≡ true → b ≡ true
-    passed true b h = absurd (true≢false (sym h))
-    passed false b h = h
+next-small r n h = leb-true n 256 (passed (ltb n 1) _ (sound h .next) .1)
 
 -- ---- one change more: what could be redone is gone
 

@@ -7,11 +7,11 @@ use native.Mathlib.Omega.{arith}
 use lib.ListN.{length, take, drop, length-append, drop-of-length-le}
 use lib.Seq.{drop-drop, length-take-le}
 use Rattle.io.specs.Counts.{Counts}
-use Rattle.wire.specs.Wire.{pasted, toBE}
+use Rattle.wire.specs.Wire.{pasted, toBE, joined}
 use Rattle.wire.specs.laws.Wire.{length-toBE, length-pasted, take-pasted, drop-pasted}
 use Rattle.wire.specs.laws.Cases.{else-lt}
 use Rattle.wire.proofs.Loops.{paste-none}
-use Rattle.text.specs.Text.{Sheet, sheet, putOn, putAll, fromFront, joined, hexOf, hexes}
+use Rattle.text.specs.Text.{Sheet, sheet, putOn, putAll, fromFront, hexOf, hexes}
 
 -- ---- calls one after the other are one list of pieces: q is the sheet in between, r the last one
 
@@ -36,11 +36,6 @@ pub same-pieces : (p : Sheet) {q : Sheet} {xs ys : List (List ℕ)} → xs ≡ y
 same-pieces p e h = h ∙ ap (putAll p) e
 
 -- ---- where all fits, the pieces stand as one text
-
-pub joined-append : (xs ys : List (List ℕ)) → joined (xs ++ ys) ≡ joined xs ++ joined ys
-unfolding joined
-joined-append [] ys = refl
-joined-append (x ∷ xs) ys = ap (λ (l : List ℕ). x ++ l) (joined-append xs ys) ∙ sym (append-assoc x (joined xs) (joined ys))
 
 pasted-is : (at : ℕ) (bs d : List ℕ) → pasted at bs d ≡ take at d ++ (bs ++ drop (at + length bs) d)
 unfolding pasted

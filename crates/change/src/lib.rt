@@ -142,56 +142,56 @@ fn with_state(r: Record, state: u8) -> Record
     x
 }
 
-fn with_role(r: Record, got: u8, role: u8) -> Record
-    ensures { λ x. ⌜ x ≡ withRole r got role ⌝ }
+fn set_role(r: Record, got: u8, role: u8) -> Changed
+    ensures { λ x. ⌜ x ≡ accepted (withRole r got role) ⌝ }
 {
     let mut marks = r.received;
     marks.role = got;
     let mut x = r;
     x.received = marks;
     x.role = role;
-    x
+    Changed { ok: true, after: x }
 }
 
-fn with_caps(r: Record, got: u8, caps: Caps) -> Record
-    ensures { λ x. ⌜ x ≡ withCaps r got caps ⌝ }
+fn set_caps(r: Record, got: u8, caps: Caps) -> Changed
+    ensures { λ x. ⌜ x ≡ accepted (withCaps r got caps) ⌝ }
 {
     let mut marks = r.received;
     marks.caps = got;
     let mut x = r;
     x.received = marks;
     x.caps = caps;
-    x
+    Changed { ok: true, after: x }
 }
 
-fn with_throttles(r: Record, got: u8, throttles: Throttles) -> Record
-    ensures { λ x. ⌜ x ≡ withThrottles r got throttles ⌝ }
+fn set_throttles(r: Record, got: u8, throttles: Throttles) -> Changed
+    ensures { λ x. ⌜ x ≡ accepted (withThrottles r got throttles) ⌝ }
 {
     let mut marks = r.received;
     marks.throttles = got;
     let mut x = r;
     x.received = marks;
     x.throttles = throttles;
-    x
+    Changed { ok: true, after: x }
 }
 
-fn with_user(r: Record, user: u16) -> Record
-    ensures { λ x. ⌜ x ≡ withUser r user ⌝ }
+fn set_user(r: Record, user: u16) -> Changed
+    ensures { λ x. ⌜ x ≡ accepted (withUser r user) ⌝ }
 {
     let mut x = r;
     x.user = user;
-    x
+    Changed { ok: true, after: x }
 }
 
-fn with_thermal(r: Record, got: u8, thermal: [u8; 9]) -> Record
-    ensures { λ x. ⌜ x ≡ withThermal r got thermal ⌝ }
+fn set_thermal(r: Record, got: u8, thermal: [u8; 9]) -> Changed
+    ensures { λ x. ⌜ x ≡ accepted (withThermal r got thermal) ⌝ }
 {
     let mut marks = r.received;
     marks.thermal = got;
     let mut x = r;
     x.received = marks;
     x.thermal = thermal;
-    x
+    Changed { ok: true, after: x }
 }
 
 fn with_logs(r: Record, logs: [Log; 4]) -> Record
@@ -202,28 +202,28 @@ fn with_logs(r: Record, logs: [Log; 4]) -> Record
     x
 }
 
-fn with_mask(r: Record, mask: u32) -> Record
-    ensures { λ x. ⌜ x ≡ withMask r mask ⌝ }
+fn set_mask(r: Record, mask: u32) -> Changed
+    ensures { λ x. ⌜ x ≡ accepted (withMask r mask) ⌝ }
 {
     let mut x = r;
     x.mask = mask;
-    x
+    Changed { ok: true, after: x }
 }
 
-fn with_deadman(r: Record, deadman: Deadman) -> Record
-    ensures { λ x. ⌜ x ≡ withDeadman r deadman ⌝ }
+fn set_deadman(r: Record, deadman: Deadman) -> Changed
+    ensures { λ x. ⌜ x ≡ accepted (withDeadman r deadman) ⌝ }
 {
     let mut x = r;
     x.deadman = deadman;
-    x
+    Changed { ok: true, after: x }
 }
 
-fn with_areas(r: Record, areas: Areas) -> Record
-    ensures { λ x. ⌜ x ≡ withAreas r areas ⌝ }
+fn set_areas(r: Record, areas: Areas) -> Changed
+    ensures { λ x. ⌜ x ≡ accepted (withAreas r areas) ⌝ }
 {
     let mut x = r;
     x.areas = areas;
-    x
+    Changed { ok: true, after: x }
 }
 
 // ---- putting a change into a record
@@ -308,16 +308,16 @@ pub fn put(r: Record, e: Edit) -> Changed
         Change::Clear(place, log) => clear(r, place, log),
         Change::Unclear(place, log) => unclear(r, place, log),
         Change::SetState(state) => accept(with_state(r, state)),
-        Change::SetRole(got, role) => accept(with_role(r, got, role)),
-        Change::SetCaps(got, caps) => accept(with_caps(r, got, caps)),
-        Change::SetUser(user) => accept(with_user(r, user)),
-        Change::SetThermal(got) => accept(with_thermal(r, got, thermal)),
-        Change::SetThrottles(got) => accept(with_throttles(r, got, throttles)),
+        Change::SetRole(got, role) => set_role(r, got, role),
+        Change::SetCaps(got, caps) => set_caps(r, got, caps),
+        Change::SetUser(user) => set_user(r, user),
+        Change::SetThermal(got) => set_thermal(r, got, thermal),
+        Change::SetThrottles(got) => set_throttles(r, got, throttles),
         Change::Reset(log) => reset(r, log),
         Change::Unreset(state, made) => unreset(r, state, made),
-        Change::SetMask(mask) => accept(with_mask(r, mask)),
-        Change::SetDeadman(deadman) => accept(with_deadman(r, deadman)),
-        Change::SetAreas(areas) => accept(with_areas(r, areas)),
+        Change::SetMask(mask) => set_mask(r, mask),
+        Change::SetDeadman(deadman) => set_deadman(r, deadman),
+        Change::SetAreas(areas) => set_areas(r, areas),
     }
 }
 

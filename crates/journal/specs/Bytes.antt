@@ -1,5 +1,6 @@
 -- Document 01, "The journal": each kind's body, holding what was before (in the redo store of document 02, what was after), field after field.
-use Prim.Native.Nat.{ℕ}
+use Prim.Native.Nat.{ℕ, _≤_}
+use mathlib.Core.Path.{_≡_}
 use mathlib.Core.List.{List, [], _∷_, _++_}
 use Rattle.wire.specs.Wire.{toBE}
 use Rattle.record.specs.declared.Log.{Log}
@@ -13,7 +14,7 @@ use Rattle.change.specs.declared.Change.the-variants.{Clear, Unclear, SetState,
 use Rattle.change.specs.declared.Tables.{Tables}
 use Rattle.change.specs.declared.Edit.{Edit}
 use Rattle.change.specs.Change.{kindOf}
-use Rattle.entries.specs.Entries.{Entry, bytesOf}
+use Rattle.entries.specs.Entries.{Entry, bodyLen, bytesOf}
 
 -- 01 clear: place, id, reason
 unfoldable pub clearedBody : ℕ → Log → List ℕ
@@ -53,6 +54,10 @@ bodyOf t (Unreset state made) = state ∷ made ∷ []
 bodyOf t (SetMask mask) = toBE 4 mask
 bodyOf t (SetDeadman deadman) = deadmanBody deadman
 bodyOf t (SetAreas areas) = areasBody areas
+
+-- n as bytes is the change's body, where that has eight bytes at most
+pub record Spells (n : ℕ) (ch : Change) : Type 0 where
+  pub body : (t : Tables) → bodyLen (kindOf ch) ≤ 8 → toBE (bodyLen (kindOf ch)) n ≡ bodyOf t ch
 
 unfoldable pub entryFor : Edit → Entry
 entryFor e = record { kind = kindOf (e .change); body = bodyOf (e .tables) (e .change) }

@@ -7,7 +7,7 @@ ghost use lib.ListN.{length, take, drop};
 ghost use Rattle.wire.specs.Wire.{pasted, toBE};
 ghost use Rattle.change.specs.Change.{kindOf};
 ghost use Rattle.entries.specs.Entries.{bodyLen};
-ghost use Rattle.journal.specs.Bytes.{clearedBody, capsBody, throttlesBody, deadmanBody, areasBody, entryBytes};
+ghost use Rattle.journal.specs.Bytes.{throttlesBody, deadmanBody, areasBody, Spells, entryBytes};
 ghost use Rattle.journal.specs.Read.{capsAt, areaAt, throttlesFrom, clearedAs, resetAs, resetOk, foundFor, tablesIn, badGot, gotOf, entryOk, entriesOk};
 ghost use Rattle.journal.specs.Add.{entryLen, endOf, addedTo, cutFrom};
 use change::Change;
@@ -46,49 +46,12 @@ pub enum End {
 
 // ---- writing an entry to the front of lent bytes; the rest is kept
 
-// A kind and two numbers of a byte.
-fn put_two(d: &mut [u8], kind: u8, a: u8, b: u8)
-    requires { ⌜ 3 ≤ length (now d) ⌝ }
-    ensures { λ _. ⌜ now (d .exit) ≡ pasted 0 (kind ∷ a ∷ b ∷ []) (now (d .entry)) ⌝ }
-{
-    let bytes = [kind, a, b];
-    wire::copy(d, 0, &bytes);
-}
-
-fn put_cleared(d: &mut [u8], place: u8, log: Log)
-    requires { ⌜ 4 ≤ length (now d) ⌝ }
-    ensures { λ _. ⌜ now (d .exit) ≡ pasted 0 (0x01 ∷ clearedBody place log) (now (d .entry)) ⌝ }
-{
-    let bytes = [0x01, place, log.id, log.reason];
-    wire::copy(d, 0, &bytes);
-}
-
-fn put_state(d: &mut [u8], state: u8)
-    requires { ⌜ 2 ≤ length (now d) ⌝ }
-    ensures { λ _. ⌜ now (d .exit) ≡ pasted 0 (0x02 ∷ state ∷ []) (now (d .entry)) ⌝ }
-{
-    let bytes = [0x02, state];
-    wire::copy(d, 0, &bytes);
-}
-
-fn put_caps(d: &mut [u8], got: u8, caps: Caps)
-    requires { ⌜ 8 ≤ length (now d) ⌝ }
-    ensures { λ _. ⌜ now (d .exit) ≡ pasted 0 (0x04 ∷ capsBody got caps) (now (d .entry)) ⌝ }
-{
-    let head = [0x04, got];
-    wire::copy(&mut *d, 0, &head);
-    wire::put_be(&mut *d, 2, 2, caps.min as u64);
-    wire::put_be(&mut *d, 4, 2, caps.max as u64);
-    wire::put_be(d, 6, 2, caps.over as u64);
-}
-
 // A kind and one number of `n` bytes.
 fn put_number(d: &mut [u8], kind: u8, n: usize, v: u64)
     requires { ⌜ 1 + n ≤ length (now d) ⌝ }
     ensures { λ _. ⌜ now (d .exit) ≡ pasted 0 (kind ∷ toBE n v) (now (d .entry)) ⌝ }
 {
-    let head = [kind];
-    wire::copy(&mut *d, 0, &head);
+    d[0] = kind;
     wire::put_be(d, 1, n, v);
 }
 
@@ -96,8 +59,7 @@ fn put_thermal(d: &mut [u8], got: u8, thermal: [u8; 9])
     requires { ⌜ 11 ≤ length (now d) ⌝ }
     ensures { λ _. ⌜ now (d .exit) ≡ pasted 0 (0x06 ∷ got ∷ thermal) (now (d .entry)) ⌝ }
 {
-    let head = [0x06, got];
-    wire::copy(&mut *d, 0, &head);
+    put_number(&mut *d, 0x06, 1, got as u64);
     wire::copy(d, 2, &thermal);
 }
 
@@ -106,9 +68,12 @@ fn put_throttles(d: &mut [u8], got: u8, throttles: Throttles)
     ensures { λ _. ⌜ now (d .exit) ≡ pasted 0 (0x07 ∷ throttlesBody got throttles) (now (d .entry)) ⌝ }
 {
     let sets = throttles.sets;
-    let head = [0x07, got];
-    wire::copy(&mut *d, 0, &head);
-    wire::put_be(&mut *d, 2, 2, throttles.present as u64);
+    put_number(
+        &mut *d,
+        0x07,
+        3,
+        got as u64 * 65536 + throttles.present as u64,
+    );
     wire::copy(d, 4, &sets);
 }
 
@@ -116,8 +81,7 @@ fn put_deadman(d: &mut [u8], deadman: Deadman)
     requires { ⌜ 10 ≤ length (now d) ⌝ }
     ensures { λ _. ⌜ now (d .exit) ≡ pasted 0 (0x0A ∷ deadmanBody deadman) (now (d .entry)) ⌝ }
 {
-    let head = [0x0A, deadman.running];
-    wire::copy(&mut *d, 0, &head);
+    put_number(&mut *d, 0x0A, 1, deadman.running as u64);
     wire::put_be(d, 2, 8, deadman.time);
 }
 
@@ -127,9 +91,7 @@ fn put_areas(d: &mut [u8], areas: Areas)
 {
     let ffdc = areas.ffdc;
     let pass = areas.pass;
-    let head = [0x0B];
-    wire::copy(&mut *d, 0, &head);
-    wire::put_be(&mut *d, 1, 8, ffdc.address);
+    put_number(&mut *d, 0x0B, 8, ffdc.address);
     wire::put_be(&mut *d, 9, 4, ffdc.size as u64);
     wire::put_be(&mut *d, 13, 8, pass.address);
     wire::put_be(d, 21, 4, pass.size as u64);
@@ -143,6 +105,29 @@ pub fn entry_len(change: Change) -> usize
     n + 1
 }
 
+// A body of eight bytes at most, as the number that it spells.
+fn small(change: Change) -> u64
+    ensures { λ r. ⌜ Spells r change ⌝ }
+{
+    match change {
+        Change::Clear(place, log) => place as u64 * 65536 + log.id as u64 * 256 + log.reason as u64,
+        Change::Unclear(place, log) => place as u64 * 65536
+            + log.id as u64 * 256
+            + log.reason as u64,
+        Change::SetState(state) => state as u64,
+        Change::SetRole(got, role) => got as u64 * 256 + role as u64,
+        Change::SetCaps(got, caps) => ((got as u64 * 65536 + caps.min as u64) * 65536
+            + caps.max as u64)
+            * 65536
+            + caps.over as u64,
+        Change::SetUser(user) => user as u64,
+        Change::Reset(log) => log.id as u64 * 256 + log.reason as u64,
+        Change::Unreset(state, made) => state as u64 * 256 + made as u64,
+        Change::SetMask(mask) => mask as u64,
+        _ => 0,
+    }
+}
+
 fn put(d: &mut [u8], e: Edit)
     requires { ⌜ bodyLen (kindOf (e .change)) + 1 ≤ length (now d) ⌝ }
     ensures { λ _. ⌜ now (d .exit) ≡ pasted 0 (entryBytes e) (now (d .entry)) ⌝ }
@@ -151,20 +136,13 @@ fn put(d: &mut [u8], e: Edit)
     let tables = e.tables;
     let thermal = tables.thermal;
     let throttles = tables.throttles;
+    let kind = change::kind(change);
     match change {
-        Change::Clear(place, log) => put_cleared(d, place, log),
-        Change::Unclear(place, log) => put_cleared(d, place, log),
-        Change::SetState(state) => put_state(d, state),
-        Change::SetRole(got, role) => put_two(d, 0x03, got, role),
-        Change::SetCaps(got, caps) => put_caps(d, got, caps),
-        Change::SetUser(user) => put_number(d, 0x05, 2, user as u64),
         Change::SetThermal(got) => put_thermal(d, got, thermal),
         Change::SetThrottles(got) => put_throttles(d, got, throttles),
-        Change::Reset(log) => put_two(d, 0x08, log.id, log.reason),
-        Change::Unreset(state, made) => put_two(d, 0x08, state, made),
-        Change::SetMask(mask) => put_number(d, 0x09, 4, mask as u64),
         Change::SetDeadman(deadman) => put_deadman(d, deadman),
         Change::SetAreas(areas) => put_areas(d, areas),
+        _ => put_number(d, kind, entries::body_len(kind), small(change)),
     }
 }
 

@@ -28,47 +28,32 @@ accept-requires c κs = search needs
 enum-known-change-4 : tie.Need-enum-known-change-4
 enum-known-change-4 c = search needs
 
-with-role-requires : tie.Need-with-role-requires
-with-role-requires c κs = search needs
-
-accept-requires-2 : tie.Need-accept-requires-2
-accept-requires-2 c κs = search needs
+set-role-requires : tie.Need-set-role-requires
+set-role-requires c κs = search needs
 
 enum-known-change-5 : tie.Need-enum-known-change-5
 enum-known-change-5 c = search needs
 
-with-caps-requires : tie.Need-with-caps-requires
-with-caps-requires c κs = search needs
-
-accept-requires-3 : tie.Need-accept-requires-3
-accept-requires-3 c κs = search needs
+set-caps-requires : tie.Need-set-caps-requires
+set-caps-requires c κs = search needs
 
 enum-known-change-6 : tie.Need-enum-known-change-6
 enum-known-change-6 c = search needs
 
-with-user-requires : tie.Need-with-user-requires
-with-user-requires c κs = search needs
-
-accept-requires-4 : tie.Need-accept-requires-4
-accept-requires-4 c κs = search needs
+set-user-requires : tie.Need-set-user-requires
+set-user-requires c κs = search needs
 
 enum-known-change-7 : tie.Need-enum-known-change-7
 enum-known-change-7 c = search needs
 
-with-thermal-requires : tie.Need-with-thermal-requires
-with-thermal-requires c κs = search needs
-
-accept-requires-5 : tie.Need-accept-requires-5
-accept-requires-5 c κs = search needs
+set-thermal-requires : tie.Need-set-thermal-requires
+set-thermal-requires c κs = search needs
 
 enum-known-change-8 : tie.Need-enum-known-change-8
 enum-known-change-8 c = search needs
 
-with-throttles-requires : tie.Need-with-throttles-requires
-with-throttles-requires c κs = search needs
-
-accept-requires-6 : tie.Need-accept-requires-6
-accept-requires-6 c κs = search needs
+set-throttles-requires : tie.Need-set-throttles-requires
+set-throttles-requires c κs = search needs
 
 enum-known-change-9 : tie.Need-enum-known-change-9
 enum-known-change-9 c = search needs
@@ -85,29 +70,20 @@ unreset-requires c κs = search needs
 enum-known-change-11 : tie.Need-enum-known-change-11
 enum-known-change-11 c = search needs
 
-with-mask-requires : tie.Need-with-mask-requires
-with-mask-requires c κs = search needs
-
-accept-requires-7 : tie.Need-accept-requires-7
-accept-requires-7 c κs = search needs
+set-mask-requires : tie.Need-set-mask-requires
+set-mask-requires c κs = search needs
 
 enum-known-change-12 : tie.Need-enum-known-change-12
 enum-known-change-12 c = search needs
 
-with-deadman-requires : tie.Need-with-deadman-requires
-with-deadman-requires c κs = search needs
-
-accept-requires-8 : tie.Need-accept-requires-8
-accept-requires-8 c κs = search needs
+set-deadman-requires : tie.Need-set-deadman-requires
+set-deadman-requires c κs = search needs
 
 enum-known-change-13 : tie.Need-enum-known-change-13
 enum-known-change-13 c = search needs
 
-with-areas-requires : tie.Need-with-areas-requires
-with-areas-requires c κs = search needs
-
-accept-requires-9 : tie.Need-accept-requires-9
-accept-requires-9 c κs = search needs
+set-areas-requires : tie.Need-set-areas-requires
+set-areas-requires c κs = search needs
 
 returns : tie.Need-returns
 unfolding putWith
@@ -123,23 +99,23 @@ returns-3 c = put-by (c .before .before .before .before .before .before .before 
 
 returns-4 : tie.Need-returns-4
 unfolding putWith
-returns-4 c = put-by (c .before .before .before .before .before .before .before .before .args .r) (c .before .before .before .before .before .before .before .before .args .e) _ _ (c .before .before .before .change4 .given .1) (state-put _ _ _ (c .accept2 .ensures) (c .before .with-role .ensures))
+returns-4 c = put-by (c .before .before .before .before .before .before .before .args .r) (c .before .before .before .before .before .before .before .args .e) _ _ (c .before .before .change4 .given .1) (c .set-role .ensures)
 
 returns-5 : tie.Need-returns-5
 unfolding putWith
-returns-5 c = put-by (c .before .before .before .before .before .before .before .before .args .r) (c .before .before .before .before .before .before .before .before .args .e) _ _ (c .before .before .before .change5 .given .1) (state-put _ _ _ (c .accept3 .ensures) (c .before .with-caps .ensures))
+returns-5 c = put-by (c .before .before .before .before .before .before .before .args .r) (c .before .before .before .before .before .before .before .args .e) _ _ (c .before .before .change5 .given .1) (c .set-caps .ensures)
 
 returns-6 : tie.Need-returns-6
 unfolding putWith
-returns-6 c = put-by (c .before .before .before .before .before .before .before .before .args .r) (c .before .before .before .before .before .before .before .before .args .e) _ _ (c .before .before .before .change6 .given .1) (state-put _ _ _ (c .accept4 .ensures) (c .before .with-user .ensures))
+returns-6 c = put-by (c .before .before .before .before .before .before .before .args .r) (c .before .before .before .before .before .before .before .args .e) _ _ (c .before .before .change6 .given .1) (c .set-user .ensures)
 
 returns-7 : tie.Need-returns-7
 unfolding putWith
-returns-7 c = put-by (c .before .before .before .before .before .before .before .before .args .r) (c .before .before .before .before .before .before .before .before .args .e) _ _ (c .before .before .before .change7 .given .1) (state-put _ _ _ (c .accept5 .ensures) (c .before .with-thermal .ensures))
+returns-7 c = put-by (c .before .before .before .before .before .before .before .args .r) (c .before .before .before .before .before .before .before .args .e) _ _ (c .before .before .change7 .given .1) (c .set-thermal .ensures)
 
 returns-8 : tie.Need-returns-8
 unfolding putWith
-returns-8 c = put-by (c .before .before .before .before .before .before .before .before .args .r) (c .before .before .before .before .before .before .before .before .args .e) _ _ (c .before .before .before .change8 .given .1) (state-put _ _ _ (c .accept6 .ensures) (c .before .with-throttles .ensures))
+returns-8 c = put-by (c .before .before .before .before .before .before .before .args .r) (c .before .before .before .before .before .before .before .args .e) _ _ (c .before .before .change8 .given .1) (c .set-throttles .ensures)
 
 returns-9 : tie.Need-returns-9
 unfolding putWith
@@ -151,15 +127,15 @@ returns-10 c = put-by (c .before .before .before .before .before .before .before
 
 returns-11 : tie.Need-returns-11
 unfolding putWith
-returns-11 c = put-by (c .before .before .before .before .before .before .before .before .args .r) (c .before .before .before .before .before .before .before .before .args .e) _ _ (c .before .before .before .change11 .given .1) (state-put _ _ _ (c .accept7 .ensures) (c .before .with-mask .ensures))
+returns-11 c = put-by (c .before .before .before .before .before .before .before .args .r) (c .before .before .before .before .before .before .before .args .e) _ _ (c .before .before .change11 .given .1) (c .set-mask .ensures)
 
 returns-12 : tie.Need-returns-12
 unfolding putWith
-returns-12 c = put-by (c .before .before .before .before .before .before .before .before .args .r) (c .before .before .before .before .before .before .before .before .args .e) _ _ (c .before .before .before .change12 .given .1) (state-put _ _ _ (c .accept8 .ensures) (c .before .with-deadman .ensures))
+returns-12 c = put-by (c .before .before .before .before .before .before .before .args .r) (c .before .before .before .before .before .before .before .args .e) _ _ (c .before .before .change12 .given .1) (c .set-deadman .ensures)
 
 returns-13 : tie.Need-returns-13
 unfolding putWith
-returns-13 c = put-by (c .before .before .before .before .before .before .before .before .args .r) (c .before .before .before .before .before .before .before .before .args .e) _ _ (c .before .before .before .change13 .given .1) (state-put _ _ _ (c .accept9 .ensures) (c .before .with-areas .ensures))
+returns-13 c = put-by (c .before .before .before .before .before .before .before .args .r) (c .before .before .before .before .before .before .before .args .e) _ _ (c .before .before .change13 .given .1) (c .set-areas .ensures)
 
 pub put-spec : {M : Type 1} → statement M
 put-spec =
@@ -173,33 +149,25 @@ put-spec =
     with-state-requires
     accept-requires
     enum-known-change-4
-    with-role-requires
-    accept-requires-2
+    set-role-requires
     enum-known-change-5
-    with-caps-requires
-    accept-requires-3
+    set-caps-requires
     enum-known-change-6
-    with-user-requires
-    accept-requires-4
+    set-user-requires
     enum-known-change-7
-    with-thermal-requires
-    accept-requires-5
+    set-thermal-requires
     enum-known-change-8
-    with-throttles-requires
-    accept-requires-6
+    set-throttles-requires
     enum-known-change-9
     reset-requires
     enum-known-change-10
     unreset-requires
     enum-known-change-11
-    with-mask-requires
-    accept-requires-7
+    set-mask-requires
     enum-known-change-12
-    with-deadman-requires
-    accept-requires-8
+    set-deadman-requires
     enum-known-change-13
-    with-areas-requires
-    accept-requires-9
+    set-areas-requires
     returns
     returns-2
     returns-3

@@ -4,48 +4,40 @@ use borrow.Author.Needs.{needs}
 use Rattle.journal.proofs.put_areas.Statement.{statement}
 use Rattle.journal.proofs.put_areas.Tie as tie
 
-slice-aggregate-copy : tie.Need-slice-aggregate-copy
-slice-aggregate-copy c = search needs
-
-copy-requires : tie.Need-copy-requires
-copy-requires c κs = search needs
-
-put-be-requires : tie.Need-put-be-requires
-put-be-requires c κs = search needs
+put-number-requires : tie.Need-put-number-requires
+put-number-requires c κs = search needs
 
 cast-put-be : tie.Need-cast-put-be
 cast-put-be c = search needs
 
+put-be-requires : tie.Need-put-be-requires
+put-be-requires c κs = search needs
+
 put-be-requires-2 : tie.Need-put-be-requires-2
 put-be-requires-2 c κs = search needs
-
-put-be-requires-3 : tie.Need-put-be-requires-3
-put-be-requires-3 c κs = search needs
 
 cast-put-be-2 : tie.Need-cast-put-be-2
 cast-put-be-2 c = search needs
 
-put-be-requires-4 : tie.Need-put-be-requires-4
-put-be-requires-4 c κs = search needs
+put-be-requires-3 : tie.Need-put-be-requires-3
+put-be-requires-3 c κs = search needs
 
 same-length : tie.Need-same-length
 same-length c = search needs
 
 returns : tie.Need-returns
 unfolding areaBytes areasBody
-returns c = areas-put _ _ _ _ _ _ _ _ _ _ _ (c .before .before .before .before .before .before .before .before .before .before .before .before .before .before .before .before .before .before .before .before .copy .ensures) (c .before .before .before .before .before .before .before .before .before .before .before .before .before .before .before .before .put-be .ensures) (c .before .before .before .before .before .before .before .before .before .before .before .put-be2 .ensures) (c .before .before .before .before .before .before .before .put-be3 .ensures) (c .before .before .put-be4 .ensures)
+returns c = areas-put _ _ _ _ _ _ _ _ _ _ (c .before .before .before .before .before .before .before .before .before .before .before .before .before .before .before .before .put-number .ensures) (c .before .before .before .before .before .before .before .before .before .before .before .put-be .ensures) (c .before .before .before .before .before .before .before .put-be2 .ensures) (c .before .before .put-be3 .ensures)
 
 pub put-areas-spec : {M : Type 1} → statement M
 put-areas-spec =
     tie.close
     (tie.spec
-    slice-aggregate-copy
-    copy-requires
-    put-be-requires
+    put-number-requires
     cast-put-be
+    put-be-requires
     put-be-requires-2
-    put-be-requires-3
     cast-put-be-2
-    put-be-requires-4
+    put-be-requires-3
     same-length
     returns)

@@ -1,3 +1,4 @@
 pub mod Rows
 pub mod Image
 pub mod Stores
+pub mod Typed

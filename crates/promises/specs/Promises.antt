@@ -33,6 +33,10 @@ use Rattle.sbe_call.specs.Sbe.{sbeAsks, sbeCall, SbeAllows}
 use Rattle.sbe_call.specs.laws.Speaks.{sbe-speaks}
 use Rattle.undo_call.specs.Undo.{moveAsks, moveCall, undoCall, redoCall, UndoAllows, RedoAllows}
 use Rattle.trace.specs.Trace.{traceScan}
+use Rattle.text.specs.Text.{Sheet, sheet, putAll}
+use Rattle.entries.specs.declared.Reading.{Reading}
+use Rattle.parting.specs.Lines.{told, toldLength}
+use Rattle.parting.specs.declared.Parting.{Parting}
 use Rattle.parting.specs.Parting.{Longest, sharedPart, refusalOf, PlayersRefusal, partingOf}
 use Rattle.parting.specs.declared.Refusal.the-variants.{Nothing}
 use Rattle.parting.specs.laws.Refusals.{refusal-is-the-players, refused-shares-nothing}
@@ -41,7 +45,7 @@ use Rattle.playing.specs.declared.Played.{Played}
 use Rattle.playing.specs.Playing.{StepAllows, PlayAllows, lineRoom, imageAfter, linesOf, stopLine, piecesOf}
 use Rattle.playing.specs.Steps.{oldestFirst, stepsFrom}
 use Rattle.playing.specs.laws.Steps.{steps-whole}
-use Rattle.promises.specs.Calls.{Call, occ, sbe, redo, said}
+use Rattle.promises.specs.Calls.{Call, occ, sbe, redo, bufferOf, said}
 use Rattle.promises.specs.Demand1.{OccAnswer, SbeAnswer, UndoAnswer, RedoAnswer, OccDue, SbeDue, OccStatus, occError, sbeError}
 use Rattle.promises.specs.Demand2.{atFront, NotPoll, successReply, OccSucceeds, OccAccepted, SbeSucceeds, SbeAccepted, Newest, UndoAccepted, RedoAccepted}
 use Rattle.promises.specs.Effects.{OccEffect, SbeEffect, entryBack, UndoEffect, RedoEffect}
@@ -64,10 +68,11 @@ use Rattle.promises.specs.laws.WellFormed.{occ-formed, sbe-formed, undo-
 use Rattle.promises.specs.Later.{Wish, AsIf}
 use Rattle.promises.specs.laws.NoTrace.{trace-free, later-as-before, later-alike, redo-brings-back, redo-undone}
 use Rattle.promises.specs.NoTrace.{leaves, after, tried, AllButRedo, AsBefore}
-use Rattle.image.specs.Image.{imageOf}
+use Rattle.image.specs.Image.{imageOf, sessionOf}
+use Rattle.image.specs.laws.Typed.{typed-image}
 use Rattle.layout.specs.Layout.{imageLength}
-use Rattle.bjargolsk.specs.Calls.{freshOn, FreshReturns, OccReturns, SbeReturns, UndoReturns, RedoReturns}
-use Rattle.promises.specs.laws.Lent.{fresh-image, lent-run, lent-next}
+use Rattle.bjargolsk.specs.Calls.{answerIn, freshOn, FreshReturns, OccReturns, SbeReturns, UndoReturns, RedoReturns}
+use Rattle.promises.specs.laws.Lent.{every-image, every-byte, no-session, fresh-image, lent-run, lent-next}
 use Rattle.promises.specs.Lent.{lent, carriedOver, lentRun}
 use Rattle.promises.specs.Replays.{callsIn, wholePart, linesBy}
 use Rattle.promises.specs.laws.Replays.{trace-bytes, replay-run, replay-lines, broken-lines, broken-image}
@@ -198,6 +203,18 @@ one-outcome-of-step b number e d = one-triple _ _ _
 pub one-outcome-of-play : (b t d : List ℕ) → OneOutcome (λ (o : Played × List ℕ × List ℕ). PlayAllows b t d (o .0) (o .1) (o .2))
 one-outcome-of-play b t d = one-triple _ _ _
 
+pub one-outcome-of-stop : (d : List ℕ) (reading : Reading) → OneOutcome (λ (o : Sheet). o ≡ putAll (sheet d 0) (stopLine reading))
+one-outcome-of-stop d reading = one-value _
+
+pub one-outcome-of-shared : (t u : List ℕ) → OneOutcome (λ (o : List ℕ). o ≡ sharedPart t u)
+one-outcome-of-shared t u = one-value _
+
+pub one-outcome-of-where-they-part : (t u : List ℕ) → OneOutcome (λ (o : Parting). o ≡ partingOf t u)
+one-outcome-of-where-they-part t u = one-value _
+
+pub one-outcome-of-tell : (t u d : List ℕ) → OneOutcome (λ (o : ℕ × List ℕ). (o .0 ≡ toldLength t u d) and (o .1 ≡ told t u d))
+one-outcome-of-tell t u d = one-pair _ _
+
 -- ---- well-formed in, well-formed out, on every session of the type; and what is worked out is the record's
 
 pub occ-stays-well-formed : (s : Session) → TypedSession s → wellFormed s ≡ true → (sender : ℕ) (c d : List ℕ) → Bytes c → wellFormed (occCall s sender c d .session) ≡ true
@@ -311,6 +328,24 @@ redo-after-undo cs b = redo-undone freshRecord (after cs) (invariant freshRecord
 
 pub no-id-twice : (cs : List Call) → AllOfBytes cs → idsMade (run (start freshSession) cs .marks) ≡ countdown (logsMade (run (start freshSession) cs .marks))
 no-id-twice cs b = ids-in-order freshRecord cs (start freshSession) b fresh-start
+
+-- ---- every session handed in, right or damaged, at the bytes that are lent: b is any bytes, and those of an image's length are one of a session. So what is
+-- promised above of every session s with `TypedSession s` holds of every image, at `sessionOf b`
+
+pub every-image-is-a-session : (b : List ℕ) → Bytes b → length b ≡ imageLength → TypedSession (sessionOf b)
+every-image-is-a-session b bytes long = typed-image b bytes long .session
+
+-- what a call gives on it is what it gives on its session: result, every byte of the image after it, every byte of the reply buffer
+pub same-on-every-image : (b : List ℕ) → Bytes b → length b ≡ imageLength → (c : Call) → lent b c ≡ carriedOver (sessionOf b) c
+same-on-every-image = every-image
+
+-- an answer other than 0 leaves every byte of image and reply buffer, whatever was lent
+pub refusal-keeps-every-byte : (b : List ℕ) → Bytes b → (c : Call) → (answerIn (lent b c .result) ≡ 0 → ⊥) → (lent b c .image ≡ b) × (lent b c .reply ≡ bufferOf c)
+refusal-keeps-every-byte = every-byte
+
+-- bytes of another length are no session: answer 1, and all is kept
+pub another-length-is-answer-1 : (b : List ℕ) → (length b ≡ imageLength → ⊥) → (c : Call) → lent b c ≡ record { result = 1; image = b; reply = bufferOf c }
+another-length-is-answer-1 = no-session
 
 -- ---- the same for C: an image made fresh, and any calls on it; it stays the image of the session, and each call's result and reply are the session's
 

@@ -5,7 +5,7 @@ use mathlib.Core.List.{List, [], _∷_}
 use native.Mathlib.Omega.{arith}
 use lib.Dec.{eqb, ltb}
 use lib.ListN.{length}
-use Rattle.wire.specs.laws.Cases.{else-ne, cond-elim}
+use Rattle.wire.specs.laws.Cases.{if-ne, else-ne, cond-elim}
 use Rattle.record.specs.Record.{clamped, limitOf, workedOf}
 use Rattle.record.specs.declared.Caps.{Caps}
 use Rattle.record.specs.declared.Record.{Record}
@@ -20,12 +20,15 @@ use Rattle.journal.specs.declared.Way.{Way}
 use Rattle.journal.specs.declared.Way.the-variants.{Before, After}
 use Rattle.journal.specs.Ways.{byWay}
 use Rattle.undo_call.specs.Undo.{moveCall, movedLeft, moveOn}
-use Rattle.image.specs.Image.{imageOf}
+use Rattle.wire.specs.Wire.{Bytes}
+use Rattle.image.specs.Image.{imageOf, sessionOf}
 use Rattle.layout.specs.Layout.{imageLength}
-use Rattle.image.specs.laws.Image.{Typed}
-use Rattle.inplace.specs.InPlace.{Left}
+use Rattle.image.specs.laws.Image.{Typed, image-session}
+use Rattle.image.specs.laws.Typed.{typed-image}
+use Rattle.inplace.specs.InPlace.{Left, onImage}
 use Rattle.inplace.specs.laws.InPlace.{on-image}
-use Rattle.bjargolsk.specs.Calls.{packed, freshOn}
+use Rattle.bjargolsk.specs.Calls.{packed, answerIn, freshOn}
+use Rattle.bjargolsk.specs.laws.Calls.{occ-refused, sbe-refused, undo-refused, redo-refused}
 use Rattle.promises.specs.Calls.{Call, occ, sbe, undo, redo, bufferOf, asks, said}
 use Rattle.promises.specs.Marks.{left, logsMade}
 use Rattle.promises.specs.History.{applied, Run, did, next-run, run, AllOfBytes}
@@ -40,6 +43,9 @@ use Rattle.promises.specs.Lent.{Lent, lent, told, carriedOver, lentRun}
 pub fresh-image : (b : List ℕ) → length b ≡ imageLength → freshOn b .image ≡ imageOf freshSession
 unfolding freshOn
 fresh-image b long = sym (ap (λ (q : Left). q .image) (else-ne _ _ long refl))
+
+abbrev as-lent : Left → Lent
+as-lent q = record { result = packed (q .told); image = q .image; reply = q .reply }
 
 -- ---- on the image of a session
 
@@ -59,15 +65,34 @@ module _ (s : Session) (t : Typed s) where
   unfolding moveOn
   move-on w = on-image _ [] s t
 
-  abbrev as-lent : Left → Lent
-  as-lent q = record { result = packed (q .told); image = q .image; reply = q .reply }
-
   pub lent-said : (c : Call) → lent b c ≡ carriedOver s c
   unfolding lent carriedOver told said asks bufferOf occs.occLeft occs.occCall sbes.sbeLeft sbes.sbeCall movedLeft moveCall
   lent-said (occ sender c d) = ap as-lent (occ-on sender c d)
   lent-said (sbe r d) = ap as-lent (sbe-on r d)
   lent-said undo = ap as-lent (move-on Before)
   lent-said redo = ap as-lent (move-on After)
+
+-- ---- every image, right or damaged
+
+module _ (b : List ℕ) (bytes : Bytes b) where
+  pub every-image : length b ≡ imageLength → (c : Call) → lent b c ≡ carriedOver (sessionOf b) c
+  every-image long c = ap (λ (i : List ℕ). lent i c) (sym (image-session b bytes long)) ∙ lent-said (sessionOf b) (typed-image b bytes long) c
+
+  -- an answer other than 0 leaves every byte of image and buffer
+  pub every-byte : (c : Call) → (answerIn (lent b c .result) ≡ 0 → ⊥) → (lent b c .image ≡ b) × (lent b c .reply ≡ bufferOf c)
+  unfolding lent bufferOf
+  every-byte (occ sender c d) = occ-refused b bytes sender c d
+  every-byte (sbe r d) = sbe-refused b bytes r d
+  every-byte undo = undo-refused b bytes
+  every-byte redo = redo-refused b bytes
+
+-- bytes of another length
+pub no-session : (b : List ℕ) → (length b ≡ imageLength → ⊥) → (c : Call) → lent b c ≡ record { result = 1; image = b; reply = bufferOf c }
+unfolding lent bufferOf packed occs.occOn sbes.sbeOn moveOn onImage
+no-session b z (occ sender c d) = sym (ap as-lent (if-ne _ _ z refl))
+no-session b z (sbe r d) = sym (ap as-lent (if-ne _ _ z refl))
+no-session b z undo = sym (ap as-lent (if-ne _ _ z refl))
+no-session b z redo = sym (ap as-lent (if-ne _ _ z refl))
 
 -- ---- every session of a history has what the types say
 

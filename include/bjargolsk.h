@@ -15,7 +15,9 @@
  *   4  the command is too short: under 4 bytes for the OCC, under 32 for the SBE
  *   5  the journal has no room for the change
  *   6  nothing to undo
- *   7  undo or redo would give an ill-formed record
+ *   7  the newest entry can't be put in. Undo and redo: the record would be ill formed. Undo: the place of a cleared log is above the number
+ *      pending, or 4 pend; or the entry says that a log was made, and none pends. Redo: a log that is to be cleared again isn't at its place,
+ *      with its id and reason; or a reset's log is to come back, and 4 pend. Never on a session that began fresh
  *   8  nothing to redo
  * After any answer but 0 the session and the reply buffer hold the bytes that they held before.
  */

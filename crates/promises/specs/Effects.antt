@@ -1,13 +1,16 @@
 -- Demand 2, the effects: what the session is after each accepted command, one row a command, and after an accepted undo or redo. All that a row doesn't
 -- name is as before.
-use Prim.Native.Nat.{ℕ, _+_, _-_, _%_, _<_}
+use Prim.Native.Nat.{ℕ, _+_, _-_, _%_, _≤_, _<_}
+use mathlib.Core.Bool.{cond}
 use mathlib.Core.Logic.{_⊎_}
 use mathlib.Core.Path.{_≡_}
 use mathlib.Core.List.{List, [], _∷_}
+use lib.Dec.{eqb}
 use lib.ListN.{length, getD, take, drop, replicate}
 use Rattle.wire.specs.Wire.{beNat, toBE, pasted}
 use Rattle.wire.specs.Conditions.{_and_}
 use Rattle.record.specs.Record.{noLog}
+use Rattle.record.specs.declared.Log.{Log}
 use Rattle.record.specs.declared.Throttles.{Throttles}
 use Rattle.record.specs.declared.Record.{Record}
 use Rattle.change.specs.Logs.{pendingOf, removeAt, insertAt}
@@ -88,8 +91,37 @@ movesTo Before s held at entry =
 movesTo After s held at entry =
     renewed s held (s .next) (pasted (s .used) entry (s .journal)) (s .used + length entry) (zeroedFrom at (s .ahead) (s .redo)) at
 
--- what goes to the other store: the entry that takes a change back, with the values now in the record; "for kind 08 that is the log's id and reason, 0
--- and 0 without one" (`backOf` in change/specs/Change.antt)
+-- the values that the record holds now, as the body of an entry of a kind other than 01 and 08
+unfoldable pub valuesOf : Record → ℕ → List ℕ
+valuesOf r kind =
+    cond (eqb kind 0x02) (r .state ∷ [])
+    (cond (eqb kind 0x03) (r .received .role ∷ r .role ∷ [])
+    (cond (eqb kind 0x04) (capsBody (r .received .caps) (r .caps))
+    (cond (eqb kind 0x05) (toBE 2 (r .user))
+    (cond (eqb kind 0x06) (r .received .thermal ∷ r .thermal)
+    (cond (eqb kind 0x07) (throttlesBody (r .received .throttles) (r .throttles))
+    (cond (eqb kind 0x09) (toBE 4 (r .mask))
+    (cond (eqb kind 0x0A) (deadmanBody (r .deadman))
+    (areasBody (r .areas)))))))))
+
+-- the log that a reset made: the last pending
+abbrev pub lastPending : Record → Log
+lastPending r = getD (r .logs) (pendingOf (r .logs) - 1) noLog
+
+-- what goes to the other store where the newest entry has this kind and this body b: its bytes, one row a kind. r is the record as it stands
+pub data EntryMoved (r : Record) : Way → ℕ → List ℕ → List ℕ → Type 0 where
+  -- 01: place, id and reason as they are, both ways
+  clear-over : (w : Way) (b : List ℕ) → EntryMoved r w 0x01 b (0x01 ∷ getD b 0 0 ∷ getD b 1 0 ∷ getD b 2 0 ∷ [])
+  -- 08 undone: "the log's id and reason, 0 and 0 without one"; b says state and whether a log was made
+  reset-undone : (b : List ℕ) → getD b 1 0 ≡ 0 → EntryMoved r Before 0x08 b (0x08 ∷ 0 ∷ 0 ∷ [])
+  logged-undone : (b : List ℕ) → (getD b 1 0 ≡ 0 → ⊥) → 1 ≤ pendingOf (r .logs) → EntryMoved r Before 0x08 b (0x08 ∷ lastPending r .id ∷ lastPending r .reason ∷ [])
+  -- 08 redone: the state, and 1 if a log comes back; b says its id and reason
+  reset-redone : (b : List ℕ) → getD b 0 0 ≡ 0 → EntryMoved r After 0x08 b (0x08 ∷ r .state ∷ 0 ∷ [])
+  logged-redone : (b : List ℕ) → (getD b 0 0 ≡ 0 → ⊥) → EntryMoved r After 0x08 b (0x08 ∷ r .state ∷ 1 ∷ [])
+  -- all other kinds, both ways: the values now in the record
+  values-over : (w : Way) (kind : ℕ) (b : List ℕ) → (kind ≡ 0x01 → ⊥) → (kind ≡ 0x08 → ⊥) → EntryMoved r w kind b (kind ∷ valuesOf r kind)
+
+-- the entry that takes a change back, as the model has it
 abbrev pub entryBack : Session → Edit → Entry
 entryBack s e = entryFor (inverseOf (s .held) e)
 
@@ -99,9 +131,10 @@ pub record MoveEffect (w : Way) (s : Session) (q : Said) : Type 0 where
   pub edit : Edit
   pub newest : Newest w s edit
   pub kind-is : q .kind ≡ newest .entry .kind
-  pub same-kind : entryBack s edit .kind ≡ newest .entry .kind
-  pub same-length : length (entryBack s edit .body) ≡ length (newest .entry .body)
-  pub session-is : q .session ≡ movesTo w s (putOf (s .held) edit .after) (length (written (newest .older))) (bytesOf (entryBack s edit))
+  pub moved : List ℕ
+  pub moved-is : EntryMoved (s .held) w (newest .entry .kind) (newest .entry .body) moved
+  pub same-length : length moved ≡ 1 + length (newest .entry .body)
+  pub session-is : q .session ≡ movesTo w s (putOf (s .held) edit .after) (length (written (newest .older))) moved
 
 abbrev pub UndoEffect : Session → Said → Type 0
 UndoEffect s q = MoveEffect Before s q

@@ -12,7 +12,7 @@ use Rattle.session.specs.Session.{freshSession, madeOf, renewed}
 use Rattle.session.specs.Road.{Said}
 use Rattle.session.specs.declared.Session.{Session}
 use Rattle.promises.specs.Calls.{Call, occ, sbe, undo, redo, said}
-use Rattle.promises.specs.History.{Run, run, next-run, start, OfBytes}
+use Rattle.promises.specs.History.{keeps, deed, Run, run, next-run, start, OfBytes}
 
 -- the session as it was, but for the next id, where a log was made, and for the redo store: it holds the one change that was taken back
 unfoldable pub leaves : Session → Edit → Session
@@ -22,9 +22,22 @@ leaves s e = renewed s (s .held) (s .next + madeOf (e .change)) (s .journal) (s 
 abbrev pub after : List Call → Run
 after cs = run (start freshSession) cs
 
+-- calls handed on from a session, and such as keep it: polls, refusals, error replies
+abbrev pub handedOn : Session → List Call → Session
+handedOn s [] = s
+handedOn s (k ∷ ks) = handedOn (said s k .session) ks
+
+abbrev pub AllKeep : Session → List Call → Type 0
+AllKeep s [] = Unit {0}
+AllKeep s (k ∷ ks) = (deed s k ≡ keeps) and AllKeep s ks
+
 -- the session after those calls, one more, and an undo
 abbrev pub tried : List Call → Call → Session
 tried cs c = said (next-run (after cs) c .session) undo .session
+
+-- the same with calls in between: the lab tries, looks, and takes it back
+abbrev pub triedAndLooked : List Call → Call → List Call → Session
+triedAndLooked cs c ks = said (handedOn (next-run (after cs) c .session) ks) undo .session
 
 -- ---- "Every later reply is as if nobody had tried as long as nobody redoes": any calls but redo
 

@@ -37,6 +37,7 @@ use Rattle.text.specs.Text.{Sheet, sheet, putAll}
 use Rattle.entries.specs.declared.Reading.{Reading}
 use Rattle.parting.specs.Lines.{told, toldLength}
 use Rattle.parting.specs.declared.Parting.{Parting}
+use Rattle.listing.specs.Listing.{listed, listedLength}
 use Rattle.parting.specs.Parting.{Longest, sharedPart, refusalOf, PlayersRefusal, partingOf}
 use Rattle.parting.specs.declared.Refusal.the-variants.{Nothing}
 use Rattle.parting.specs.laws.Refusals.{refusal-is-the-players, refused-shares-nothing}
@@ -45,7 +46,7 @@ use Rattle.playing.specs.declared.Played.{Played}
 use Rattle.playing.specs.Playing.{StepAllows, PlayAllows, lineRoom, imageAfter, linesOf, stopLine, piecesOf}
 use Rattle.playing.specs.Steps.{oldestFirst, stepsFrom}
 use Rattle.playing.specs.laws.Steps.{steps-whole}
-use Rattle.promises.specs.Calls.{Call, occ, sbe, redo, bufferOf, said}
+use Rattle.promises.specs.Calls.{Call, occ, sbe, undo, redo, bufferOf, said}
 use Rattle.promises.specs.Demand1.{OccAnswer, SbeAnswer, UndoAnswer, RedoAnswer, OccDue, SbeDue, OccStatus, occError, sbeError}
 use Rattle.promises.specs.Demand2.{atFront, NotPoll, successReply, OccSucceeds, OccAccepted, SbeSucceeds, SbeAccepted, Newest, UndoAccepted, RedoAccepted}
 use Rattle.promises.specs.Effects.{OccEffect, SbeEffect, entryBack, UndoEffect, RedoEffect}
@@ -57,7 +58,7 @@ use Rattle.promises.specs.laws.Moves.{move-effect, room-left}
 use Rattle.promises.specs.laws.Answers.{one-exactly}
 use Rattle.promises.specs.laws.Effects.{occ-effect, sbe-effect, occ-deed, sbe-deed, deed-shown}
 use Rattle.promises.specs.Marks.{logsMade}
-use Rattle.promises.specs.History.{adds, deed, did, next-run, run, start, OfBytes, AllOfBytes, Demand3}
+use Rattle.promises.specs.History.{keeps, adds, deed, did, next-run, run, start, OfBytes, AllOfBytes, Demand3}
 use Rattle.promises.specs.Ids.{idsMade, countdown}
 use Rattle.promises.specs.Outcomes.{OneOutcome}
 use Rattle.promises.specs.laws.Outcomes.{one-value, one-pair, one-triple}
@@ -67,7 +68,8 @@ use Rattle.links.specs.Typed.{TypedSession}
 use Rattle.promises.specs.laws.WellFormed.{occ-formed, sbe-formed, undo-formed, redo-formed}
 use Rattle.promises.specs.Later.{Wish, AsIf}
 use Rattle.promises.specs.laws.NoTrace.{trace-free, later-as-before, later-alike, redo-brings-back, redo-undone}
-use Rattle.promises.specs.NoTrace.{leaves, after, tried, AllButRedo, AsBefore}
+use Rattle.promises.specs.NoTrace.{leaves, after, tried, triedAndLooked, AllKeep, AllButRedo, AsBefore}
+use Rattle.promises.specs.laws.Kept.{kept-session, handed-same}
 use Rattle.image.specs.Image.{imageOf, sessionOf}
 use Rattle.image.specs.laws.Typed.{typed-image}
 use Rattle.layout.specs.Layout.{imageLength}
@@ -215,6 +217,9 @@ one-outcome-of-where-they-part t u = one-value _
 pub one-outcome-of-tell : (t u d : List ℕ) → OneOutcome (λ (o : ℕ × List ℕ). (o .0 ≡ toldLength t u d) and (o .1 ≡ told t u d))
 one-outcome-of-tell t u d = one-pair _ _
 
+pub one-outcome-of-list : (j d : List ℕ) → OneOutcome (λ (o : ℕ × List ℕ). (o .0 ≡ listedLength j d) and (o .1 ≡ listed j d))
+one-outcome-of-list j d = one-pair _ _
+
 -- ---- well-formed in, well-formed out, on every session of the type; and what is worked out is the record's
 
 pub occ-stays-well-formed : (s : Session) → TypedSession s → wellFormed s ≡ true → (sender : ℕ) (c d : List ℕ) → Bytes c → wellFormed (occCall s sender c d .session) ≡ true
@@ -300,6 +305,14 @@ undo-over-any-calls cs b = demand3 freshRecord cs (start freshSession) b fresh-s
 
 pub no-trace : (cs : List Call) → AllOfBytes cs → (c : Call) → OfBytes c → (e : Edit) → deed (after cs .session) c ≡ adds e → tried cs c ≡ leaves (after cs .session) e
 no-trace cs b c bc e = trace-free freshRecord (after cs) (invariant freshRecord cs (start freshSession) b fresh-start) c bc e
+
+-- the same as people use it: between the change and its undo any calls that keep the session, polls, refusals and error replies; so what follows holds of that, too
+pub no-trace-with-looks-between : (cs : List Call) (c : Call) (ks : List Call) → AllKeep (said (after cs .session) c .session) ks → triedAndLooked cs c ks ≡ tried cs c
+unfolding next-run did
+no-trace-with-looks-between cs c ks h = ap (λ (s : Session). said s undo .session) (handed-same (said (after cs .session) c .session) ks h)
+
+pub kept-by-what-counts-as-nothing : (s : Session) (c : Call) → deed s c ≡ keeps → said s c .session ≡ s
+kept-by-what-counts-as-nothing = kept-session
 
 -- without a log, every later reply is as if nobody had tried, as long as nobody redoes: any calls but redo (NoTrace.antt)
 pub no-trace-without-log : (cs : List Call) → AllOfBytes cs → (c : Call) → OfBytes c → (e : Edit) → deed (after cs .session) c ≡ adds e → madeOf (e .change) ≡ 0

@@ -10,6 +10,7 @@ pub mod Settled
 pub mod Demand3
 pub mod Aside
 pub mod NoTrace
+pub mod Kept
 pub mod Lent
 pub mod Replays
 pub mod Partings
@@ -34,6 +35,7 @@ pub mod OccDemands
 pub mod Why
 pub mod SbeDemands
 pub mod UndoDemands
+pub mod Moved
 pub mod Moves
 pub mod Effects
 pub mod Answers

@@ -130,6 +130,12 @@ isAdded (adds e) = true
 isAdded strikes = false
 isAdded unstrikes = false
 
+abbrev isMoved : Deed → Bool
+isMoved keeps = false
+isMoved (adds e) = false
+isMoved strikes = true
+isMoved unstrikes = true
+
 keeps-not : (e : Edit) → keeps ≡ adds e → ⊥
 keeps-not e p = false≢true (ap isAdded p)
 
@@ -138,6 +144,15 @@ strikes-not e p = false≢true (ap isAdded p)
 
 unstrikes-not : (e : Edit) → unstrikes ≡ adds e → ⊥
 unstrikes-not e p = false≢true (ap isAdded p)
+
+pub added-not : (e : Edit) → adds e ≡ keeps → ⊥
+added-not e p = false≢true (sym (ap isAdded p))
+
+pub struck-not : strikes ≡ keeps → ⊥
+struck-not p = false≢true (sym (ap isMoved p))
+
+pub unstruck-not : unstrikes ≡ keeps → ⊥
+unstruck-not p = false≢true (sym (ap isMoved p))
 
 same-edit : (a b : Edit) → adds a ≡ adds b → a ≡ b
 same-edit a b p = cc

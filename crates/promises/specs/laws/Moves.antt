@@ -33,7 +33,8 @@ use Rattle.undo_call.specs.laws.NoneLeft.{none-zero}
 use Rattle.links.specs.Typed.{TypedSession}
 use Rattle.links.specs.laws.Links.{kind-of-back, writable-back}
 use Rattle.links.specs.laws.Entry.{entry-ok}
-use Rattle.promises.specs.Demand2.{Newest}
+use Rattle.promises.specs.Demand2.{Newest, GoesIn}
+use Rattle.promises.specs.laws.Moved.{entry-moved}
 use Rattle.promises.specs.Effects.{zeroedFrom, movesTo, entryBack, MoveEffect}
 use Rattle.promises.specs.laws.FormedStores.{all-good, all-parts, more-pasted, cut-zeroed, used-is, one-less, store-of, both-used, long-store}
 use Rattle.promises.specs.laws.UndoDemands.{Called, ill-formed, empty, barred, goes, called}
@@ -131,16 +132,17 @@ module _ (w : Way) (s : Session) (f : Formed s) (e : Edit) (n : Newest w s e) wh
     unfolding settled done
     moved-formed ok = stores-formed s at e (putOf (s .held) e .after) w ok (omega (arith, sum-stays, both-used s f w)) less more
 
-    moved-effect : MoveEffect w s (settled s [] (moves w at e))
-    unfolding settled done lessened grownTo entryFor
-    moved-effect =
+    moved-effect : GoesIn (s .held) (e .change) → MoveEffect w s (settled s [] (moves w at e))
+    unfolding settled done lessened grownTo
+    moved-effect goes-in =
         let low : at ≤ usedOf w s = omega (arith, all-used) in
         record {
           edit = e;
           newest = n;
           kind-is = says .0;
-          same-kind = same-kind;
-          same-length = length-body (other w) (back .tables) (back .change) writable ∙ ap bodyLen same-kind ∙ sized;
+          moved = bytesOf (entryBack s e);
+          moved-is = entry-moved (s .held) w (n .entry .kind) (n .entry .body) e (n .change) goes-in;
+          same-length = back-bytes ∙ back-long;
           session-is = stores-moved s at e (putOf (s .held) e .after) w (cut-zeroed (storeOf w s) at (usedOf w s) low (store .fits)) (ap (λ (m : ℕ). usedOf (other w) s + m) (sym back-bytes));
         }
 
@@ -155,7 +157,7 @@ module _ (w : Way) (s : Session) (typed : TypedSession s) where
   effect a (ill-formed h) z = absurd (omega (arith, z))
   effect a (empty x h) z = absurd (none-zero w z)
   effect a (barred x e n bar) z = absurd (omega (arith, z))
-  effect a (goes x e n u) z = moved-effect w s (formed s x) e n typed
+  effect a (goes x e n u) z = moved-effect w s (formed s x) e n typed (u .0)
 
   pub move-effect : moveCall w s .answer ≡ 0 → MoveEffect w s (moveCall w s)
   unfolding moveCall

@@ -1,0 +1,34 @@
+-- Calls that count as nothing leave the session as it is. Assumes nothing.
+use Prim.Native.Nat.{ℕ}
+use mathlib.Core.List.{List, [], _∷_}
+use mathlib.Core.Path.{_≡_, refl, ap, _∙_}
+use Rattle.wire.specs.laws.Cases.{by-both}
+use Rattle.journal.specs.Ways.{byWay}
+use Rattle.journal.specs.declared.Way.the-variants.{Before, After}
+use Rattle.session.specs.Session.{carriedOf}
+use Rattle.session.specs.Road.{Asks, refuses, tells, makes, moves, Said, kept, done, carriedSays, settled}
+use Rattle.session.specs.declared.Session.{Session}
+use Rattle.promises.specs.Calls.{Call, bufferOf, asks, said}
+use Rattle.promises.specs.History.{Deed, keeps, adds, strikes, unstrikes, adding, deedBy, deed}
+use Rattle.promises.specs.NoTrace.{handedOn, AllKeep}
+use Rattle.promises.specs.laws.Effects.{added-not, struck-not, unstruck-not}
+
+module _ (s : Session) where
+  abbrev Stays : Said → Deed → Type 0
+  Stays q d = d ≡ keeps → q .session ≡ s
+
+  asked-stays : (d : List ℕ) (a : Asks) → Stays (settled s d a) (deedBy s a)
+  unfolding settled carriedSays kept done deedBy adding byWay
+  asked-stays d (refuses n) = λ e. refl
+  asked-stays d (tells bell y) = λ e. refl
+  asked-stays d (makes e bell y) = by-both Stays (carriedOf s e .full) (λ f p. refl) (λ f p. absurd (added-not e p))
+  asked-stays d (moves Before at e) = λ p. absurd (struck-not p)
+  asked-stays d (moves After at e) = λ p. absurd (unstruck-not p)
+
+  pub kept-session : (c : Call) → deed s c ≡ keeps → said s c .session ≡ s
+  unfolding said deed
+  kept-session c = asked-stays (bufferOf c) (asks s c)
+
+pub handed-same : (s : Session) (ks : List Call) → AllKeep s ks → handedOn s ks ≡ s
+handed-same s [] h = refl
+handed-same s (k ∷ ks) h = ap (λ (t : Session). handedOn t ks) (kept-session s k (h .0)) ∙ handed-same s ks (h .1)

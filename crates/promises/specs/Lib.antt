@@ -1,6 +1,7 @@
 pub mod Promises
 pub mod Calls
 pub mod Outcomes
+pub mod WellFormed
 pub mod Demand1
 pub mod Demand2
 pub mod Effects

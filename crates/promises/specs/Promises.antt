@@ -1,8 +1,8 @@
 -- What the stand-in promises, each in a few lines, each proved by pointing at the file that does the work.
 -- s, p: a session, a run of calls; c: a call with any bytes and any buffer. The calls are those of the public contracts (Calls.antt).
 use Prim.Native.Nat.{ℕ, suc, _+_, _≤_, _<_}
-use mathlib.Core.Bool.{true}
-use mathlib.Core.Logic.{_↔_, _⊎_}
+use mathlib.Core.Bool.{true, false}
+use mathlib.Core.Logic.{_↔_, _⊎_, Iff·trans}
 use mathlib.Core.Path.{_≡_, ap, _∙_}
 use mathlib.Core.List.{List, [], _++_}
 use native.Mathlib.Omega.{arith}
@@ -47,6 +47,10 @@ use Rattle.playing.specs.Playing.{StepAllows, PlayAllows, lineRoom, imageAfter,
 use Rattle.playing.specs.Steps.{oldestFirst, stepsFrom}
 use Rattle.playing.specs.laws.Steps.{steps-whole}
 use Rattle.promises.specs.Calls.{Call, occ, sbe, undo, redo, bufferOf, said}
+use Rattle.formed.specs.Formed.{inOrder}
+use Rattle.formed.specs.laws.Thresholds.{out-of-order}
+use Rattle.promises.specs.WellFormed.{WellFormed}
+use Rattle.promises.specs.laws.Plainly.{plainly-formed}
 use Rattle.promises.specs.Demand1.{OccAnswer, SbeAnswer, UndoAnswer, RedoAnswer, OccDue, SbeDue, OccStatus, occError, sbeError}
 use Rattle.promises.specs.Demand2.{atFront, NotPoll, successReply, OccSucceeds, OccAccepted, SbeSucceeds, SbeAccepted, Newest, UndoAccepted, RedoAccepted}
 use Rattle.promises.specs.Effects.{OccEffect, SbeEffect, entryBack, UndoEffect, RedoEffect}
@@ -98,8 +102,17 @@ answer-of-undo = undo-answers
 pub answer-of-redo : (s : Session) (n : ℕ) → (redoCall s .answer ≡ n) ↔ RedoAnswer s n
 answer-of-redo = redo-answers
 
-pub answer-1-exactly-when : (s : Session) → TypedSession s → (c : Call) → (said s c .answer ≡ 1) ↔ (wellFormed s ≡ true → ⊥)
-answer-1-exactly-when = one-exactly
+-- well formed: document 01's sentences as plain conditions (WellFormed.antt) are what is tested
+pub well-formed-exactly-when : (s : Session) → (wellFormed s ≡ true) ↔ WellFormed s
+well-formed-exactly-when = plainly-formed
+
+pub answer-1-exactly-when : (s : Session) → TypedSession s → (c : Call) → (said s c .answer ≡ 1) ↔ (WellFormed s → ⊥)
+answer-1-exactly-when s typed c =
+    Iff·trans (one-exactly s typed c) (λ h p. h (plainly-formed s .1 p), λ h w. h (plainly-formed s .0 w))
+
+-- document 02, b: two thresholds are out of order "only when both are defined and out of order"
+pub thresholds-out-of-order-exactly-when : (dvfs error : ℕ) → (inOrder dvfs error ≡ false) ↔ ((dvfs ≡ 0xFF → ⊥) and (error ≡ 0xFF → ⊥) and (error < dvfs))
+thresholds-out-of-order-exactly-when = out-of-order
 
 -- the statuses, where none of answers 1 to 4 is due: the session as it was, and every byte of the error reply. p, q: primary, secondary
 pub status-of-occ : (s : Session) → TypedSession s → (sender : ℕ) (c d : List ℕ) → OccDue s sender c d → (n : ℕ)

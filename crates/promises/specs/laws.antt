@@ -19,6 +19,7 @@ pub mod Judgements
 pub mod Heard
 pub mod AsIf
 pub mod WellFormed
+pub mod Plainly
 pub mod Fresh
 pub mod Examples
 pub mod Unset

@@ -15,6 +15,7 @@ use Rattle.session.specs.Road.{Said}
 use Rattle.session.specs.declared.Session.{Session}
 use Rattle.occ_call.specs.Occ.{occRefusal, askedOf}
 use Rattle.promises.specs.Calls.{Call, occ, sbe, undo, said}
+use Rattle.promises.specs.Lent.{told}
 use Rattle.promises.specs.History.{OfBytes}
 use Rattle.promises.specs.Shifted.{shifted, shiftedRecord}
 
@@ -85,5 +86,5 @@ abbrev pub AsIf : (k : ℕ) → Session → Session → List (Wish k) → Type 0
 AsIf k s t [] = Unit {0}
 AsIf k s t (w ∷ ws) =
     IdsEnd s t (w .here) (w .there)
-    ⊎ (Alike k s (said s (w .here)) (said t (w .there)) × Twins k (said s (w .here) .session) (said t (w .there) .session)
+    ⊎ (Alike k s (said s (w .here)) (said t (w .there)) × (told t (w .there) ≡ told s (w .here)) × Twins k (said s (w .here) .session) (said t (w .there) .session)
     × AsIf k (said s (w .here) .session) (said t (w .there) .session) ws)

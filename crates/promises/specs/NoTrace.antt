@@ -12,6 +12,7 @@ use Rattle.session.specs.Session.{freshSession, madeOf, renewed}
 use Rattle.session.specs.Road.{Said}
 use Rattle.session.specs.declared.Session.{Session}
 use Rattle.promises.specs.Calls.{Call, occ, sbe, undo, redo, said}
+use Rattle.promises.specs.Lent.{told}
 use Rattle.promises.specs.History.{keeps, deed, Run, run, next-run, start, OfBytes}
 
 -- the session as it was, but for the next id, where a log was made, and for the redo store: it holds the one change that was taken back
@@ -54,10 +55,10 @@ pub record SameSaid (a b : Said) : Type 0 where
   pub kind : b .kind ≡ a .kind
   pub reply : b .reply ≡ a .reply
 
--- calls one after the other on s, where nobody tried, and on t
+-- calls one after the other on s, where nobody tried, and on t; what C gets back beside the answer is the same, too
 abbrev pub AsBefore : Session → Session → List Call → Type 0
 AsBefore s t [] = Unit {0}
-AsBefore s t (c ∷ cs) = SameSaid (said s c) (said t c) and AsBefore (said s c .session) (said t c .session) cs
+AsBefore s t (c ∷ cs) = SameSaid (said s c) (said t c) and (told t c ≡ told s c) and AsBefore (said s c .session) (said t c .session) cs
 
 abbrev pub AllButRedo : List Call → Type 0
 AllButRedo [] = Unit {0}

@@ -16,6 +16,7 @@ pub mod Replays
 pub mod Partings
 pub mod Shifted
 pub mod Judgements
+pub mod Blames
 pub mod Heard
 pub mod AsIf
 pub mod WellFormed

@@ -72,7 +72,7 @@ module _ (s : Session) (sender : ℕ) (c : List ℕ) where
       (λ t e. let z : _≡_ {A = ℕ} 0x11 0x13 = ap statusOf e in absurd (omega arith)) (λ t e. not-false _ t)
 
   -- a packet's own status isn't 0x13
-  asked-read : askedOf (s .held) (s .worked) (s .next) sender c .verdict ≡ Refuse 0x13 → (packetStatus c ≡ 0) × (judged .verdict ≡ Refuse 0x13)
+  pub asked-read : askedOf (s .held) (s .worked) (s .next) sender c .verdict ≡ Refuse 0x13 → (packetStatus c ≡ 0) × (judged .verdict ≡ Refuse 0x13)
   unfolding askedOf askedFor plainly
   asked-read =
       cond-cases (λ (j : Judged). j .verdict ≡ Refuse 0x13 → (packetStatus c ≡ 0) × (judged .verdict ≡ Refuse 0x13)) (not (eqb (packetStatus c) 0))

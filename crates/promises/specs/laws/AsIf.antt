@@ -22,6 +22,7 @@ use Rattle.undo_call.specs.Undo.{moveAsks}
 use Rattle.promises.specs.Calls.{Call, said}
 use Rattle.promises.specs.Marks.{left, logsMade}
 use Rattle.promises.specs.History.{Deed, keeps, adds, strikes, unstrikes, deed, applied, Run, did, next-run, OfBytes}
+use Rattle.promises.specs.Lent.{told}
 use Rattle.promises.specs.NoTrace.{ButRedo}
 use Rattle.promises.specs.laws.Stores.{length-padded, flat}
 use Rattle.promises.specs.laws.ByHistory.{backs, journalOf, byHistory, Kept, Sane}
@@ -133,7 +134,7 @@ module _ (base : Record) (k : ℕ) (low : 1 ≤ k) (still : shiftedRecord k base
 
     -- one call
     both-hear : (c c′ : Call) → SameWish k c c′ → OfBytes c
-        → IdsEnd (p .session) (q .session) c c′ ⊎ (Alike k (p .session) (said (p .session) c) (said (q .session) c′) × (deed (q .session) c′ ≡ shiftedDeed k (deed (p .session) c)))
+        → IdsEnd (p .session) (q .session) c c′ ⊎ (Alike k (p .session) (said (p .session) c) (said (q .session) c′) × (deed (q .session) c′ ≡ shiftedDeed k (deed (p .session) c)) × (told (q .session) c′ ≡ told (p .session) c))
     both-hear = heard k low (p .session) (q .session) twins from-next (formed base p (b .inv)) (formed base q (b .inv′)) full-is undo-both
 
   -- ---- the marks after it
@@ -201,5 +202,5 @@ module _ (base : Record) (k : ℕ) (low : 1 ≤ k) (still : shiftedRecord k base
       ⊎-elim inl
       (λ h.
       let after = next-beside p q b (w .here) (w .there) (w .same) (w .bytes) (w .bytes′) (h .1) in
-      inr (h .0, twins (next-run p (w .here)) (next-run q (w .there)) after, as-if ws (next-run p (w .here)) (next-run q (w .there)) after))
+      inr (h .0, h .2, twins (next-run p (w .here)) (next-run q (w .there)) after, as-if ws (next-run p (w .here)) (next-run q (w .there)) after))
       (both-hear p q b (w .here) (w .there) (w .same) (w .bytes))

@@ -1,9 +1,11 @@
 -- Two sessions that differ in what can be redone: any call but redo asks, says and does the same on both. Assumes nothing.
 use Prim.Native.Nat.{ℕ, suc, _+_}
+use mathlib.Core.Bool.{cond, not}
 use mathlib.Core.Path.{_≡_, refl, sym, ap, ap₂, subst, _∙_}
 use mathlib.Core.List.{List, [], _∷_}
 use native.Mathlib.Omega.{arith}
-use lib.ListN.{length}
+use lib.Dec.{eqb}
+use lib.ListN.{length, getD}
 use Rattle.wire.specs.laws.Cases.{cond-elim}
 use Rattle.record.specs.Record.{workedOf}
 use Rattle.record.specs.declared.Record.{Record}
@@ -15,6 +17,8 @@ use Rattle.session.specs.Session.{wellFormed, carriedOf, madeOf}
 use Rattle.session.specs.Road.{Asks, refuses, tells, makes, moves, due, settled}
 use Rattle.session.specs.laws.Road.{Speaks}
 use Rattle.session.specs.declared.Session.{Session}
+use Rattle.packet.specs.Packet.{dataOf}
+use Rattle.places.specs.declared.Blame.the-variants.{Nothing}
 use Rattle.occ_call.specs.Occ as occs
 use Rattle.occ_call.specs.laws.Speaks.{occ-speaks}
 use Rattle.sbe_call.specs.Sbe as sbes
@@ -23,6 +27,7 @@ use Rattle.undo_call.specs.Undo.{moveAsks}
 use Rattle.promises.specs.Calls.{Call, occ, sbe, undo, redo, bufferOf, asks, said}
 use Rattle.promises.specs.Marks.{Mark, left, logsMade}
 use Rattle.promises.specs.History.{Deed, keeps, adds, strikes, unstrikes, adding, deedBy, deed, marked, applied, Run, did, next-run, OfBytes}
+use Rattle.promises.specs.Lent.{told}
 use Rattle.promises.specs.NoTrace.{ButRedo, SameSaid, AsBefore, AllButRedo}
 use Rattle.promises.specs.laws.Marks.{tail, left-change, left-strike, logs-strike}
 use Rattle.promises.specs.laws.Stores.{padded}
@@ -156,6 +161,20 @@ module _ (base : Record) where
         subst (λ (a : Asks). SameSaid (said (p .session) c) (settled (q .session) (bufferOf c) a) × (deedBy (q .session) a ≡ deed (p .session) c)) (sym (same-asks c h))
         (same-settled (p .session) (q .session) full-same (bufferOf c) (asks (p .session) c))
 
+    -- and the same stands beside the answer
+    why-same : (sender : ℕ) (c d : List ℕ) → occs.occWhy (q .session) sender c d ≡ occs.occWhy (p .session) sender c d
+    unfolding occs.occWhy occs.occRefusal occs.whyFrom occs.whyRead
+    why-same sender c d = λ i.
+        cond (not (eqb (occs.refusalOf (formed-same i) sender (length c) (length d)) 0)) Nothing
+        (occs.faultFor (occs.askedOf (held-same i) (worked-same i) (next-same i) sender c .verdict) (held-same i) (getD c 1 0) (dataOf c))
+
+    aside-told : (c : Call) → ButRedo c → told (q .session) c ≡ told (p .session) c
+    unfolding told
+    aside-told (occ sender c d) h = λ i. occs.besideOf (aside-said (occ sender c d) h .0 .answer i) (why-same sender c d i)
+    aside-told (sbe r d) h = λ i. record { answer = aside-said (sbe r d) h .0 .answer i; small = 0; beside = aside-said (sbe r d) h .0 .bell i }
+    aside-told undo h = λ i. record { answer = aside-said undo h .0 .answer i; small = 0; beside = aside-said undo h .0 .kind i }
+    aside-told redo h = absurd h
+
     next-aside : (c : Call) → ButRedo c → OfBytes c → Aside (next-run p c) (next-run q c)
     unfolding next-run did
     next-aside c h bytes =
@@ -172,4 +191,5 @@ module _ (base : Record) where
   pub as-before : (cs : List Call) → AllButRedo cs → (p q : Run) → Aside p q → AsBefore (p .session) (q .session) cs
   unfolding next-run did
   as-before [] h p q b = tt
-  as-before (c ∷ cs) h p q b = (aside-said p q b c (h .0) .0, as-before cs (h .1 .1) (next-run p c) (next-run q c) (next-aside p q b c (h .0) (h .1 .0)))
+  as-before (c ∷ cs) h p q b =
+      (aside-said p q b c (h .0) .0, (aside-told p q b c (h .0), as-before cs (h .1 .1) (next-run p c) (next-run q c) (next-aside p q b c (h .0) (h .1 .0))))

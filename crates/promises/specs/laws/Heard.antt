@@ -1,8 +1,8 @@
 -- One call on two sessions that are the same but for ids: both say the same but for ids, and do the same. Assumes nothing.
 use Prim.Native.Nat.{ℕ, suc, _≤_}
-use mathlib.Core.Bool.{Bool, true, not}
+use mathlib.Core.Bool.{Bool, true, false, cond, not}
 use mathlib.Core.Logic.{_⊎_, inl, inr, ⊎-elim}
-use mathlib.Core.Path.{_≡_, refl, sym, ap, subst, _∙_}
+use mathlib.Core.Path.{_≡_, refl, sym, ap, ap₂, subst, _∙_}
 use mathlib.Core.List.{List}
 use borrow.Author.Tests.{eqb-true, not-false}
 use lib.Dec.{eqb}
@@ -17,11 +17,14 @@ use Rattle.change.specs.declared.Tables.{Tables}
 use Rattle.journal.specs.Ways.{byWay}
 use Rattle.journal.specs.declared.Way.{Way}
 use Rattle.journal.specs.declared.Way.the-variants.{Before, After}
-use Rattle.packet.specs.Packet.{replied}
+use Rattle.packet.specs.Packet.{dataOf, replied}
 use Rattle.poll.specs.Poll.{pollData}
 use Rattle.occ.specs.declared.Judged.{Judged}
 use Rattle.occ.specs.declared.Verdict.{Verdict}
 use Rattle.occ.specs.declared.Verdict.the-variants.{Refuse, Poll, Make}
+use Rattle.places.specs.Places.{faultOf}
+use Rattle.places.specs.declared.Blame.{Blame}
+use Rattle.places.specs.declared.Blame.the-variants.{Nothing}
 use Rattle.sbe.specs.Mailbox as mailbox
 use Rattle.sbe.specs.laws.Made.{change-fits}
 use Rattle.sbe.specs.declared.Ruling.{Ruling}
@@ -30,14 +33,17 @@ use Rattle.session.specs.Session.{wellFormed, carriedOf}
 use Rattle.session.specs.Road.{Asks, refuses, tells, makes, moves, due, kept, done, carriedSays, settled}
 use Rattle.session.specs.declared.Session.{Session}
 use Rattle.occ_call.specs.Occ as occs
+use Rattle.occ_call.specs.laws.Why.{asked-read}
 use Rattle.sbe_call.specs.Sbe as sbes
 use Rattle.undo_call.specs.Undo.{moveAsks}
 use Rattle.promises.specs.Calls.{Call, occ, sbe, undo, bufferOf, asks, said}
 use Rattle.promises.specs.History.{Deed, keeps, adds, strikes, unstrikes, adding, deedBy, deed, OfBytes}
 use Rattle.promises.specs.laws.Shifted.{shiftedChange, shiftedEdit, choose}
 use Rattle.promises.specs.Shifted.{shiftedRecord}
-use Rattle.promises.specs.laws.Judgements.{shiftedVerdict, shiftedJudged, Ended, Likewise, asked-same, asked-clears}
-use Rattle.promises.specs.Later.{SameWish, occ-same, occ-clears, sbe-same, undo-same, SameReply, same-bytes, same-poll, Twins, Alike, IdsEnd, ids-end}
+use Rattle.promises.specs.Lent.{told}
+use Rattle.promises.specs.laws.Judgements.{shiftedVerdict, shiftedJudged, Ended, Likewise, old-id, asked-same, asked-clears}
+use Rattle.promises.specs.laws.Blames.{same-fault, clears-fault, verdict-fault}
+use Rattle.promises.specs.Later.{Clears, SameWish, occ-same, occ-clears, sbe-same, undo-same, SameReply, same-bytes, same-poll, Twins, Alike, IdsEnd, ids-end}
 
 -- what a call does, in the second world
 unfoldable pub shiftedDeed : ℕ → Deed → Deed
@@ -129,18 +135,32 @@ module _ (k : ℕ) (low : 1 ≤ k) (s t : Session) (tw : Twins k s t) (from-k : 
     unfolding occs.occAsks occs.occRead
     same-front = λ i. due (sym refusal-is i) (occs.judgedAsks (t .held) (t .worked) (sym sequence i) (sym type i) d j′)
 
-    abbrev Alikes : Asks → Asks → Type 0
-    Alikes a b = IdsEnd s t (occ sender c d) (occ sender c′ d) ⊎ AlikeAsks k s a b
+    -- the same data byte is told, if one is
+    module _ (fault-is : j′ ≡ shiftedJudged k j → occs.faultFor (j′ .verdict) (t .held) (getD c′ 1 0) (dataOf c′) ≡ occs.faultFor (j .verdict) (s .held) (getD c 1 0) (dataOf c)) where
+      abbrev here-told : Blame
+      here-told = occs.faultFor (j .verdict) (s .held) (getD c 1 0) (dataOf c)
 
-    ended-alike : Ended (s .next) j j′ → Alikes (due n here) (due n there)
-    unfolding due
-    ended-alike e = by-both Alikes (not (eqb n 0)) (λ f. inr (both-refuse n)) (λ f. inl (ended (eqb-true n 0 (not-false _ f)) e))
+      abbrev there-told : Blame
+      there-told = occs.faultFor (j′ .verdict) (t .held) (getD c′ 1 0) (dataOf c′)
 
-    occ-alike : Likewise k (s .next) j j′ → Alikes (occs.occAsks s sender c d) (occs.occAsks t sender c′ d)
-    unfolding occs.occAsks occs.occRead
-    occ-alike same =
-        subst (Alikes (due n here)) same-front
-        (⊎-elim (λ e. inr (both-due k s n (judged-alike (getD c 0 0) (getD c 1 0) d j j′ e))) ended-alike same)
+      abbrev Alikes : Asks → Asks → Blame → Blame → Type 0
+      Alikes a b x y = IdsEnd s t (occ sender c d) (occ sender c′ d) ⊎ (AlikeAsks k s a b × (y ≡ x))
+
+      by-refusal : (b : Bool) → not (eqb n 0) ≡ b → Likewise k (s .next) j j′
+          → Alikes (cond b (refuses n) here) (cond b (refuses n) there) (cond b Nothing here-told) (cond b Nothing there-told)
+      by-refusal true e same = inr (both-refuse n, refl)
+      by-refusal false e same =
+          ⊎-elim (λ h. inr (judged-alike (getD c 0 0) (getD c 1 0) d j j′ h, fault-is h)) (λ h. inl (ended (eqb-true n 0 (not-false _ e)) h)) same
+
+      why-there : cond (not (eqb n 0)) Nothing there-told ≡ occs.occWhy t sender c′ d
+      unfolding occs.occWhy occs.whyFrom occs.whyRead
+      why-there = λ i. cond (not (eqb (sym refusal-is i) 0)) Nothing there-told
+
+      occ-alike : Likewise k (s .next) j j′ → Alikes (occs.occAsks s sender c d) (occs.occAsks t sender c′ d) (occs.occWhy s sender c d) (occs.occWhy t sender c′ d)
+      unfolding occs.occAsks occs.occRead due occs.occWhy occs.whyFrom occs.whyRead
+      occ-alike same =
+          subst (λ (b : Asks). Alikes (occs.occAsks s sender c d) b (occs.occWhy s sender c d) (occs.occWhy t sender c′ d)) same-front
+          (subst (Alikes (due n here) (due n there) (cond (not (eqb n 0)) Nothing here-told)) why-there (by-refusal (not (eqb n 0)) refl same))
 
   -- ---- SBE: its changes have no log
 
@@ -181,12 +201,12 @@ module _ (k : ℕ) (low : 1 ≤ k) (s t : Session) (tw : Twins k s t) (from-k : 
 
   module _ (undo-alike : AlikeAsks k s (moveAsks Before s) (moveAsks Before t)) where
     abbrev Heard : Call → Call → Type 0
-    Heard c c′ = IdsEnd s t c c′ ⊎ (Alike k s (said s c) (said t c′) × (deed t c′ ≡ shiftedDeed k (deed s c)))
+    Heard c c′ = IdsEnd s t c c′ ⊎ (Alike k s (said s c) (said t c′) × (deed t c′ ≡ shiftedDeed k (deed s c)) × (told t c′ ≡ told s c))
 
-    by-asks : (c c′ : Call) → bufferOf c′ ≡ bufferOf c → IdsEnd s t c c′ ⊎ AlikeAsks k s (asks s c) (asks t c′) → Heard c c′
+    said-alike : (c c′ : Call) → bufferOf c′ ≡ bufferOf c → AlikeAsks k s (asks s c) (asks t c′) → Alike k s (said s c) (said t c′) × (deed t c′ ≡ shiftedDeed k (deed s c))
     unfolding said deed
-    by-asks c c′ same =
-        ⊎-elim inl (λ h. inr (subst (λ (d : List ℕ). Alike k s (said s c) (settled t d (asks t c′)) × (deed t c′ ≡ shiftedDeed k (deed s c))) (sym same) (settled-alike (bufferOf c) _ _ h)))
+    said-alike c c′ same h =
+        subst (λ (d : List ℕ). Alike k s (said s c) (settled t d (asks t c′)) × (deed t c′ ≡ shiftedDeed k (deed s c))) (sym same) (settled-alike (bufferOf c) _ _ h)
 
     moved-there : (sender : ℕ) (c c′ : List ℕ)
         → Likewise k (s .next) (occs.askedOf (s .held) (s .worked) (s .next) sender c) (occs.askedOf (shiftedRecord k (s .held)) (s .worked) (suc (s .next)) sender c′)
@@ -195,12 +215,43 @@ module _ (k : ℕ) (low : 1 ≤ k) (s t : Session) (tw : Twins k s t) (from-k : 
         subst (Likewise k (s .next) (occs.askedOf (s .held) (s .worked) (s .next) sender c))
         (λ i. occs.askedOf (sym (tw .held-is) i) (sym (tw .worked-is) i) (sym (tw .next-is) i) sender c′)
 
+    occ-heard : (sender : ℕ) (c c′ d : List ℕ)
+        → IdsEnd s t (occ sender c d) (occ sender c′ d) ⊎ (AlikeAsks k s (occs.occAsks s sender c d) (occs.occAsks t sender c′ d) × (occs.occWhy t sender c′ d ≡ occs.occWhy s sender c d))
+        → Heard (occ sender c d) (occ sender c′ d)
+    unfolding asks bufferOf told
+    occ-heard sender c c′ d =
+        ⊎-elim inl
+        (λ h.
+        let o = said-alike (occ sender c d) (occ sender c′ d) refl (h .0) in
+        inr (o .0, o .1, (λ i. occs.besideOf (o .0 .answer i) (h .1 i))))
+
+    -- the data byte beside 0x13, by its verdict: of a packet that both send, and of the two clears of one log
+    fault-there : (sender : ℕ) (c c′ : List ℕ) → (occs.askedOf (s .held) (s .worked) (s .next) sender c .verdict ≡ Refuse 0x13
+        → faultOf (shiftedRecord k (s .held)) (getD c′ 1 0) (dataOf c′) ≡ faultOf (s .held) (getD c 1 0) (dataOf c))
+        → occs.askedOf (t .held) (t .worked) (t .next) sender c′ ≡ shiftedJudged k (occs.askedOf (s .held) (s .worked) (s .next) sender c)
+        → occs.faultFor (occs.askedOf (t .held) (t .worked) (t .next) sender c′ .verdict) (t .held) (getD c′ 1 0) (dataOf c′)
+        ≡ occs.faultFor (occs.askedOf (s .held) (s .worked) (s .next) sender c .verdict) (s .held) (getD c 1 0) (dataOf c)
+    unfolding shiftedJudged
+    fault-there sender c c′ h e =
+        (λ i. occs.faultFor (e i .verdict) (tw .held-is i) (getD c′ 1 0) (dataOf c′))
+        ∙ verdict-fault k low (s .held) (occs.askedOf (s .held) (s .worked) (s .next) sender c .verdict) (getD c 1 0) (getD c′ 1 0) (dataOf c) (dataOf c′) h
+
+    clears-there : (c c′ : List ℕ) → Clears k c c′ → faultOf (shiftedRecord k (s .held)) (getD c′ 1 0) (dataOf c′) ≡ faultOf (s .held) (getD c 1 0) (dataOf c)
+    clears-there c c′ h =
+        ap₂ (faultOf (shiftedRecord k (s .held))) (h .type′) (h .names′) ∙ clears-fault k low (s .held) (h .id) ∙ sym (ap₂ (faultOf (s .held)) (h .type) (h .names))
+
     pub heard : (c c′ : Call) → SameWish k c c′ → OfBytes c → Heard c c′
-    unfolding asks bufferOf
+    unfolding asks bufferOf told
     heard c c′ (occ-same sender x d h) b =
-        by-asks c c′ refl (occ-alike sender x x d refl refl refl (moved-there sender x x (asked-same k low (s .next) from-k (s .held) (s .worked) sender x h)))
+        occ-heard sender x x d (occ-alike sender x x d refl refl refl
+        (fault-there sender x x (λ v. same-fault k low (s .held) (getD x 1 0) (dataOf x) (old-id k x h (asked-read s sender x v .0))))
+        (moved-there sender x x (asked-same k low (s .next) from-k (s .held) (s .worked) sender x h)))
     heard c c′ (occ-clears sender x x′ d h) b =
-        by-asks c c′ refl (occ-alike sender x x′ d (h .long) (h .sequence) (h .type′ ∙ sym (h .type))
+        occ-heard sender x x′ d (occ-alike sender x x′ d (h .long) (h .sequence) (h .type′ ∙ sym (h .type)) (fault-there sender x x′ (λ v. clears-there x x′ h))
         (moved-there sender x x′ (asked-clears k low (s .next) from-k (s .held) (s .worked) sender x x′ h)))
-    heard c c′ (sbe-same r d) b = by-asks c c′ refl (inr (sbe-alike r d b))
-    heard c c′ undo-same b = by-asks c c′ refl (inr undo-alike)
+    heard c c′ (sbe-same r d) b =
+        let o = said-alike c c′ refl (sbe-alike r d b) in
+        inr (o .0, o .1, (λ i. record { answer = o .0 .answer i; small = 0; beside = o .0 .bell i }))
+    heard c c′ undo-same b =
+        let o = said-alike c c′ refl undo-alike in
+        inr (o .0, o .1, (λ i. record { answer = o .0 .answer i; small = 0; beside = o .0 .kind i }))

@@ -56,7 +56,7 @@ unfolding askedOf askedFor
 read r w next sender c good = sym (else-ne _ _ good refl)
 
 -- a clear that both worlds send names an old id
-old-id : (k : ℕ) (c : List ℕ) → named c < k → packetStatus c ≡ 0 → getD c 1 0 ≡ 0x12 → length (dataOf c) ≡ 1 → getD (dataOf c) 0 0 < k
+pub old-id : (k : ℕ) (c : List ℕ) → named c < k → packetStatus c ≡ 0 → getD c 1 0 ≡ 0x12 → length (dataOf c) ≡ 1 → getD (dataOf c) 0 0 < k
 unfolding named
 old-id k c h good type one = subst (λ (i : ℕ). i < k) (sym (else-ne 0 _ good (else-ne 0 _ type (else-ne 0 _ one refl)))) h
 

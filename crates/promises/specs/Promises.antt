@@ -80,8 +80,8 @@ use Rattle.layout.specs.Layout.{imageLength}
 use Rattle.bjargolsk.specs.Calls.{answerIn, freshOn, FreshReturns, OccReturns, SbeReturns, UndoReturns, RedoReturns}
 use Rattle.promises.specs.laws.Lent.{every-image, every-byte, no-session, fresh-image, lent-run, lent-next}
 use Rattle.promises.specs.Lent.{lent, carriedOver, lentRun}
-use Rattle.promises.specs.Replays.{callsIn, wholePart, linesBy}
-use Rattle.promises.specs.laws.Replays.{trace-bytes, replay-run, replay-lines, broken-lines, broken-image}
+use Rattle.promises.specs.Replays.{callsIn, wholePart, linesBy, PlaysUpTo}
+use Rattle.promises.specs.laws.Replays.{trace-bytes, plays-up-to, replay-run, replay-lines, broken-lines, broken-image}
 use Rattle.promises.specs.Partings.{firstEntries, PlaysAsFirst}
 use Rattle.promises.specs.laws.Partings.{same-first, part-plays-as-first, part-plays-as-second}
 use Rattle.promises.specs.Examples.{All, holds, table}
@@ -392,6 +392,11 @@ replay-is-its-calls t bytes = (replay-run t bytes, replay-lines t bytes)
 
 pub replay-meets-demand-3 : (t : List ℕ) → Bytes t → Demand3 freshRecord (run (start freshSession) (callsIn t))
 replay-meets-demand-3 t bytes = undo-over-any-calls (callsIn t) (trace-bytes t bytes)
+
+-- said of the bytes: the whole entries are a beginning of the trace, each as long as its kind fixes; they are played; what stands where they end is no kind, or a kind whose
+-- entry is longer than what is left, and that offset is told (Replays.antt)
+pub replay-plays-up-to-the-break : (t : List ℕ) → Bytes t → PlaysUpTo t
+replay-plays-up-to-the-break = plays-up-to
 
 -- a broken trace plays exactly as its whole entries do, and then stops
 pub broken-plays-as-whole : (t : List ℕ)

@@ -67,11 +67,11 @@ module _ (t : Table) where
   Proper [] = Unit {0}
   Proper (e ∷ es) = Sized e × Proper es
 
-  -- the bytes that lead to a reading
-  abbrev LeadsTo : Scan → List ℕ → Type 0
+  -- the bytes that lead to a reading; what breaks off is a kind whose entry is longer, or a byte that is no kind
+  abbrev pub LeadsTo : Scan → List ℕ → Type 0
   LeadsTo (between es) j = (j ≡ written es) × Proper es
   LeadsTo (within es k b n) j = (j ≡ written es ++ (k ∷ b)) × Proper es × (t k ≡ suc (length b + suc n))
-  LeadsTo (unknown es) j = ((rest : List ℕ) × (j ≡ written es ++ rest)) × Proper es
+  LeadsTo (unknown es) j = ((k : ℕ) × (more : List ℕ) × (j ≡ written es ++ (k ∷ more)) × (t k ≡ 0)) × Proper es
 
   one-more : (es : List Entry) (b j : List ℕ) (x : ℕ) → j ≡ written es ++ b → j ++ (x ∷ []) ≡ written es ++ (b ++ (x ∷ []))
   one-more es b j x e = ap (λ (l : List ℕ). l ++ (x ∷ [])) e ∙ append-assoc (written es) b (x ∷ [])
@@ -81,7 +81,7 @@ module _ (t : Table) where
 
   leads-opened : (es : List Entry) (j : List ℕ) (k n : ℕ) → t k ≡ n → (j ≡ written es) × Proper es → LeadsTo (opened es k n) (j ++ (k ∷ []))
   unfolding opened written bytesOf
-  leads-opened es j k zero e h = ((k ∷ [], ap (λ (l : List ℕ). l ++ (k ∷ [])) (h .0)), h .1)
+  leads-opened es j k zero e h = ((k, [], ap (λ (l : List ℕ). l ++ (k ∷ [])) (h .0), e), h .1)
   leads-opened es j k (suc zero) e h = (ap (λ (l : List ℕ). l ++ (k ∷ [])) (h .0), (e, h .1))
   leads-opened es j k (suc (suc n)) e h = (ap (λ (l : List ℕ). l ++ (k ∷ [])) (h .0), h .1, e ∙ ap suc (sym (zero-add (suc n))))
 
@@ -90,14 +90,14 @@ module _ (t : Table) where
   leads-eat (between es) j x h = leads-opened es j x (t x) refl h
   leads-eat (within es k b zero) j x h = (one-more es (k ∷ b) j x (h .0), (h .2 ∙ ap suc (sym (length-append b (x ∷ []))), h .1))
   leads-eat (within es k b (suc n)) j x h = (one-more es (k ∷ b) j x (h .0), h .1, h .2 ∙ ap suc (snoc-length b x (suc n)))
-  leads-eat (unknown es) j x h = ((h .0 .0 ++ (x ∷ []), one-more es (h .0 .0) j x (h .0 .1)), h .1)
+  leads-eat (unknown es) j x h = ((h .0 .0, h .0 .1 ++ (x ∷ []), one-more es (h .0 .0 ∷ h .0 .1) j x (h .0 .2), h .0 .3), h .1)
 
   leads-from : (s : Scan) (j xs : List ℕ) → LeadsTo s j → LeadsTo (scanFrom t s xs) (j ++ xs)
   unfolding scanFrom
   leads-from s j [] h = rw append-nil h
   leads-from s j (x ∷ xs) h = rw append-assoc at (leads-from (eat t s x) (j ++ (x ∷ [])) xs (leads-eat s j x h))
 
-  leads : (j : List ℕ) → LeadsTo (scanBy t j) j
+  pub leads : (j : List ℕ) → LeadsTo (scanBy t j) j
   unfolding scanBy written
   leads j = leads-from (between []) [] j (refl, tt)
 
@@ -122,7 +122,7 @@ module _ (t : Table) where
   unfolding entriesOf
   begins (between es) j h = (([], h .0 ∙ sym (append-nil (written es))), h .1)
   begins (within es k b n) j h = ((k ∷ b, h .0), h .1)
-  begins (unknown es) j h = h
+  begins (unknown es) j h = ((h .0 .0 ∷ h .0 .1, h .0 .2), h .1)
 
   module _ (j : List ℕ) where
     pub whole-length : length (written (entriesOf (scanBy t j))) ≤ length j

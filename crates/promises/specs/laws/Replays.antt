@@ -2,7 +2,8 @@
 use Prim.Native.Nat.{ℕ, suc}
 use mathlib.Core.Bool.{Bool, true, false, cond}
 use mathlib.Core.Path.{_≡_, refl, sym, ap, ap₂, subst, _∙_}
-use mathlib.Core.List.{List, [], _∷_, _++_}
+use mathlib.Core.List.{List, [], _∷_, _++_, append-nil}
+use native.Mathlib.Omega.{arith}
 use lib.Dec.{eqb}
 use lib.ListN.{length, getD, take, drop, replicate}
 use lib.Seq.{take-append-seam, drop-append-seam}
@@ -11,8 +12,8 @@ use Rattle.wire.specs.laws.Wire.{bytes-take, bytes-drop}
 use Rattle.wire.specs.laws.Cases.{cond-elim}
 use Rattle.record.specs.declared.Record.{Record}
 use Rattle.record.specs.Record.{freshRecord}
-use Rattle.entries.specs.Entries.{Entry, bytesOf, written, entriesOf, readingOf}
-use Rattle.entries.specs.laws.ByTable.{whole-front}
+use Rattle.entries.specs.Entries.{Entry, bytesOf, written, Scan, between, within, unknown, entriesOf, readingOf}
+use Rattle.entries.specs.laws.ByTable.{Proper, LeadsTo, leads, whole-front}
 use Rattle.trace.specs.Trace.{traceTable, traceScan}
 use Rattle.session.specs.Session.{freshSession}
 use Rattle.session.specs.Road.{Said}
@@ -25,12 +26,12 @@ use Rattle.occ_call.specs.Occ as occs
 use Rattle.occ_call.specs.laws.Why.{answer-beside}
 use Rattle.sbe_call.specs.Sbe as sbes
 use Rattle.undo_call.specs.Undo.{moveCall, undoOn, movedLeft}
-use Rattle.playing.specs.Playing.{Heard, ifWritten, heardWith, occHeard, sbeHeard, undoHeard, heard, line, imageAfter, stopLine, piecesOf}
+use Rattle.playing.specs.Playing.{Heard, ifWritten, heardWith, occHeard, sbeHeard, undoHeard, heard, line, imageAfter, placeText, stopLine, piecesOf}
 use Rattle.playing.specs.Steps.{oldestFirst, imageFrom, linesFrom}
 use Rattle.playing.specs.laws.Steps.{image-by-steps, lines-by-steps, pieces-of-whole, entries-of-whole}
 use Rattle.promises.specs.Calls.{Call, occ, sbe, undo, bufferOf, asks, said}
 use Rattle.promises.specs.History.{Run, did, next-run, run, start, OfBytes, AllOfBytes}
-use Rattle.promises.specs.Replays.{callOf, callsOf, callsIn, wholePart, statusOf, heardOf, linesBy}
+use Rattle.promises.specs.Replays.{callOf, callsOf, callsIn, wholePart, statusOf, heardOf, linesBy, AllSized, StopsAt, at-its-end, no-kind, too-short, PlaysUpTo}
 use Rattle.promises.specs.laws.Demand3.{Inv, next-inv}
 use Rattle.promises.specs.laws.Fresh.{fresh-start}
 use Rattle.promises.specs.laws.Lent.{occ-on, sbe-on, move-on, run-typed}
@@ -134,6 +135,40 @@ module _ (t : List ℕ) (bytes : Bytes t) where
       ap (λ (l : List (List ℕ)). l ++ stopLine (readingOf (traceScan t)))
       (sym (lines-by-steps (entriesOf (traceScan t)))
       ∙ lines-run freshRecord (oldestFirst (entriesOf (traceScan t))) 1 (start freshSession) (trace-bytes t bytes) fresh-start)
+
+-- ---- up to where it breaks
+
+all-sized : (es : List Entry) → Proper traceTable es → AllSized es
+all-sized [] h = tt
+all-sized (e ∷ es) h = (h .0, all-sized es (h .1))
+
+-- what breaks a trace off, by how it was read
+module _ (t : List ℕ) where
+  record Stopped (s : Scan) : Type 0 where
+    after : List ℕ
+    splits : t ≡ written (entriesOf s) ++ after
+    sized : AllSized (entriesOf s)
+    stops : StopsAt (length (written (entriesOf s))) after (stopLine (readingOf s))
+
+  stopped : (s : Scan) → LeadsTo traceTable s t → Stopped s
+  unfolding entriesOf readingOf stopLine placeText
+  stopped (between es) h = record { after = []; splits = h .0 ∙ sym (append-nil (written es)); sized = all-sized es (h .1); stops = at-its-end }
+  stopped (within es k b n) h = record { after = k ∷ b; splits = h .0; sized = all-sized es (h .1); stops = too-short k b (omega (arith, h .2)) }
+  stopped (unknown es) h = record { after = h .0 .0 ∷ h .0 .1; splits = h .0 .2; sized = all-sized es (h .1); stops = no-kind (h .0 .0) (h .0 .1) (h .0 .3) }
+
+pub plays-up-to : (t : List ℕ) → Bytes t → PlaysUpTo t
+plays-up-to t bytes =
+    let s = stopped t (traceScan t) (leads traceTable t) in
+    record {
+      whole = entriesOf (traceScan t);
+      rest = s .after;
+      stop = stopLine (readingOf (traceScan t));
+      splits = s .splits;
+      sized = s .sized;
+      stops = s .stops;
+      image-is = replay-run t bytes;
+      lines-are = replay-lines t bytes;
+    }
 
 -- ---- a broken one
 

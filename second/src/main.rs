@@ -51,12 +51,16 @@ fn trace() -> std::io::Result<ExitCode> {
 /// Where two files part; a file that can't be taken is told instead, the first before the second.
 fn part(first: &str, second: &str) -> std::io::Result<ExitCode> {
     let read = second::part::read_file(first).and_then(|one| Ok((one, second::part::read_file(second)?)));
-    let (text, code) = match read {
-        Ok((one, two)) => (second::part::shared(&one, &two).text(), ExitCode::SUCCESS),
-        Err(line) => (line, ExitCode::FAILURE),
-    };
-    stdout().lock().write_all(text.as_bytes())?;
-    Ok(code)
+    match read {
+        Ok((one, two)) => {
+            stdout().lock().write_all(second::part::shared(&one, &two).text().as_bytes())?;
+            Ok(ExitCode::SUCCESS)
+        }
+        Err(line) => {
+            eprint!("{line}");
+            Ok(ExitCode::FAILURE)
+        }
+    }
 }
 
 fn generate_pair(seed: &str, first: &str, second: &str) -> std::io::Result<()> {

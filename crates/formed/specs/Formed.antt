@@ -1,7 +1,8 @@
 -- Document 01, "A session is well formed if": each rule of a record by itself, and the record's above them.
-use Prim.Native.Nat.{ℕ, zero, suc, _+_, _/_, _%_, _^_}
+use Prim.Native.Nat.{ℕ, zero, suc, _+_, _/_, _%_, _^_, _≤_}
 use mathlib.Core.Bool.{Bool, true, false, cond, not}
 use mathlib.Core.List.{List, [], _∷_}
+use mathlib.Core.Path.{_≡_}
 use lib.ListN.{getD, take, drop}
 use lib.Dec.{ltb, leb, eqb}
 use Rattle.wire.specs.Wire.{allAre}
@@ -95,6 +96,10 @@ fieldsOk r =
 -- two thresholds: "DVFS at most ERROR where neither is 0xFF" (document 02, b); section 2.4.9 has 0xFF as not defined. Document 01 compared it as a number
 unfoldable pub inOrder : ℕ → ℕ → Bool
 inOrder dvfs error = cond (eqb dvfs 0xFF) true (cond (eqb error 0xFF) true (leb dvfs error))
+
+-- the same in plain words
+abbrev pub InOrder : ℕ → ℕ → Type 0
+InOrder dvfs error = (dvfs ≡ 0xFF → ⊥) → (error ≡ 0xFF → ⊥) → dvfs ≤ error
 
 -- document 01's first rule, "DVFS at most ERROR (H)": sessions saved by the base version are judged by it (document 02, m)
 unfoldable pub inOrderFirst : ℕ → ℕ → Bool

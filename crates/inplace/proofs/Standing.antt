@@ -11,7 +11,6 @@ use lib.Seq.{take-all}
 use Rattle.wire.specs.Wire.{allAre, pasted}
 use Rattle.wire.specs.laws.Cases.{else-lt}
 use Rattle.wire.specs.laws.Wire.{take-all-are}
-use Rattle.record.specs.Record.{workedOf}
 use Rattle.change.specs.Change.{putOf, inverseOf}
 use Rattle.change.specs.declared.Edit.{Edit}
 use Rattle.journal.specs.Add.{entryLen, endOf, addedTo, cutFrom}

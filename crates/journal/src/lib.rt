@@ -1,7 +1,7 @@
 // A change as an entry's bytes and back, on any lent bytes: writing one, reading one, judging its values, adding one at the end
 // and cutting it off.
 ghost use mathlib.Core.Path.{_≡_};
-ghost use mathlib.Core.List.{[], _∷_};
+ghost use mathlib.Core.List.{_∷_};
 ghost use Prim.Native.Nat.{_≤_, _+_};
 ghost use lib.ListN.{length, take, drop};
 ghost use Rattle.wire.specs.Wire.{pasted, toBE};

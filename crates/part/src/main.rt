@@ -14,12 +14,16 @@ fn room() -> [u8; MOST + 1] {
     [0; MOST + 1]
 }
 
+fn complain(s: &[u8]) {
+    io::write_all(STDERR_FILENO, s);
+}
+
 // Says why a file isn't taken, and answers a length that no trace has.
 fn refuse(name: &[u8], why: &[u8], space: &mut [u8]) -> usize
     ensures { λ r. ⌜ Counts r (now (space .exit)) ⌝ }
 {
-    print(name);
-    print(why);
+    complain(name);
+    complain(why);
     space.len()
 }
 
@@ -67,7 +71,7 @@ fn tell(first: &[u8], second: &[u8]) {
 
 fn main() {
     if os::arg_count() != 3 {
-        io::write_all(STDERR_FILENO, b"usage: part FIRST SECOND\n");
+        complain(b"usage: part FIRST SECOND\n");
         return;
     }
     let mut first = room();

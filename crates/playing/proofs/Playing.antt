@@ -3,7 +3,7 @@ use Prim.Native.Nat.{ℕ, zero, suc, _+_, _-_, _*_, _/_, _≤_, _<_}
 use mathlib.Core.Bool.{Bool, true, false, not}
 use mathlib.Core.Path.{_≡_, refl, sym, ap, ap₂, subst, _∙_}
 use mathlib.Core.List.{List, [], _∷_, _++_}
-use native.Mathlib.Nat.{add-sub-cancel-left, zero-add}
+use native.Mathlib.Nat.{add-sub-cancel-left}
 use native.Mathlib.Numerals.{add-one}
 use native.Mathlib.Omega.{arith}
 use denote.Enum.Declared.{tagOf}
@@ -16,7 +16,7 @@ use Rattle.wire.specs.Conditions.{_and_}
 use Rattle.wire.specs.laws.Wire.{tail-part, joined-append}
 use Rattle.wire.specs.laws.Cases.{if-not, else-not, if-ne, else-ne, if-lt, else-lt, else-eq, same-le}
 use Rattle.io.specs.Counts.{Counts}
-use Rattle.text.specs.Text.{Sheet, sheet, putAll}
+use Rattle.text.specs.Text.{sheet, putAll}
 use Rattle.text.specs.laws.Pieces.{pieces, fitting}
 use Rattle.entries.specs.declared.Reading.{Reading}
 use Rattle.entries.specs.declared.Next.{Next}

@@ -17,7 +17,7 @@ use Rattle.change.specs.Logs.{pendingOf, removeAt, insertAt}
 use Rattle.change.specs.With.{withState, withRole, withCaps, withThrottles, withUser, withThermal, withLogs, withMask, withDeadman, withAreas}
 use Rattle.change.specs.Change.{putOf, inverseOf}
 use Rattle.change.specs.declared.Edit.{Edit}
-use Rattle.entries.specs.Entries.{Entry, bytesOf, written}
+use Rattle.entries.specs.Entries.{Entry, written}
 use Rattle.journal.specs.Bytes.{clearedBody, capsBody, throttlesBody, deadmanBody, areasBody, entryFor}
 use Rattle.journal.specs.declared.Way.{Way}
 use Rattle.journal.specs.declared.Way.the-variants.{Before, After}

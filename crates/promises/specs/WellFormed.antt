@@ -10,11 +10,11 @@ use Rattle.record.specs.declared.Area.{Area}
 use Rattle.record.specs.declared.Caps.{Caps}
 use Rattle.record.specs.declared.Deadman.{Deadman}
 use Rattle.record.specs.declared.Log.{Log}
-use Rattle.record.specs.declared.Record.{Record}
 use Rattle.record.specs.declared.Throttles.{Throttles}
 use Rattle.change.specs.declared.Change.{Change}
 use Rattle.change.specs.declared.Change.the-variants.{Clear, Unclear, SetState, SetRole, SetCaps, SetUser, SetThermal, SetThrottles, Reset, Unreset, SetMask, SetDeadman, SetAreas}
 use Rattle.change.specs.declared.Tables.{Tables}
+use Rattle.formed.specs.Formed.{InOrder}
 use Rattle.entries.specs.Entries.{Entry, written, bodyLen}
 use Rattle.journal.specs.Read.{foundFor, tablesIn}
 use Rattle.journal.specs.declared.Found.{Found}
@@ -60,9 +60,6 @@ AreaHolds a =
     (a .size ≡ 0 → a .address ≡ 0) and ((a .size ≡ 0 → ⊥) → (a .address % 128 ≡ 0) and (a .address + a .size ≤ 2 ^ 64) and (a .size % 128 ≡ 0))
 
 -- ---- "thresholds obey the thermal rule"; document 02, b: "DVFS at most ERROR where neither is 0xFF"
-
-abbrev pub InOrder : ℕ → ℕ → Type 0
-InOrder dvfs error = (dvfs ≡ 0xFF → ⊥) → (error ≡ 0xFF → ⊥) → dvfs ≤ error
 
 abbrev pub ThermalHolds : ℕ → List ℕ → Type 0
 ThermalHolds got t =

@@ -1,12 +1,11 @@
 -- Document 01, formats 0x12 and 0x13: the conditions on the sets that follow the count, and the tables that they give.
 use Prim.Native.Nat.{ℕ, zero, suc, _+_, _*_, _^_, _<_, _≤_}
-use mathlib.Core.Bool.{true}
 use mathlib.Core.Path.{_≡_}
 use mathlib.Core.List.{List}
 use lib.ListN.{length, getD, take, drop, replicate}
 use Rattle.wire.specs.Conditions.{_and_}
 use Rattle.record.specs.declared.Throttles.{Throttles}
-use Rattle.formed.specs.Formed.{inOrder}
+use Rattle.formed.specs.Formed.{InOrder}
 use Rattle.sets.specs.Sets.{bitOf}
 
 -- the i-th part of w bytes
@@ -45,7 +44,7 @@ pub record SentPairs (n : ℕ) (l : List ℕ) (t : Throttles) : Type 0 where
 
 -- "FRU 0 to 2, none twice, DVFS at most ERROR (H)", since document 02, b "where neither is 0xFF": four bytes a set, FRU, DVFS and ERROR first
 abbrev pub InFrus : List ℕ → Type 0
-InFrus s = (getD s 0 0 ≤ 2) and (inOrder (getD s 1 0) (getD s 2 0) ≡ true)
+InFrus s = (getD s 0 0 ≤ 2) and InOrder (getD s 1 0) (getD s 2 0)
 
 abbrev pub fruOf : List ℕ → ℕ
 fruOf s = getD s 0 0

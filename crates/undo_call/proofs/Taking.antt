@@ -9,10 +9,9 @@ use lib.Dec.{ltb}
 use lib.ListN.{length, take, drop, replicate, length-drop, length-replicate}
 use borrow.Author.Tests.{not-false, ltb-false}
 use lib.Seq.{length-take-le, take-take, drop-drop}
-use Rattle.wire.specs.laws.Cases.{cond-cases, if-b, else-b, if-eq, else-eq, if-ne, else-ne}
+use Rattle.wire.specs.laws.Cases.{cond-cases, if-b, else-b, if-eq, else-eq}
 use Rattle.wire.specs.Wire.{pasted, Bytes}
 use Rattle.wire.specs.laws.Wire.{part-of-part, length-pasted}
-use Rattle.record.specs.Record.{workedOf}
 use Rattle.record.specs.declared.Record.{Record}
 use Rattle.change.specs.Change.{kindOf, putOf, inverseOf}
 use Rattle.change.specs.declared.Change.{Change}
@@ -38,7 +37,7 @@ use Rattle.session.specs.laws.Session.{formed}
 use Rattle.session.specs.declared.Session.{Session}
 use Rattle.links.specs.laws.Links.{kind-of-back}
 use Rattle.image.specs.declared.Head.{Head}
-use Rattle.image.specs.Image.{headRenewed, imageOf, partAt, headIn, storeAt, storeIn, withStore, journalIn, redoIn, sessionIn, sessionOf}
+use Rattle.image.specs.Image.{headRenewed, imageOf, partAt, headIn, storeAt, storeIn, withStore, journalIn, redoIn, sessionIn}
 use Rattle.layout.specs.Layout.{journalAt, redoAt, imageLength}
 use Rattle.image.specs.laws.Stores.{store-low, store-long, store-back, store-above, store-below}
 use Rattle.image.proofs.Standing.{length-store}

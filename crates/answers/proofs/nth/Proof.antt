@@ -1,6 +1,5 @@
 -- `answers::nth` meets its contract: the word wanted is the one left to count to among the words left. Assumes nothing.
 use Prim.Native.Nat.{_-_}
-use native.Mathlib.Omega.{arith}
 use mathlib.Core.Path.{_≡_, refl}
 use mathlib.Core.List.{[]}
 use lib.ListN.{length, drop, getD}

@@ -1,6 +1,5 @@
 -- `answers::put_bell` meets its contract: its parts are put one after the other. Assumes nothing.
 use Rattle.answers.specs.Answers.{bellText}
-use mathlib.Core.List.{[], _∷_}
 use mathlib.Core.Path.{refl}
 use mathlib.Core.Path.{refl, ap, _∙_}
 use Rattle.text.specs.Text.{hexes}

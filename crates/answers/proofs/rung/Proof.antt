@@ -1,6 +1,4 @@
 -- `answers::rung` meets its contract: the answer decides whether response and doorbell follow. Assumes nothing.
-use mathlib.Core.List.{_++_}
-use Rattle.text.specs.Text.{putAll, spaced}
 use Rattle.answers.specs.Answers.{rungText}
 use Rattle.answers.proofs.Saying.{refused, accepted}
 use Rattle.text.specs.laws.Pieces.{piece, pieces, last-piece, same-pieces}

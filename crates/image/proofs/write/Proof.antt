@@ -1,5 +1,4 @@
 use mathlib.Core.Path.{refl, _∙_}
-use native.Mathlib.Omega.{arith}
 use Rattle.wire.specs.laws.Cases.{if-ne, else-ne}
 use Rattle.image.specs.Image.{imageOf, sessionIn, writtenTo}
 use borrow.Author.Needs.{needs}

@@ -8,9 +8,9 @@ use lib.ListN.{length, drop, length-drop}
 use lib.Seq.{length-take-le}
 use Rattle.wire.specs.Wire.{Bytes}
 use Rattle.wire.specs.laws.Wire.{be-fits, bytes-take, bytes-drop}
-use Rattle.links.specs.Typed.{TypedRecord, TypedSession}
+use Rattle.links.specs.Typed.{TypedRecord}
 use Rattle.layout.specs.Layout.{imageLength}
-use Rattle.image.specs.Image.{partAt, numberAt, capsIn, throttlesIn, receivedIn, logAt, logsIn, deadmanIn, areasIn, recordIn, workedIn, headIn, sessionIn, sessionOf}
+use Rattle.image.specs.Image.{partAt, numberAt, capsIn, throttlesIn, logsIn, deadmanIn, areasIn, recordIn, workedIn, headIn, sessionIn, sessionOf}
 use Rattle.image.specs.laws.Image.{Typed}
 
 module _ (b : List ℕ) (bytes : Bytes b) (long : length b ≡ imageLength) where

@@ -1,10 +1,7 @@
-use mathlib.Core.Path.{_≡_, ap, _∙_}
-use Prim.Native.Nat.{ℕ}
+use mathlib.Core.Path.{_≡_}
 use native.Mathlib.Omega.{arith}
 use lib.ListN.{length}
-use Rattle.journal.specs.Add.{endOf}
 use Rattle.image.specs.Image.{journalIn}
-use Rattle.image.proofs.Standing.{length-store}
 use Rattle.inplace.proofs.Standing.{added-in}
 use borrow.Author.Needs.{needs}
 use Rattle.inplace.proofs.add.Statement.{statement}

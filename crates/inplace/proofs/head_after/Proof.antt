@@ -1,7 +1,6 @@
 use mathlib.Core.Path.{ap, _∙_}
-use Prim.Native.Nat.{ℕ, _+_}
+use Prim.Native.Nat.{_+_}
 use native.Mathlib.Omega.{arith}
-use Rattle.record.specs.declared.Record.{Record}
 use Rattle.change.specs.declared.Changed.{Changed}
 use Rattle.image.specs.Image.{headRenewed}
 use Rattle.inplace.specs.InPlace.{headAfter}

@@ -1,20 +1,16 @@
 -- What the call `occ` asks: a refusal, a reply, or a change with the reply of success; no doorbell. Assumes nothing.
 use Prim.Native.Nat.{ℕ}
-use mathlib.Core.Bool.{not}
 use mathlib.Core.List.{List, []}
 use mathlib.Core.Path.{refl}
-use lib.Dec.{eqb}
 use lib.ListN.{length, getD}
-use Rattle.wire.specs.laws.Cases.{cond-elim}
 use Rattle.change.specs.declared.Tables.{Tables}
-use Rattle.packet.specs.Packet.{packetStatus, dataOf, replied}
-use Rattle.occ.specs.Judge.{plainly, judgeOf}
+use Rattle.packet.specs.Packet.{replied}
 use Rattle.occ.specs.declared.Judged.{Judged}
 use Rattle.occ.specs.declared.Verdict.{Verdict}
 use Rattle.occ.specs.declared.Verdict.the-variants.{Refuse, Poll, Make}
 use Rattle.session.specs.laws.Road.{due-cases, Speaks}
 use Rattle.session.specs.declared.Session.{Session}
-use Rattle.occ_call.specs.Occ.{occRefusal, verdictAsks, judgedAsks, askedFor, askedOf, occRead, occAsks}
+use Rattle.occ_call.specs.Occ.{occRefusal, verdictAsks, judgedAsks, askedOf, occRead, occAsks}
 
 module _ (s : Session) (sender : ℕ) (c d : List ℕ) where
   abbrev Spoken : Judged → Type 0

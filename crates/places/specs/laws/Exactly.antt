@@ -19,7 +19,7 @@ use Rattle.change.specs.Logs.{pendingOf, findOf}
 use Rattle.change.specs.declared.Change.{Change}
 use Rattle.change.specs.declared.Tables.{Tables}
 use Rattle.formed.specs.Formed.{inOrder}
-use Rattle.formed.specs.laws.Thresholds.{out-of-order}
+use Rattle.formed.specs.laws.Thresholds.{order-exactly, out-of-order}
 use Rattle.sets.specs.Sets.{emptySets, setsOf, emptyFrus, frusOf}
 use Rattle.sets.specs.Conditions.{setAt, InPairs, InFrus, SetsOk, FrusOk}
 use Rattle.sets.specs.laws.Exactly.{sets-exactly, frus-exactly}
@@ -204,7 +204,7 @@ module _ (d : List ℕ) where
       unfolding ThermalFaults
       in-frus i h = (
         at-most 2 _ (λ k. sound _ (i, h, inl (refl, omega (arith, fru i, k)))),
-        ordered i ∙ holding _ (λ e. sound _ (i, h, inr (inr (refl, out-of-order _ _ .0 e)))),
+        order-exactly _ _ .0 (ordered i ∙ holding _ (λ e. sound _ (i, h, inr (inr (refl, out-of-order _ _ .0 e))))),
       )
 
       sound-frus : FrusOk n (drop 3 d)
@@ -217,7 +217,7 @@ module _ (d : List ℕ) where
         let i = f .0 in
         let own = ok .0 i (f .1) in
         ⊎-elim (λ h. omega (arith, own .0, fru i, h .1))
-        (⊎-elim (λ h. ok .1 (h .1 .0) i (h .1 .1) (f .1) (fru (h .1 .0) ∙ h .1 .2 ∙ sym (fru i))) (λ h. true≢false (sym (own .1) ∙ ordered i ∙ out-of-order _ _ .1 (h .1))))
+        (⊎-elim (λ h. ok .1 (h .1 .0) i (h .1 .1) (f .1) (fru (h .1 .0) ∙ h .1 .2 ∙ sym (fru i))) (λ h. true≢false (sym (order-exactly _ _ .1 (own .1)) ∙ ordered i ∙ out-of-order _ _ .1 (h .1))))
         (f .2)
 
 -- nothing is found exactly where there is nothing to find

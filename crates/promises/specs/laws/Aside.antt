@@ -12,7 +12,7 @@ use Rattle.record.specs.declared.Record.{Record}
 use Rattle.change.specs.Change.{kindOf}
 use Rattle.change.specs.declared.Edit.{Edit}
 use Rattle.journal.specs.Ways.{byWay}
-use Rattle.journal.specs.declared.Way.the-variants.{Before, After}
+use Rattle.journal.specs.declared.Way.the-variants.{Before}
 use Rattle.session.specs.Session.{wellFormed, carriedOf, madeOf}
 use Rattle.session.specs.Road.{Asks, refuses, tells, makes, moves, due, settled}
 use Rattle.session.specs.laws.Road.{Speaks}

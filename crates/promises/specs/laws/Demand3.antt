@@ -30,7 +30,7 @@ use Rattle.sbe_call.specs.Sbe as sbes
 use Rattle.sbe_call.specs.laws.Speaks.{sbe-speaks}
 use Rattle.undo_call.specs.Undo.{moveAsks, moveCall, undoCall, redoCall}
 use Rattle.promises.specs.Calls.{Call, occ, sbe, undo, redo, bufferOf, asks, said}
-use Rattle.promises.specs.History.{Deed, keeps, adds, strikes, unstrikes, adding, deedBy, deed, marked, undosAfter, sinceAfter, applied, Run, did, next-run, run, OfBytes, AllOfBytes, Demand3}
+use Rattle.promises.specs.History.{Deed, adds, strikes, unstrikes, adding, deedBy, deed, marked, undosAfter, sinceAfter, applied, Run, did, next-run, run, OfBytes, AllOfBytes, Demand3}
 use Rattle.promises.specs.laws.Sound.{Sound, occ-sound, sbe-sound}
 use Rattle.promises.specs.laws.ByHistory.{standing, journalOf, byHistory, own-history, Sane, history-formed}
 use Rattle.promises.specs.laws.Stores.{padded}

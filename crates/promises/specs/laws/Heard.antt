@@ -36,7 +36,7 @@ use Rattle.occ_call.specs.Occ as occs
 use Rattle.occ_call.specs.laws.Why.{asked-read}
 use Rattle.sbe_call.specs.Sbe as sbes
 use Rattle.undo_call.specs.Undo.{moveAsks}
-use Rattle.promises.specs.Calls.{Call, occ, sbe, undo, bufferOf, asks, said}
+use Rattle.promises.specs.Calls.{Call, occ, bufferOf, asks, said}
 use Rattle.promises.specs.History.{Deed, keeps, adds, strikes, unstrikes, adding, deedBy, deed, OfBytes}
 use Rattle.promises.specs.laws.Shifted.{shiftedChange, shiftedEdit, choose}
 use Rattle.promises.specs.Shifted.{shiftedRecord}

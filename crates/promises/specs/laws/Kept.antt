@@ -9,7 +9,7 @@ use Rattle.session.specs.Session.{carriedOf}
 use Rattle.session.specs.Road.{Asks, refuses, tells, makes, moves, Said, kept, done, carriedSays, settled}
 use Rattle.session.specs.declared.Session.{Session}
 use Rattle.promises.specs.Calls.{Call, bufferOf, asks, said}
-use Rattle.promises.specs.History.{Deed, keeps, adds, strikes, unstrikes, adding, deedBy, deed}
+use Rattle.promises.specs.History.{Deed, keeps, adding, deedBy, deed}
 use Rattle.promises.specs.NoTrace.{handedOn, AllKeep}
 use Rattle.promises.specs.laws.Effects.{added-not, struck-not, unstruck-not}
 

@@ -12,7 +12,6 @@ use Rattle.record.specs.declared.Record.{Record}
 use Rattle.change.specs.declared.Edit.{Edit}
 use Rattle.record.specs.Widths.{CapsFit}
 use Rattle.session.specs.Session.{freshSession, renewed}
-use Rattle.session.specs.Road.{settled}
 use Rattle.session.specs.declared.Session.{Session}
 use Rattle.occ_call.specs.Occ as occs
 use Rattle.sbe_call.specs.Sbe as sbes

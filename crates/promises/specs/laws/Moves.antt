@@ -14,14 +14,14 @@ use Rattle.formed.specs.Formed.{recordOk, editOk}
 use Rattle.formed.specs.laws.Formed.{sound, inverse-ok}
 use Rattle.entries.specs.Entries.{bodyLen, bytesOf, written}
 use Rattle.entries.specs.laws.Entries.{scan-proper}
-use Rattle.journal.specs.Bytes.{entryFor, entryBytes}
+use Rattle.journal.specs.Bytes.{entryBytes}
 use Rattle.journal.specs.Read.{valuesOk, entryOk}
 use Rattle.journal.specs.Add.{entryLen}
 use Rattle.journal.specs.Ways.{byWay, other}
 use Rattle.journal.specs.declared.Found.{Found}
 use Rattle.journal.specs.declared.Way.{Way}
 use Rattle.journal.specs.declared.Way.the-variants.{Before, After}
-use Rattle.journal.specs.laws.Bodies.{Writable, length-body}
+use Rattle.journal.specs.laws.Bodies.{Writable}
 use Rattle.journal.specs.laws.Ends.{length-entry}
 use Rattle.journal.specs.laws.Says.{Holds, Says, found-says}
 use Rattle.session.specs.Session.{wellFormed, renewed}

@@ -3,10 +3,8 @@ use Prim.Native.Nat.{ℕ, zero, suc, _+_, _/_, _%_, _^_, _≤_, _<_}
 use mathlib.Core.Bool.{Bool, true, false, cond, not, false≢true}
 use mathlib.Core.List.{List, [], _∷_}
 use mathlib.Core.Logic.{_↔_}
-use mathlib.Core.Path.{_≡_, refl, sym, ap, subst, _∙_}
-use native.Mathlib.Omega.{arith}
-use lib.Dec.{eqb, leb, ltb}
-use lib.ListN.{length, take, drop}
+use mathlib.Core.Path.{_≡_, refl, ap, _∙_}
+use lib.ListN.{take, drop}
 use Rattle.wire.specs.Conditions.{_and_}
 use Rattle.wire.specs.Wire.{allAre}
 use Rattle.wire.specs.laws.Chains.{holds, eq-holds, le-holds, eq-passes, lt-passes, le-passes, not-passes, unless, if-needed, or-else}
@@ -19,7 +17,8 @@ use Rattle.record.specs.declared.Throttles.{Throttles}
 use Rattle.change.specs.declared.Change.{Change}
 use Rattle.change.specs.declared.Change.the-variants.{Clear, Unclear, SetState, SetRole, SetCaps, SetUser, SetThermal, SetThrottles, Reset, Unreset, SetMask, SetDeadman, SetAreas}
 use Rattle.change.specs.declared.Tables.{Tables}
-use Rattle.formed.specs.Formed.{stateOk, flagOk, roleOk, capsOk, deadmanOk, pairOk, pairsOk, absentZero, throttlesOk, multipleOf128, inMemory, areaOk, areasOk, inOrder, thermalRule, thermalOk, nextOk, reasonOk, unused, logOk, logsAbove, logsOk, clearedOk, madeOk, unresetOk, changeOk}
+use Rattle.formed.specs.Formed.{stateOk, flagOk, roleOk, capsOk, deadmanOk, pairOk, pairsOk, absentZero, throttlesOk, multipleOf128, inMemory, areaOk, areasOk, thermalRule, thermalOk, nextOk, reasonOk, unused, logOk, logsAbove, logsOk, clearedOk, madeOk, unresetOk, changeOk}
+use Rattle.formed.specs.laws.Thresholds.{or-so, order-exactly}
 use Rattle.formed.specs.laws.Formed.{sound, sound-ok}
 use Rattle.entries.specs.Entries.{Entry, between, written, scanFrom, scanBy, scan}
 use Rattle.entries.specs.laws.Entries.{Proper, read-append, scan-written, scan-proper}
@@ -28,10 +27,10 @@ use Rattle.journal.specs.declared.Found.{Found}
 use Rattle.journal.specs.declared.Found.the-variants.{Good, Bad}
 use Rattle.journal.specs.declared.Way.{Way}
 use Rattle.journal.specs.declared.Way.the-variants.{Before, After}
-use Rattle.session.specs.Session.{storeOk, wellFormed}
-use Rattle.session.specs.laws.Session.{Store, store, store-ok, formed, formed-ok}
+use Rattle.session.specs.Session.{wellFormed}
+use Rattle.session.specs.laws.Session.{Store, formed, formed-ok}
 use Rattle.session.specs.declared.Session.{Session}
-use Rattle.promises.specs.WellFormed.{Flag, EachIs, StateHolds, RoleHolds, CapsHold, DeadmanHolds, PairsHold, ThrottlesHold, AreaHolds, InOrder, ThermalHolds, Reason, Unused, LogsRise, ChangeHolds, SaysWell, EntriesHold, StoreHolds, WellFormed}
+use Rattle.promises.specs.WellFormed.{EachIs, StateHolds, RoleHolds, CapsHold, DeadmanHolds, PairsHold, ThrottlesHold, AreaHolds, ThermalHolds, Reason, Unused, LogsRise, ChangeHolds, SaysWell, EntriesHold, StoreHolds, WellFormed}
 use Rattle.promises.specs.laws.FormedStores.{reads}
 
 abbrev Holds : Bool → Type 0 → Type 0
@@ -47,11 +46,6 @@ either-way {t = false} p q r = (λ h. (λ k. absurd (false≢true (p .1 k)), λ 
 other-way : {t x y : Bool} {T X Y : Type 0} → Holds t T → Holds x X → Holds y Y → Holds (cond (not t) x y) (((T → ⊥) → X) and (T → Y))
 other-way {t = true} p q r = (λ h. (λ k. absurd (k (p .0 refl)), λ k. r .0 h), λ h. r .1 (h .1 (p .0 refl)))
 other-way {t = false} p q r = (λ h. (λ k. q .0 h, λ k. absurd (false≢true (p .1 k))), λ h. q .1 (h .0 (λ k. false≢true (p .1 k))))
-
--- where the test holds nothing more is asked
-or-so : {t y : Bool} {T Y : Type 0} → Holds t T → Holds y Y → Holds (cond t true y) ((T → ⊥) → Y)
-or-so {t = true} p r = (λ h k. absurd (k (p .0 refl)), λ h. refl)
-or-so {t = false} p r = (λ h k. r .0 h, λ h. r .1 (h (λ k. false≢true (p .1 k))))
 
 -- both
 and-so : {t x : Bool} {T X : Type 0} → Holds t T → Holds x X → Holds (cond t x false) (T and X)
@@ -108,10 +102,6 @@ area-exactly a =
 areas-exactly : (a : Areas) → Holds (areasOk a) (AreaHolds (a .ffdc) and AreaHolds (a .pass))
 unfolding areasOk
 areas-exactly a = first (area-exactly (a .ffdc)) (area-exactly (a .pass))
-
-pub order-exactly : (dvfs error : ℕ) → Holds (inOrder dvfs error) (InOrder dvfs error)
-unfolding inOrder
-order-exactly dvfs error = or-so (eq-holds dvfs 0xFF) (or-so (eq-holds error 0xFF) (le-holds dvfs error))
 
 thermal-exactly : (got : ℕ) (t : List ℕ) → Holds (thermalOk got t) (ThermalHolds got t)
 unfolding thermalOk flagOk thermalRule
@@ -186,8 +176,7 @@ module _ (w : Way) where
   unfolding allOk entryOk written scanBy scanFrom
   entries-read [] h = (refl, refl)
   entries-read (e ∷ es) h =
-      let r = entries-read es (h .1 .1 .1) in
-      (
+      let r = entries-read es (h .1 .1 .1) in (
         read-append (written es) es e (r .0) (h .0) (h .1 .0),
         and-so (says-exactly (tablesIn (e .kind) (e .body)) (foundFor w (e .kind) (e .body))) itself .1 (h .1 .1 .0, r .1),
       )

@@ -9,7 +9,8 @@ use native.Mathlib.Nat.{two-pow-succ, pow-succ', div-div-eq-div-mul, div-one, ze
 use native.Mathlib.Omega.{arith}
 use borrow.Author.Tests.{not-true, not-false}
 use lib.ListN.{getD, take, drop}
-use Rattle.formed.specs.Formed.{inOrder}
+use Rattle.formed.specs.Formed.{InOrder}
+use Rattle.formed.specs.laws.Thresholds.{order-exactly}
 use Rattle.sets.specs.declared.Sets.{Sets}
 use Rattle.sets.specs.declared.Frus.{Frus}
 use Rattle.sets.specs.Sets.{bitOf, emptySets, badSets, withPair, oneSet, setsOf, emptyFrus, badFrus, withFru, oneFru, frusOf}
@@ -218,12 +219,12 @@ abbrev pub frusHeld : Frus → ℕ
 frusHeld t = t .seen
 
 pub one-fru : (t : Frus) (s : List ℕ)
-    → Ends frusRead (oneFru t s) ((t .ok ≡ true) and (getD s 0 0 ≤ 2) and (inOrder (getD s 1 0) (getD s 2 0) ≡ true) and (bitOf (t .seen) (fruOf s) ≡ 0)) (withFru t (fruOf s) (take 3 (drop 1 s)))
+    → Ends frusRead (oneFru t s) ((t .ok ≡ true) and (getD s 0 0 ≤ 2) and InOrder (getD s 1 0) (getD s 2 0) and (bitOf (t .seen) (fruOf s) ≡ 0)) (withFru t (fruOf s) (take 3 (drop 1 s)))
 unfolding oneFru badFrus withFru
 one-fru t s =
     ends-on frusRead t
     (ends-unless frusRead refl (lt-passes _ _)
-    (ends-unless frusRead refl (not-passes (λ h. h, λ h. h))
+    (ends-unless frusRead refl (not-passes (order-exactly _ _))
     (ends-last frusRead refl (not-passes (eq-holds _ _)) refl)))
 
 pub fru-stepped : Stepped frus-parted frusRead frusHeld InFrus fruOf

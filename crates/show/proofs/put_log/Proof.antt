@@ -2,7 +2,7 @@
 use mathlib.Core.Path.{refl}
 use Rattle.text.specs.Text.{putAll}
 use Rattle.wire.specs.laws.Cases.{if-eq, else-eq}
-use Rattle.show.specs.Show.{logText, numberText}
+use Rattle.show.specs.Show.{logText}
 use Rattle.text.specs.laws.Pieces.{piece, pieces, last-piece, same-pieces}
 use borrow.Author.Needs.{needs}
 use Rattle.show.proofs.put_log.Statement.{statement}

@@ -1,5 +1,5 @@
 -- `show::put_named` meets its contract: its parts are put one after the other. Assumes nothing.
-use Rattle.show.specs.Show.{namedText, numberText}
+use Rattle.show.specs.Show.{namedText}
 use Rattle.text.specs.laws.Pieces.{piece, pieces, last-piece}
 use borrow.Author.Needs.{needs}
 use Rattle.show.proofs.put_named.Statement.{statement}

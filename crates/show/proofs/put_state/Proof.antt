@@ -1,5 +1,5 @@
 -- `show::put_state` meets its contract: its parts are put one after the other. Assumes nothing.
-use Rattle.show.specs.Show.{stateText, numberText}
+use Rattle.show.specs.Show.{stateText}
 use Rattle.text.specs.laws.Pieces.{piece, pieces, last-piece}
 use borrow.Author.Needs.{needs}
 use Rattle.show.proofs.put_state.Statement.{statement}

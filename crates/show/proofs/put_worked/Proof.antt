@@ -1,5 +1,5 @@
 -- `show::put_worked` meets its contract: its parts are put one after the other. Assumes nothing.
-use Rattle.show.specs.Show.{workedText, namedText, numberText, wantedText}
+use Rattle.show.specs.Show.{workedText}
 use Rattle.text.specs.laws.Pieces.{piece, pieces}
 use borrow.Author.Needs.{needs}
 use Rattle.show.proofs.put_worked.Statement.{statement}

@@ -1,4 +1,3 @@
-use native.Mathlib.Omega.{arith}
 use Rattle.undo_call.proofs.Taking.{entry-moved, long-moved}
 use borrow.Author.Needs.{needs}
 use Rattle.undo_call.proofs.move_entry.Statement.{statement}

@@ -13,7 +13,11 @@ use Rattle.formed.specs.Formed.{recordOk}
 use Rattle.journal.specs.declared.Way.{Way}
 use Rattle.journal.specs.declared.Way.the-variants.{Before, After}
 use Rattle.journal.specs.Ways.{byWay}
-use Rattle.session.specs.Session.{wellFormed, renewed, madeOf}
+use Rattle.journal.specs.declared.End.{End}
+use Rattle.journal.specs.declared.End.the-variants.{At, Full}
+use Rattle.journal.specs.Add.{endOf}
+use Rattle.session.specs.Session.{wellFormed, renewed, madeOf, carriedTo, carriedOf}
+use Rattle.session.specs.Road.{Asks, refuses, tells, makes, moves, kept, done, carriedSays, settled, sessionMoved}
 use Rattle.session.specs.laws.Session.{formed-ok}
 use Rattle.session.specs.declared.Session.{Session}
 use Rattle.links.specs.Typed.{TypedRecord}
@@ -48,6 +52,20 @@ module _ (base : Record) where
 
   pub own-history : (s t : Session) (es : List Edit) (next : ℕ) (rs : List Edit) → t ≡ byHistory s es next rs → t ≡ byHistory t es next rs
   own-history s t es next rs e = e ∙ own-kept s es next rs ∙ ap (λ (x : Session). byHistory x es next rs) (sym e)
+
+  -- so it is after a call, whatever that asks
+  own-carried : (s : Session) (e : Edit) (x : End) (bell : ℕ) (y d : List ℕ) (es : List Edit) (next : ℕ) (rs : List Edit)
+      → byHistory (carriedSays (carriedTo s e x) s bell y d .session) es next rs ≡ byHistory s es next rs
+  unfolding byHistory standing renewed carriedTo carriedSays kept done
+  own-carried s e Full bell y d es next rs = refl
+  own-carried s e (At used) bell y d es next rs = refl
+
+  pub own-settled : (s : Session) (d : List ℕ) (a : Asks) (es : List Edit) (next : ℕ) (rs : List Edit) → byHistory (settled s d a .session) es next rs ≡ byHistory s es next rs
+  unfolding byHistory standing renewed settled kept done sessionMoved carriedOf
+  own-settled s d (refuses n) es next rs = refl
+  own-settled s d (tells bell y) es next rs = refl
+  own-settled s d (makes e bell y) es next rs = own-carried s e (endOf (length (s .journal)) (s .used) (inverseOf (s .held) e)) bell y d es next rs
+  own-settled s d (moves w at e) es next rs = refl
 
   -- each change that is left is undone by its entry, and the record before it is well formed at the next id hi
   pub record Step (hi : ℕ) (e : Edit) (es : List Edit) : Type 0 where

@@ -37,7 +37,7 @@ use Rattle.promises.specs.Marks.{Mark, left, logsMade, undoAnswer}
 use Rattle.promises.specs.History.{adds, strikes, deedBy, deed, marked, sinceAfter, applied, Run, did, next-run, OfBytes}
 use Rattle.promises.specs.laws.Ids.{one-made}
 use Rattle.promises.specs.laws.Stores.{padded, paste-padded, flat, flat-length}
-use Rattle.promises.specs.laws.ByHistory.{standing, backs, byHistory, Kept, Sane, again-stored}
+use Rattle.promises.specs.laws.ByHistory.{standing, backs, byHistory, own-settled, Kept, Sane, again-stored}
 use Rattle.promises.specs.laws.Marks.{off-change, left-change}
 use Rattle.promises.specs.laws.Steps.{undo-asks, undo-history, redo-history, undone-sane}
 use Rattle.promises.specs.laws.Demand3.{redoable, Inv, next-inv, next-is, undo-answer}
@@ -143,8 +143,8 @@ module _ (base : Record) (p : Run) (v : Inv base p) (c : Call) (b : OfBytes c) (
 
   -- what no change touches is as it was before the change
   own-is : byHistory base (q .session) es (suc m) (e ∷ []) ≡ byHistory base (p .session) es (suc m) (e ∷ [])
-  unfolding byHistory standing renewed
-  own-is = refl
+  unfolding next-run did said
+  own-is = own-settled base (p .session) (bufferOf c) (asks (p .session) c) es (suc m) (e ∷ [])
 
   -- the redo store holds that change alone
   one-redoable : padded (flat (e ∷ [])) ≡ pasted 0 (entryBytes e) (replicate 2048 0)

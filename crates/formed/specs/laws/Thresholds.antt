@@ -1,22 +1,13 @@
 -- Laws of two thresholds, DVFS and ERROR: the rule in plain conditions, and what it has of document 01's. Assumes nothing.
-use Prim.Native.Nat.{ℕ, _<_, _≤_}
-use mathlib.Core.Bool.{Bool, true, false, cond, not, false≢true}
+use Prim.Native.Nat.{ℕ, _<_}
+use mathlib.Core.Bool.{true, false, not}
 use mathlib.Core.Path.{_≡_, refl, ap}
-use mathlib.Core.Logic.{_↔_, _⊎_, inr}
+use mathlib.Core.Logic.{_↔_}
 use borrow.Author.Tests.{not-true, leb-true, leb-false, lt-leb}
 use lib.Dec.{leb}
 use Rattle.wire.specs.Conditions.{_and_}
-use Rattle.wire.specs.laws.Chains.{holds, eq-holds, le-holds, eq-passes, or-else, unless}
+use Rattle.wire.specs.laws.Chains.{eq-holds, le-holds, eq-passes, or-so, unless}
 use Rattle.formed.specs.Formed.{inOrder, InOrder, inOrderFirst}
-
-pub in-order-exactly : (dvfs error : ℕ) → (inOrder dvfs error ≡ true) ↔ ((dvfs ≡ 0xFF) ⊎ (error ≡ 0xFF) ⊎ (dvfs ≤ error))
-unfolding inOrder
-in-order-exactly dvfs error = or-else holds refl (eq-holds dvfs 0xFF) (or-else holds refl (eq-holds error 0xFF) (le-holds dvfs error))
-
--- where the first test isn't met, the second
-pub or-so : {t y : Bool} {T Y : Type 0} → (t ≡ true) ↔ T → (y ≡ true) ↔ Y → (cond t true y ≡ true) ↔ ((T → ⊥) → Y)
-or-so {t = true} p r = (λ h k. absurd (k (p .0 refl)), λ h. refl)
-or-so {t = false} p r = (λ h k. r .0 h, λ h. r .1 (h (λ k. false≢true (p .1 k))))
 
 pub order-exactly : (dvfs error : ℕ) → (inOrder dvfs error ≡ true) ↔ InOrder dvfs error
 unfolding inOrder
@@ -33,4 +24,4 @@ out-of-order dvfs error =
 -- what document 01's first rule lets pass, passes
 pub first-in-order : (dvfs error : ℕ) → inOrderFirst dvfs error ≡ true → inOrder dvfs error ≡ true
 unfolding inOrderFirst
-first-in-order dvfs error h = in-order-exactly dvfs error .1 (inr (inr (leb-true dvfs error h)))
+first-in-order dvfs error h = order-exactly dvfs error .1 (λ p q. leb-true dvfs error h)

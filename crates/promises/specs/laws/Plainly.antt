@@ -7,7 +7,7 @@ use mathlib.Core.Path.{_≡_, refl, ap, _∙_}
 use lib.ListN.{take, drop}
 use Rattle.wire.specs.Conditions.{_and_}
 use Rattle.wire.specs.Wire.{allAre}
-use Rattle.wire.specs.laws.Chains.{holds, eq-holds, le-holds, eq-passes, lt-passes, le-passes, not-passes, unless, if-needed, or-else}
+use Rattle.wire.specs.laws.Chains.{holds, eq-holds, le-holds, eq-passes, lt-passes, le-passes, not-passes, or-so, unless, if-needed, or-else}
 use Rattle.record.specs.declared.Area.{Area}
 use Rattle.record.specs.declared.Areas.{Areas}
 use Rattle.record.specs.declared.Caps.{Caps}
@@ -18,7 +18,7 @@ use Rattle.change.specs.declared.Change.{Change}
 use Rattle.change.specs.declared.Change.the-variants.{Clear, Unclear, SetState, SetRole, SetCaps, SetUser, SetThermal, SetThrottles, Reset, Unreset, SetMask, SetDeadman, SetAreas}
 use Rattle.change.specs.declared.Tables.{Tables}
 use Rattle.formed.specs.Formed.{stateOk, flagOk, roleOk, capsOk, deadmanOk, pairOk, pairsOk, absentZero, throttlesOk, multipleOf128, inMemory, areaOk, areasOk, thermalRule, thermalOk, nextOk, reasonOk, unused, logOk, logsAbove, logsOk, clearedOk, madeOk, unresetOk, changeOk}
-use Rattle.formed.specs.laws.Thresholds.{or-so, order-exactly}
+use Rattle.formed.specs.laws.Thresholds.{order-exactly}
 use Rattle.formed.specs.laws.Formed.{sound, sound-ok}
 use Rattle.entries.specs.Entries.{Entry, between, written, scanFrom, scanBy, scan}
 use Rattle.entries.specs.laws.Entries.{Proper, read-append, scan-written, scan-proper}

@@ -3,7 +3,6 @@ use Prim.Native.Nat.{ℕ, zero, suc, _+_, _-_, _*_, _/_, _%_, _^_, _<_, _≤_}
 use mathlib.Core.Bool.{true, not}
 use mathlib.Core.Path.{_≡_, refl, sym, ap, subst, _∙_}
 use mathlib.Core.List.{List, [], _∷_, _++_, append-assoc}
-use mathlib.Core.Logic.{inl, inr, ⊎-elim}
 use native.Mathlib.Nat.{two-pow-succ, pow-succ', div-div-eq-div-mul, div-one, add-assoc, not-suc-le-zero, le-of-suc-le-suc}
 use native.Mathlib.Omega.{arith}
 use borrow.Author.Tests.{ltb-false, eqb-true, not-false}
@@ -16,7 +15,7 @@ use Rattle.wire.specs.laws.Wire.{length-pasted}
 use Rattle.record.specs.declared.Throttles.{Throttles}
 use Rattle.formed.specs.Formed.{pairOk, pairsOk, absentZero, inOrder, thermalRule}
 use Rattle.formed.specs.laws.Formed.{both-hold, hold-both}
-use Rattle.formed.specs.laws.Thresholds.{in-order-exactly}
+use Rattle.formed.specs.laws.Thresholds.{order-exactly}
 use Rattle.sets.specs.declared.Sets.{Sets}
 use Rattle.sets.specs.declared.Frus.{Frus}
 use Rattle.sets.specs.Sets.{bitOf, emptySets, badSets, withPair, oneSet, setsOf, emptyFrus, badFrus, withFru, oneFru, frusOf}
@@ -166,9 +165,7 @@ triples-with (suc p) v o h (next {a = a} {b = b} {c = c} {l = l} e t) =
 
 -- in order with 0, in order with all
 zero-over : (x b : ℕ) → inOrder x 0 ≡ true → inOrder x b ≡ true
-zero-over x b h =
-    in-order-exactly x b .1
-    (⊎-elim inl (⊎-elim (λ e. absurd (omega (arith, e))) (λ k. inr (inr (omega (arith, k))))) (in-order-exactly x 0 .0 h))
+zero-over x b h = order-exactly x b .1 (λ p q. let k : x ≤ 0 = order-exactly x 0 .0 h p (λ e. omega (arith, e)) in omega (arith, k))
 
 set-over : (s : List ℕ) → inOrder (getD s 1 0) (getD s 2 0) ≡ true → Over (take 3 (drop 1 s))
 unfolding pasted

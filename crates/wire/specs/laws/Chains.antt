@@ -41,6 +41,11 @@ pub passed : (t b : Bool) → cond t false b ≡ true → (t ≡ false) × (b �
 passed true b h = absurd (false≢true h)
 passed false b h = (refl, h)
 
+-- where the first test isn't met, the second
+pub or-so : {t y : Bool} {T Y : Type 0} → (t ≡ true) ↔ T → (y ≡ true) ↔ Y → (cond t true y ≡ true) ↔ ((T → ⊥) → Y)
+or-so {t = true} p r = (λ h k. absurd (k (p .0 refl)), λ h. refl)
+or-so {t = false} p r = (λ h k. r .0 h, λ h. r .1 (h (λ k. false≢true (p .1 k))))
+
 -- ---- a chain: `accepts` says of what is chosen whether it accepts
 
 module _ {A : Type 0} (accepts : A → Bool) {x y : A} {P : Type 0} where

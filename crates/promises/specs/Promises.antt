@@ -43,7 +43,7 @@ use Rattle.parting.specs.declared.Refusal.the-variants.{Nothing}
 use Rattle.parting.specs.laws.Refusals.{refusal-is-the-players, refused-shares-nothing}
 use Rattle.parting.specs.laws.Parting.{part-longest, part-number, longest-is-one, equal-share-all, first-empty, second-empty}
 use Rattle.playing.specs.declared.Played.{Played}
-use Rattle.playing.specs.Playing.{StepAllows, PlayAllows, lineRoom, imageAfter, linesOf, stopLine, piecesOf}
+use Rattle.playing.specs.Playing.{StepAllows, PlayAllows, lineRoom, roomFor, imageAfter, linesOf, stopLine, piecesOf, replayed}
 use Rattle.playing.specs.Steps.{oldestFirst, stepsFrom}
 use Rattle.playing.specs.laws.Steps.{steps-whole}
 use Rattle.promises.specs.Calls.{Call, occ, sbe, undo, redo, bufferOf, said}
@@ -81,7 +81,7 @@ use Rattle.bjargolsk.specs.Calls.{answerIn, freshOn, FreshReturns, OccReturns, 
 use Rattle.promises.specs.laws.Lent.{every-image, every-byte, no-session, fresh-image, lent-run, lent-next}
 use Rattle.promises.specs.Lent.{lent, carriedOver, lentRun}
 use Rattle.promises.specs.Replays.{callsIn, wholePart, linesBy, PlaysUpTo}
-use Rattle.promises.specs.laws.Replays.{trace-bytes, plays-up-to, replay-run, replay-lines, broken-lines, broken-image}
+use Rattle.promises.specs.laws.Replays.{trace-bytes, plays-up-to, replay-run, replay-lines, play-leaves, broken-lines, broken-image}
 use Rattle.promises.specs.Partings.{firstEntries, PlaysAsFirst}
 use Rattle.promises.specs.laws.Partings.{same-first, part-plays-as-first, part-plays-as-second}
 use Rattle.promises.specs.Examples.{All, holds, table}
@@ -397,6 +397,11 @@ replay-meets-demand-3 t bytes = undo-over-any-calls (callsIn t) (trace-bytes t b
 -- entry is longer than what is left, and that offset is told (Replays.antt)
 pub replay-plays-up-to-the-break : (t : List ℕ) → Bytes t → PlaysUpTo t
 replay-plays-up-to-the-break = plays-up-to
+
+-- that session and those lines are what `play` leaves in what it is lent, b and d, where b has an image's length and d room for the lines
+pub play-leaves-session-and-lines : (b t d : List ℕ) → length b ≡ imageLength → roomFor (length (entriesOf (traceScan t))) ≤ length d
+    → (replayed b t d .image ≡ imageAfter (entriesOf (traceScan t))) and (replayed b t d .out ≡ pasted 0 (joined (piecesOf t)) d)
+play-leaves-session-and-lines = play-leaves
 
 -- a broken trace plays exactly as its whole entries do, and then stops
 pub broken-plays-as-whole : (t : List ℕ)

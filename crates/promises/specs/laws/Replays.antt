@@ -1,5 +1,5 @@
 -- A trace played on a lent image is its calls, one by one, on sessions. Assumes nothing.
-use Prim.Native.Nat.{ℕ, suc}
+use Prim.Native.Nat.{ℕ, suc, _≤_}
 use mathlib.Core.Bool.{Bool, true, false, cond}
 use mathlib.Core.Path.{_≡_, refl, sym, ap, ap₂, subst, _∙_}
 use mathlib.Core.List.{List, [], _∷_, _++_, append-nil}
@@ -7,9 +7,10 @@ use native.Mathlib.Omega.{arith}
 use lib.Dec.{eqb}
 use lib.ListN.{length, getD, take, drop, replicate}
 use lib.Seq.{take-append-seam, drop-append-seam}
-use Rattle.wire.specs.Wire.{Bytes}
+use Rattle.wire.specs.Wire.{Bytes, pasted, joined}
+use Rattle.wire.specs.Conditions.{_and_}
 use Rattle.wire.specs.laws.Wire.{bytes-take, bytes-drop}
-use Rattle.wire.specs.laws.Cases.{cond-elim}
+use Rattle.wire.specs.laws.Cases.{cond-elim, else-ne, else-lt}
 use Rattle.record.specs.declared.Record.{Record}
 use Rattle.record.specs.Record.{freshRecord}
 use Rattle.entries.specs.Entries.{Entry, bytesOf, written, Scan, between, within, unknown, entriesOf, readingOf}
@@ -20,13 +21,14 @@ use Rattle.session.specs.Road.{Said}
 use Rattle.session.specs.declared.Session.{Session}
 use Rattle.journal.specs.declared.Way.the-variants.{Before}
 use Rattle.image.specs.Image.{imageOf}
+use Rattle.layout.specs.Layout.{imageLength}
 use Rattle.image.specs.laws.Image.{Typed}
 use Rattle.places.specs.declared.Blame.{Blame}
 use Rattle.occ_call.specs.Occ as occs
 use Rattle.occ_call.specs.laws.Why.{answer-beside}
 use Rattle.sbe_call.specs.Sbe as sbes
 use Rattle.undo_call.specs.Undo.{moveCall, undoOn, movedLeft}
-use Rattle.playing.specs.Playing.{Heard, ifWritten, heardWith, occHeard, sbeHeard, undoHeard, heard, line, imageAfter, placeText, stopLine, piecesOf}
+use Rattle.playing.specs.Playing.{Heard, ifWritten, heardWith, occHeard, sbeHeard, undoHeard, heard, line, imageAfter, placeText, stopLine, piecesOf, textOf, roomFor, Replayed, replayed}
 use Rattle.playing.specs.Steps.{oldestFirst, imageFrom, linesFrom}
 use Rattle.playing.specs.laws.Steps.{image-by-steps, lines-by-steps, pieces-of-whole, entries-of-whole}
 use Rattle.promises.specs.Calls.{Call, occ, sbe, undo, bufferOf, asks, said}
@@ -169,6 +171,15 @@ plays-up-to t bytes =
       image-is = replay-run t bytes;
       lines-are = replay-lines t bytes;
     }
+
+-- what `play` leaves is that session, and those lines in its buffer
+
+pub play-leaves : (b t d : List ℕ) → length b ≡ imageLength → roomFor (length (entriesOf (traceScan t))) ≤ length d
+    → (replayed b t d .image ≡ imageAfter (entriesOf (traceScan t))) and (replayed b t d .out ≡ pasted 0 (joined (piecesOf t)) d)
+unfolding replayed textOf
+play-leaves b t d long room =
+    let x : _ ≡ replayed b t d = else-ne _ _ long (else-lt _ _ room refl) in
+    (sym (ap (λ (r : Replayed). r .image) x), sym (ap (λ (r : Replayed). r .out) x))
 
 -- ---- a broken one
 

@@ -7,8 +7,8 @@
  * buffer that is too short. The buffers of one call don't overlap. The proofs take that for granted: where they do, nothing is promised of the
  * result nor of the bytes in them.
  *
- * A call that changes nothing writes nothing to the session: polls, error replies, every answer but 0. Such a session may stand in memory that
- * can't be written. Two threads may so read one session at once; a call that changes it needs it alone.
+ * A call that changes nothing writes nothing to the session: polls, error replies, every answer but 0. That its bytes stay is proved; that nothing is
+ * stored at all is tried, on memory that can't be written (examples/c/edges.c). Polls may so share a session; a call that changes it needs it alone.
  *
  * The archive takes memcpy and memset from the C library, or from you, and nothing else. A call takes under 4 KB of stack.
  *

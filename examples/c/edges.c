@@ -1,4 +1,4 @@
-/* What bjargolsk.h says of its callers' buffers, tried: any alignment, NULL with length 0, sessions that polls, refusals and damage leave unwritten. */
+/* What bjargolsk.h says of its callers' buffers, tried: any alignment, NULL with length 0, sessions that calls which change nothing leave unwritten. */
 #define _DEFAULT_SOURCE /* mmap's MAP_ANONYMOUS */
 #include <stdio.h>
 #include <sys/mman.h>
@@ -49,6 +49,32 @@ static void unwritten(uint8_t *session)
     expect("redo of nothing, read-only", bjargolsk_redo(session, BJARGOLSK_SESSION), 8);
 }
 
+/* A journal that is full: the same request is answered 5, on a page that can't be written too. */
+static void full(uint8_t *session)
+{
+    static const uint8_t mask_request[BJARGOLSK_SBE_REPLY] = {0, 0, 0, 0, 0, 1, 0xD1, 0x03};
+    uint32_t result = 0;
+    bjargolsk_fresh(session, BJARGOLSK_SESSION);
+    while (BJARGOLSK_ANSWER(result) == 0)
+        result = bjargolsk_sbe(session, BJARGOLSK_SESSION, mask_request, sizeof mask_request, reply, BJARGOLSK_SBE_REPLY);
+    expect("full journal", result, 5);
+    mprotect(session, ROOM, PROT_READ);
+    expect("full journal, read-only", bjargolsk_sbe(session, BJARGOLSK_SESSION, mask_request, sizeof mask_request, reply, BJARGOLSK_SBE_REPLY), 5);
+    mprotect(session, ROOM, PROT_READ | PROT_WRITE);
+}
+
+/* An entry that can't be put in (docs/IMAGE.md): a log is to come back at place 1, and none pends; next id 2, 4 bytes of journal. */
+static void damaged(uint8_t *session)
+{
+    static const uint8_t tail[] = {0, 2, 0, 4, 1, 1, 1, 1};
+    bjargolsk_fresh(session, BJARGOLSK_SESSION);
+    for (size_t i = 0; i < sizeof tail; i++)
+        session[235 + i] = tail[i];
+    mprotect(session, ROOM, PROT_READ);
+    expect("undo that can't be, read-only", bjargolsk_undo(session, BJARGOLSK_SESSION), 7);
+    mprotect(session, ROOM, PROT_READ | PROT_WRITE);
+}
+
 int main(void)
 {
     uint8_t *pages = mmap(NULL, ROOM, PROT_READ | PROT_WRITE, MAP_PRIVATE | MAP_ANONYMOUS, -1, 0);
@@ -60,6 +86,9 @@ int main(void)
     }
     bjargolsk_fresh(pages, BJARGOLSK_SESSION);
     nulls(pages);
+    full(pages);
+    damaged(pages);
+    bjargolsk_fresh(pages, BJARGOLSK_SESSION);
     mprotect(pages, ROOM, PROT_READ);
     unwritten(pages);
     return failures != 0;

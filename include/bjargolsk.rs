@@ -1,5 +1,12 @@
 //! The functions of bjargolsk.h for Rust: `#[path = ".."] mod` this file, and link the archive (examples/rust/build.rs).
 
+/// As in bjargolsk.h: goes up with every change of a function, a constant or the image's bytes.
+#[allow(dead_code)]
+pub const BJARGOLSK_VERSION: u32 = 1;
+/// The image's length.
+#[allow(dead_code)]
+pub const BJARGOLSK_SESSION: usize = 4337;
+
 extern "C" {
     pub fn bjargolsk_fresh(session: *mut u8, session_length: usize) -> u32;
     pub fn bjargolsk_occ(

@@ -4,7 +4,7 @@ ghost use lib.ListN.{length};
 ghost use Rattle.io.specs.Counts.{Counts};
 ghost use Rattle.text.specs.Text.{sheet, ascii, putOn, putAll, fromFront, lineEnd};
 ghost use Rattle.places.specs.Reasons.{wordsFor};
-ghost use Rattle.answers.specs.Words.{wordsIn, wordAt, placeOf};
+ghost use Rattle.answers.specs.Words.{placeOf};
 ghost use Rattle.answers.specs.Answers.{lineText, columnText, imageComplaint, complaintText, replyLength, replyText, bellText, rungText, kindText, whyText, imageText, listText, journalText, helpText};
 use orders::Wrong;
 
@@ -21,41 +21,6 @@ pub fn line(out: &mut [u8], s: &[u8]) -> usize
 {
     let end = text::put(out, 0, s);
     put_end(out, end)
-}
-
-// ---- words in one text, each ended by a bar
-
-// None past the last.
-fn nth<'a>(words: &'a [u8], n: usize) -> &'a [u8]
-    ensures { λ r. ⌜ now r ≡ wordAt (now (words .entry)) n ⌝ }
-{
-    let mut at = 0;
-    let mut left = n;
-    while at < words.len() {
-        let rest = &words[at..];
-        let len = text::find(rest, b'|');
-        if left == 0 {
-            return &rest[..len];
-        }
-        at += len + 1;
-        left -= 1;
-    }
-    &words[..0]
-}
-
-// All of them, one after the other.
-fn put_words(out: &mut [u8], at: usize, words: &[u8]) -> usize
-    ensures { λ r. ⌜ sheet (now (out .exit)) r ≡ putAll (sheet (now (out .entry)) at) (wordsIn (now (words .entry))) ⌝ }
-{
-    let mut end = at;
-    let mut i = 0;
-    while i < words.len() {
-        let rest = &words[i..];
-        let len = text::find(rest, b'|');
-        end = text::put(out, end, &rest[..len]);
-        i += len + 1;
-    }
-    end
 }
 
 // ---- what is wrong in a line
@@ -104,7 +69,7 @@ pub fn complaint(out: &mut [u8], what: Wrong, column: usize) -> usize
     if place == 7 {
         return not_an_image(out);
     }
-    let words = nth(
+    let words = words::nth(
         b"line over 32768 bytes|unknown word|nothing more expected|hex digit expected|\
           command over 8192 bytes|number expected|number over 8192|",
         place,
@@ -185,7 +150,7 @@ pub fn with_kind(out: &mut [u8], answer: u8, kind: u8) -> usize
 fn put_reason(out: &mut [u8], at: usize, reason: u8) -> usize
     ensures { λ r. ⌜ sheet (now (out .exit)) r ≡ putOn (sheet (now (out .entry)) at) (ascii (wordsFor reason)) ⌝ }
 {
-    let words = nth(
+    let words = words::nth(
         b"|bad version|bad count|out of range|repeated|clash|not pending|",
         reason as usize,
     );
@@ -237,7 +202,7 @@ pub fn help(out: &mut [u8]) -> usize
     ensures { λ r. ⌜ Counts r (now (out .exit)) ⌝ }
     ensures { λ r. ⌜ sheet (now (out .exit)) r ≡ fromFront (now (out .entry)) helpText ⌝ }
 {
-    let a = put_words(
+    let a = words::put_words(
         out,
         0,
         b"occ SS BYTES      an OCC command from sender SS (10 HTMGT, 20 BMC)\n|\
@@ -248,7 +213,7 @@ pub fn help(out: &mut [u8]) -> usize
           image             the session as |",
     );
     let b = text::put_decimal(out, a, layout::IMAGE as u64);
-    let c = put_words(
+    let c = words::put_words(
         out,
         b,
         b" bytes\n|\

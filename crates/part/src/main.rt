@@ -1,14 +1,9 @@
 // Tells where two recorded traces part: two files, named as arguments. Room for one byte more than a trace may have, so that a longer one is seen.
 ghost use Rattle.io.specs.Counts.{Counts};
 use libc::STDERR_FILENO;
-use libc::STDOUT_FILENO;
 
 // 1 MiB.
 const MOST: usize = 1048576;
-
-fn print(s: &[u8]) {
-    io::write_all(STDOUT_FILENO, s);
-}
 
 fn room() -> [u8; MOST + 1] {
     [0; MOST + 1]
@@ -18,28 +13,26 @@ fn complain(s: &[u8]) {
     io::write_all(STDERR_FILENO, s);
 }
 
-// Says why a file isn't taken, and answers a length that no trace has.
-fn refuse(name: &[u8], why: &[u8], space: &mut [u8]) -> usize
-    ensures { λ r. ⌜ Counts r (now (space .exit)) ⌝ }
+// A length that no trace has, for a file that isn't taken.
+fn too_many(space: &[u8]) -> usize
+    ensures { λ r. ⌜ Counts r (now (space .entry)) ⌝ }
 {
-    complain(name);
-    complain(why);
     space.len()
 }
 
-// What an open file holds. A short count is the file's end only where nothing more is read.
+// What an open file holds.
 fn read_open(fd: i32, name: &[u8], space: &mut [u8]) -> usize
     ensures { λ r. ⌜ Counts r (now (space .exit)) ⌝ }
 {
-    let got = io::read_full(fd, space);
-    if MOST < got {
-        return refuse(name, b": over 1048576 bytes\n", space);
+    let got = streams::read_full(fd, name, space);
+    if got.failed {
+        return too_many(space);
     }
-    let mut more = [0u8; 1];
-    if libc::read(fd, &mut more) != 0 {
-        return refuse(name, b": cannot be read\n", space);
+    if MOST < got.count {
+        complain(name);
+        complain(b": over 1048576 bytes\n");
     }
-    got
+    got.count
 }
 
 fn read_named(name: &[u8], space: &mut [u8]) -> usize
@@ -47,7 +40,8 @@ fn read_named(name: &[u8], space: &mut [u8]) -> usize
 {
     let fd = os::open_read(name);
     if fd < 0 {
-        return refuse(name, b": cannot be opened\n", space);
+        os::fail(name);
+        return too_many(space);
     }
     let got = read_open(fd, name, space);
     libc::close(fd);
@@ -66,7 +60,7 @@ fn read_arg(i: usize, space: &mut [u8]) -> usize
 fn tell(first: &[u8], second: &[u8]) {
     let mut text = [0u8; parting::LONGEST];
     let n = parting::tell(first, second, &mut text);
-    print(&text[..n]);
+    streams::write(&text[..n]);
 }
 
 fn main() {

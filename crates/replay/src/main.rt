@@ -4,43 +4,48 @@ ghost use lib.ListN.{length};
 ghost use Rattle.io.specs.Counts.{Counts};
 use entries::Next;
 use entries::Reading;
-use libc::STDIN_FILENO;
-use libc::STDOUT_FILENO;
+use streams::Got;
 
 // ---- lines
 
-// The first `n` bytes are written at once.
-fn tell(out: &[u8], n: usize)
-    requires { ⌜ Counts n (now out) ⌝ }
-{
-    io::write_all(STDOUT_FILENO, &out[..n]);
+// The bytes of lines that wait, and whether lines can still be written.
+struct Lines {
+    waiting: usize,
+    heard: bool,
 }
 
-// Writes the lines that wait where another may have no room behind them; the bytes that wait then.
-fn make_room(out: &[u8], waiting: usize) -> usize
-    requires { ⌜ Counts waiting (now out) ⌝ }
-    ensures { λ r. ⌜ Counts r (now (out .entry)) ⌝ }
+// Writes the lines that wait where another may have no room behind them.
+fn make_room(out: &[u8], lines: Lines) -> Lines
+    requires { ⌜ Counts (lines .waiting) (now out) ⌝ }
+    ensures { λ r. ⌜ Counts (r .waiting) (now (out .entry)) ⌝ }
 {
+    let waiting = lines.waiting;
     if out.len() - waiting < playing::LINE {
-        tell(out, waiting);
-        return 0;
+        return Lines {
+            waiting: 0,
+            heard: streams::write(&out[..waiting]),
+        };
     }
-    waiting
+    lines
 }
 
 // Plays a whole entry, and puts its line behind those that wait.
-fn play(lent: &mut [u8], number: u64, entry: &[u8], out: &mut [u8], waiting: usize) -> usize
-    requires { ⌜ Counts waiting (now out) ⌝ }
-    ensures { λ r. ⌜ Counts r (now (out .exit)) ⌝ }
+fn play(lent: &mut [u8], number: u64, entry: &[u8], out: &mut [u8], before: Lines) -> Lines
+    requires { ⌜ Counts (before .waiting) (now out) ⌝ }
+    ensures { λ r. ⌜ Counts (r .waiting) (now (out .exit)) ⌝ }
 {
-    let start = make_room(out, waiting);
+    let lines = make_room(out, before);
+    let start = lines.waiting;
     let n = playing::step(lent, number, entry, &mut out[start..]);
-    start + n
+    Lines {
+        waiting: start + n,
+        heard: lines.heard,
+    }
 }
 
 fn tell_stop(out: &mut [u8], reading: Reading) {
     let n = playing::stop(out, reading);
-    tell(out, n);
+    streams::write(&out[..n]);
 }
 
 // ---- the bytes at hand
@@ -56,10 +61,11 @@ fn front(rest: &[u8]) -> usize
     n
 }
 
-// How many entries were played since the start, and how many of the bytes at hand they take.
+// How many entries were played since the start, how many of the bytes at hand they take, and whether lines can still be written.
 struct Past {
     entries: u64,
     bytes: usize,
+    heard: bool,
 }
 
 // Plays the whole entries at the front. Their numbers go on from those before; no run comes to the number at which they would wrap.
@@ -68,19 +74,31 @@ fn play_front(lent: &mut [u8], before: u64, piece: &[u8], out: &mut [u8]) -> Pas
 {
     let mut number = before;
     let mut at = 0;
-    let mut waiting = 0;
+    let mut lines = Lines {
+        waiting: 0,
+        heard: true,
+    };
     let mut n = front(piece);
     while n > 0 {
         let past = at + n;
         number = std::num::wrapping_add_u64(number, 1);
-        waiting = play(lent, number, &piece[at..past], out, waiting);
+        let next = play(lent, number, &piece[at..past], out, lines);
         at = past;
+        if !next.heard {
+            return Past {
+                entries: number,
+                bytes: at,
+                heard: false,
+            };
+        }
+        lines = next;
         n = front(&piece[at..]);
     }
-    tell(out, waiting);
+    let waiting = lines.waiting;
     Past {
         entries: number,
         bytes: at,
+        heard: streams::write(&out[..waiting]),
     }
 }
 
@@ -107,13 +125,12 @@ fn keep(held: &mut [u8], start: usize, end: usize) -> usize
 
 // ---- input
 
-// Reads behind the first `have` bytes; how many came.
-fn fetch(held: &mut [u8], have: usize) -> usize
+// Reads behind the first `have` bytes.
+fn fetch(held: &mut [u8], have: usize) -> Got
     requires { ⌜ have ≤ length (now held) ⌝ }
-    ensures { λ r. ⌜ have + r ≤ length (now (held .exit)) ⌝ }
+    ensures { λ r. ⌜ have + r .count ≤ length (now (held .exit)) ⌝ }
 {
-    let room = &mut held[have..];
-    io::count(libc::read(STDIN_FILENO, room), room)
+    streams::read_input(&mut held[have..])
 }
 
 // The input has ended: what is left of it is a cut entry.
@@ -133,12 +150,18 @@ fn serve(lent: &mut [u8], held: &mut [u8], out: &mut [u8]) {
     while left > 0 {
         left -= 1;
         let got = fetch(held, have);
-        if got == 0 {
+        if got.failed {
+            return;
+        }
+        if got.count == 0 {
             finish(out, have, place);
             return;
         }
-        let end = have + got;
+        let end = have + got.count;
         let past = play_front(lent, number, &held[..end], out);
+        if !past.heard {
+            return;
+        }
         let at = past.bytes;
         number = past.entries;
         place = std::num::wrapping_add_usize(place, at);

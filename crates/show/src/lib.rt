@@ -6,6 +6,7 @@ ghost use mathlib.Core.List.{[]};
 ghost use lib.Dec.{eqb};
 ghost use Rattle.io.specs.Counts.{Counts};
 ghost use Rattle.text.specs.Text.{sheet, putOn, putAll, fromFront};
+ghost use Rattle.show.specs.Words.{wordNumber};
 ghost use Rattle.show.specs.Show.{numberText, numbersText, namedText, markText, yesText, stateWord, stateText, roleWord, roleText, capsText, wantedText, workedText, settingsText, thresholdsText, pairText, pairsText, throttlesText, logText, placesText, logsText, coresText, maskText, deadmanText, areaText, areasText, restText, readingText, storeText, redoText, journalText, sessionText};
 use entries::Reading;
 use record::Area;
@@ -16,12 +17,110 @@ use record::Log;
 use record::Record;
 use record::Worked;
 
-// ---- words and numbers
+// ---- words, by their place in one text
+
+const BLANK: usize = 0;
+
+const LINE_END: usize = 1;
+
+const NOT_RECEIVED: usize = 2;
+
+const RECEIVED: usize = 3;
+
+const NO: usize = 4;
+
+const YES: usize = 5;
+
+const STANDBY: usize = 6;
+
+const OBSERVATION: usize = 7;
+
+const ACTIVE: usize = 8;
+
+const UNKNOWN_STATE: usize = 9;
+
+const SLAVE: usize = 10;
+
+const MASTER: usize = 11;
+
+const UNKNOWN_ROLE: usize = 12;
+
+const NONE: usize = 13;
+
+const COLON: usize = 14;
+
+const DOT: usize = 15;
+
+const STATE: usize = 16;
+
+const ROLE: usize = 17;
+
+const CAPS: usize = 18;
+
+const WANTED: usize = 19;
+
+const LIMIT: usize = 20;
+
+const OBSERVATION_READY: usize = 21;
+
+const ACTIVE_READY: usize = 22;
+
+const THRESHOLDS: usize = 23;
+
+const THROTTLES: usize = 24;
+
+const LOGS: usize = 25;
+
+const CORES: usize = 26;
+
+const DEADMAN_OFF: usize = 27;
+
+const DEADMAN_ON: usize = 28;
+
+const FFDC: usize = 29;
+
+const PASS: usize = 30;
+
+const REDO: usize = 31;
+
+const REDO_DAMAGED: usize = 32;
+
+const REDO_TOO_LONG: usize = 33;
+
+const JOURNAL: usize = 34;
+
+const DAMAGED: usize = 35;
+
+const TOO_LONG: usize = 36;
+
+const ROOM: usize = 37;
+
+const USER_CAP: usize = 38;
+
+const NEXT_ID: usize = 39;
+
+const END: usize = 40;
+
+fn put_word(out: &mut [u8], at: usize, n: usize) -> usize
+    ensures { λ r. ⌜ Counts r (now (out .exit)) ⌝ }
+    ensures { λ r. ⌜ sheet (now (out .exit)) r ≡ putOn (sheet (now (out .entry)) at) (wordNumber n) ⌝ }
+{
+    let word = words::nth(
+        b" |\n| not received\n| received\n| no\n| yes\n| standby\n| observation\n| active\n| unknown\n| slave| master| unknown| none|:|.|\
+          state|role|caps|wanted format |limit|observation-ready|active-ready|thresholds|throttles|logs|\
+          cores out|deadman off|deadman on|area ffdc |area pass |redo|redo damaged at|redo too long\n|journal|\
+          damaged at|too long\n|room|user cap|next id|.\n|",
+        n,
+    );
+    text::put(out, at, word)
+}
+
+// ---- numbers and marks
 
 fn put_number(out: &mut [u8], at: usize, n: u64) -> usize
     ensures { λ r. ⌜ sheet (now (out .exit)) r ≡ putAll (sheet (now (out .entry)) at) (numberText n) ⌝ }
 {
-    let mid = text::put(out, at, b" ");
+    let mid = put_word(out, at, BLANK);
     text::put_decimal(out, mid, n)
 }
 
@@ -32,77 +131,89 @@ fn put_byte(out: &mut [u8], at: usize, b: u8) -> usize
 }
 
 // A line of a name and a number.
-fn put_named(out: &mut [u8], at: usize, name: &[u8], n: u64) -> usize
-    ensures { λ r. ⌜ sheet (now (out .exit)) r ≡ putAll (sheet (now (out .entry)) at) (namedText (now (name .entry)) n) ⌝ }
+fn put_named(out: &mut [u8], at: usize, name: usize, n: u64) -> usize
+    ensures { λ r. ⌜ sheet (now (out .exit)) r ≡ putAll (sheet (now (out .entry)) at) (namedText (wordNumber name) n) ⌝ }
 {
-    let mid = text::put(out, at, name);
+    let mid = put_word(out, at, name);
     let end = put_number(out, mid, n);
-    text::put(out, end, b"\n")
+    put_word(out, end, LINE_END)
+}
+
+fn mark_word(mark: u8) -> usize
+    ensures { λ r. ⌜ wordNumber r ≡ markText mark ⌝ }
+{
+    if mark == 0 {
+        return NOT_RECEIVED;
+    }
+    RECEIVED
 }
 
 // What a line of parts ends with.
 fn put_mark(out: &mut [u8], at: usize, mark: u8) -> usize
     ensures { λ r. ⌜ sheet (now (out .exit)) r ≡ putOn (sheet (now (out .entry)) at) (markText mark) ⌝ }
 {
-    if mark == 0 {
-        return text::put(out, at, b" not received\n");
+    put_word(out, at, mark_word(mark))
+}
+
+fn yes_word(flag: u8) -> usize
+    ensures { λ r. ⌜ wordNumber r ≡ yesText flag ⌝ }
+{
+    if flag == 0 {
+        return NO;
     }
-    text::put(out, at, b" received\n")
+    YES
 }
 
 fn put_yes(out: &mut [u8], at: usize, flag: u8) -> usize
     ensures { λ r. ⌜ sheet (now (out .exit)) r ≡ putOn (sheet (now (out .entry)) at) (yesText flag) ⌝ }
 {
-    if flag == 0 {
-        return text::put(out, at, b" no\n");
-    }
-    text::put(out, at, b" yes\n")
+    put_word(out, at, yes_word(flag))
 }
 
 // ---- the lines
 
-fn put_state_word(out: &mut [u8], at: usize, state: u8) -> usize
-    ensures { λ r. ⌜ sheet (now (out .exit)) r ≡ putOn (sheet (now (out .entry)) at) (stateWord state) ⌝ }
+fn state_word(state: u8) -> usize
+    ensures { λ r. ⌜ wordNumber r ≡ stateWord state ⌝ }
 {
     match state {
-        1 => text::put(out, at, b" standby\n"),
-        2 => text::put(out, at, b" observation\n"),
-        3 => text::put(out, at, b" active\n"),
-        _ => text::put(out, at, b" unknown\n"),
+        1 => STANDBY,
+        2 => OBSERVATION,
+        3 => ACTIVE,
+        _ => UNKNOWN_STATE,
     }
 }
 
 fn put_state(out: &mut [u8], at: usize, state: u8) -> usize
     ensures { λ r. ⌜ sheet (now (out .exit)) r ≡ putAll (sheet (now (out .entry)) at) (stateText state) ⌝ }
 {
-    let mid = text::put(out, at, b"state");
+    let mid = put_word(out, at, STATE);
     let end = put_byte(out, mid, state);
-    put_state_word(out, end, state)
+    put_word(out, end, state_word(state))
 }
 
-fn put_role_word(out: &mut [u8], at: usize, role: u8) -> usize
-    ensures { λ r. ⌜ sheet (now (out .exit)) r ≡ putOn (sheet (now (out .entry)) at) (roleWord role) ⌝ }
+fn role_word(role: u8) -> usize
+    ensures { λ r. ⌜ wordNumber r ≡ roleWord role ⌝ }
 {
     match role {
-        0 => text::put(out, at, b" slave"),
-        1 => text::put(out, at, b" master"),
-        _ => text::put(out, at, b" unknown"),
+        0 => SLAVE,
+        1 => MASTER,
+        _ => UNKNOWN_ROLE,
     }
 }
 
 fn put_role(out: &mut [u8], at: usize, role: u8, mark: u8) -> usize
     ensures { λ r. ⌜ sheet (now (out .exit)) r ≡ putAll (sheet (now (out .entry)) at) (roleText role mark) ⌝ }
 {
-    let name = text::put(out, at, b"role");
+    let name = put_word(out, at, ROLE);
     let number = put_byte(out, name, role);
-    let word = put_role_word(out, number, role);
+    let word = put_word(out, number, role_word(role));
     put_mark(out, word, mark)
 }
 
 fn put_caps(out: &mut [u8], at: usize, caps: Caps, mark: u8) -> usize
     ensures { λ r. ⌜ sheet (now (out .exit)) r ≡ putAll (sheet (now (out .entry)) at) (capsText caps mark) ⌝ }
 {
-    let name = text::put(out, at, b"caps");
+    let name = put_word(out, at, CAPS);
     let min = put_number(out, name, caps.min as u64);
     let max = put_number(out, min, caps.max as u64);
     let over = put_number(out, max, caps.over as u64);
@@ -112,19 +223,19 @@ fn put_caps(out: &mut [u8], at: usize, caps: Caps, mark: u8) -> usize
 fn put_wanted(out: &mut [u8], at: usize, wanted: u8) -> usize
     ensures { λ r. ⌜ sheet (now (out .exit)) r ≡ putAll (sheet (now (out .entry)) at) (wantedText wanted) ⌝ }
 {
-    let name = text::put(out, at, b"wanted format ");
+    let name = put_word(out, at, WANTED);
     let end = text::put_hex(out, name, wanted);
-    text::put(out, end, b"\n")
+    put_word(out, end, LINE_END)
 }
 
 // The two readies and the configuration format that is wanted.
 fn put_worked(out: &mut [u8], at: usize, worked: Worked) -> usize
     ensures { λ r. ⌜ sheet (now (out .exit)) r ≡ putAll (sheet (now (out .entry)) at) (workedText worked) ⌝ }
 {
-    let limit = put_named(out, at, b"limit", worked.limit as u64);
-    let first = text::put(out, limit, b"observation-ready");
+    let limit = put_named(out, at, LIMIT, worked.limit as u64);
+    let first = put_word(out, limit, OBSERVATION_READY);
     let observation = put_yes(out, first, worked.observation);
-    let second = text::put(out, observation, b"active-ready");
+    let second = put_word(out, observation, ACTIVE_READY);
     let active = put_yes(out, second, worked.active);
     put_wanted(out, active, worked.wanted)
 }
@@ -144,7 +255,7 @@ fn put_numbers(out: &mut [u8], at: usize, s: &[u8]) -> usize
 fn put_thresholds(out: &mut [u8], at: usize, thermal: &[u8], mark: u8) -> usize
     ensures { λ r. ⌜ sheet (now (out .exit)) r ≡ putAll (sheet (now (out .entry)) at) (thresholdsText (now (thermal .entry)) mark) ⌝ }
 {
-    let name = text::put(out, at, b"thresholds");
+    let name = put_word(out, at, THRESHOLDS);
     let end = put_numbers(out, name, thermal);
     put_mark(out, end, mark)
 }
@@ -154,7 +265,7 @@ fn put_pair(out: &mut [u8], at: usize, pair: u64) -> usize
     ensures { λ r. ⌜ sheet (now (out .exit)) r ≡ putAll (sheet (now (out .entry)) at) (pairText pair) ⌝ }
 {
     let hub = put_number(out, at, pair / 2);
-    let dot = text::put(out, hub, b".");
+    let dot = put_word(out, hub, DOT);
     text::put_decimal(out, dot, pair % 2)
 }
 
@@ -173,7 +284,7 @@ fn put_pairs(out: &mut [u8], at: usize, present: u16) -> usize
     ensures { λ r. ⌜ sheet (now (out .exit)) r ≡ putAll (sheet (now (out .entry)) at) (pairsText present) ⌝ }
 {
     if present == 0 {
-        return text::put(out, at, b" none");
+        return put_word(out, at, NONE);
     }
     let mut end = at;
     let mut left = present;
@@ -189,7 +300,7 @@ fn put_pairs(out: &mut [u8], at: usize, present: u16) -> usize
 fn put_throttles(out: &mut [u8], at: usize, present: u16, mark: u8) -> usize
     ensures { λ r. ⌜ sheet (now (out .exit)) r ≡ putAll (sheet (now (out .entry)) at) (throttlesText present mark) ⌝ }
 {
-    let name = text::put(out, at, b"throttles");
+    let name = put_word(out, at, THROTTLES);
     let pairs = put_pairs(out, name, present);
     put_mark(out, pairs, mark)
 }
@@ -202,7 +313,7 @@ fn put_log(out: &mut [u8], at: usize, log: Log) -> usize
         return at;
     }
     let id = put_byte(out, at, log.id);
-    let colon = text::put(out, id, b":");
+    let colon = put_word(out, id, COLON);
     text::put_decimal(out, colon, log.reason as u64)
 }
 
@@ -210,7 +321,7 @@ fn put_places(out: &mut [u8], at: usize, a: Log, b: Log, c: Log, d: Log) -> usiz
     ensures { λ r. ⌜ sheet (now (out .exit)) r ≡ putAll (sheet (now (out .entry)) at) (placesText a b c d) ⌝ }
 {
     if a.id as u16 + b.id as u16 + c.id as u16 + d.id as u16 == 0 {
-        return text::put(out, at, b" none");
+        return put_word(out, at, NONE);
     }
     let first = put_log(out, at, a);
     let second = put_log(out, first, b);
@@ -221,9 +332,9 @@ fn put_places(out: &mut [u8], at: usize, a: Log, b: Log, c: Log, d: Log) -> usiz
 fn put_logs(out: &mut [u8], at: usize, logs: [Log; 4]) -> usize
     ensures { λ r. ⌜ sheet (now (out .exit)) r ≡ putAll (sheet (now (out .entry)) at) (logsText logs) ⌝ }
 {
-    let name = text::put(out, at, b"logs");
+    let name = put_word(out, at, LOGS);
     let end = put_places(out, name, logs[0], logs[1], logs[2], logs[3]);
-    text::put(out, end, b"\n")
+    put_word(out, end, LINE_END)
 }
 
 // The core is put where its bit is set.
@@ -241,7 +352,7 @@ fn put_cores(out: &mut [u8], at: usize, mask: u32) -> usize
     ensures { λ r. ⌜ sheet (now (out .exit)) r ≡ putAll (sheet (now (out .entry)) at) (coresText mask) ⌝ }
 {
     if mask == 0 {
-        return text::put(out, at, b" none");
+        return put_word(out, at, NONE);
     }
     let mut end = at;
     let mut left = mask;
@@ -257,33 +368,33 @@ fn put_cores(out: &mut [u8], at: usize, mask: u32) -> usize
 fn put_mask(out: &mut [u8], at: usize, mask: u32) -> usize
     ensures { λ r. ⌜ sheet (now (out .exit)) r ≡ putAll (sheet (now (out .entry)) at) (maskText mask) ⌝ }
 {
-    let name = text::put(out, at, b"cores out");
+    let name = put_word(out, at, CORES);
     let end = put_cores(out, name, mask);
-    text::put(out, end, b"\n")
+    put_word(out, end, LINE_END)
 }
 
 fn put_deadman(out: &mut [u8], at: usize, deadman: Deadman) -> usize
     ensures { λ r. ⌜ sheet (now (out .exit)) r ≡ putAll (sheet (now (out .entry)) at) (deadmanText deadman) ⌝ }
 {
     if deadman.running == 0 {
-        return put_named(out, at, b"deadman off", deadman.time);
+        return put_named(out, at, DEADMAN_OFF, deadman.time);
     }
-    put_named(out, at, b"deadman on", deadman.time)
+    put_named(out, at, DEADMAN_ON, deadman.time)
 }
 
 // An area's address and size in hex.
-fn put_area(out: &mut [u8], at: usize, name: &[u8], area: Area) -> usize
-    ensures { λ r. ⌜ sheet (now (out .exit)) r ≡ putAll (sheet (now (out .entry)) at) (areaText (now (name .entry)) area) ⌝ }
+fn put_area(out: &mut [u8], at: usize, name: usize, area: Area) -> usize
+    ensures { λ r. ⌜ sheet (now (out .exit)) r ≡ putAll (sheet (now (out .entry)) at) (areaText (wordNumber name) area) ⌝ }
 {
     let mut address = [0u8; 8];
     wire::put_be(&mut address, 0, 8, area.address);
     let mut size = [0u8; 4];
     wire::put_be(&mut size, 0, 4, area.size as u64);
-    let start = text::put(out, at, name);
+    let start = put_word(out, at, name);
     let mid = text::put_hexes(out, start, &address);
-    let blank = text::put(out, mid, b" ");
+    let blank = put_word(out, mid, BLANK);
     let end = text::put_hexes(out, blank, &size);
-    text::put(out, end, b"\n")
+    put_word(out, end, LINE_END)
 }
 
 fn put_areas(out: &mut [u8], at: usize, areas: Areas) -> usize
@@ -291,13 +402,13 @@ fn put_areas(out: &mut [u8], at: usize, areas: Areas) -> usize
 {
     let ffdc = areas.ffdc;
     let pass = areas.pass;
-    let mid = put_area(out, at, b"area ffdc ", ffdc);
-    put_area(out, mid, b"area pass ", pass)
+    let mid = put_area(out, at, FFDC, ffdc);
+    put_area(out, mid, PASS, pass)
 }
 
 // A number after the name that fits how a store reads.
-fn put_reading(out: &mut [u8], at: usize, whole: &[u8], damaged: &[u8], reading: Reading) -> usize
-    ensures { λ r. ⌜ sheet (now (out .exit)) r ≡ putAll (sheet (now (out .entry)) at) (readingText (now (whole .entry)) (now (damaged .entry)) reading) ⌝ }
+fn put_reading(out: &mut [u8], at: usize, whole: usize, damaged: usize, reading: Reading) -> usize
+    ensures { λ r. ⌜ sheet (now (out .exit)) r ≡ putAll (sheet (now (out .entry)) at) (readingText (wordNumber whole) (wordNumber damaged) reading) ⌝ }
 {
     match reading {
         Reading::Whole { count, newest: _ } => put_named(out, at, whole, count as u64),
@@ -310,16 +421,16 @@ fn put_reading(out: &mut [u8], at: usize, whole: &[u8], damaged: &[u8], reading:
 fn put_store(
     out: &mut [u8],
     at: usize,
-    whole: &[u8],
-    damaged: &[u8],
-    long: &[u8],
+    whole: usize,
+    damaged: usize,
+    long: usize,
     s: &[u8],
     used: usize,
 ) -> usize
-    ensures { λ r. ⌜ sheet (now (out .exit)) r ≡ putAll (sheet (now (out .entry)) at) (storeText (now (whole .entry)) (now (damaged .entry)) (now (long .entry)) (now (s .entry)) used) ⌝ }
+    ensures { λ r. ⌜ sheet (now (out .exit)) r ≡ putAll (sheet (now (out .entry)) at) (storeText (wordNumber whole) (wordNumber damaged) (wordNumber long) (now (s .entry)) used) ⌝ }
 {
     if s.len() < used {
-        return text::put(out, at, long);
+        return put_word(out, at, long);
     }
     put_reading(out, at, whole, damaged, entries::read(&s[..used]))
 }
@@ -327,15 +438,7 @@ fn put_store(
 fn put_redo(out: &mut [u8], at: usize, redo: &[u8], ahead: usize) -> usize
     ensures { λ r. ⌜ sheet (now (out .exit)) r ≡ putAll (sheet (now (out .entry)) at) (redoText (now (redo .entry)) ahead) ⌝ }
 {
-    put_store(
-        out,
-        at,
-        b"redo",
-        b"redo damaged at",
-        b"redo too long\n",
-        redo,
-        ahead,
-    )
+    put_store(out, at, REDO, REDO_DAMAGED, REDO_TOO_LONG, redo, ahead)
 }
 
 // The bytes of `n` that are not used.
@@ -352,8 +455,8 @@ fn room(n: usize, used: usize) -> usize
 fn put_journal(out: &mut [u8], at: usize, j: &[u8], used: usize) -> usize
     ensures { λ r. ⌜ sheet (now (out .exit)) r ≡ putAll (sheet (now (out .entry)) at) (journalText (now (j .entry)) used) ⌝ }
 {
-    let first = put_store(out, at, b"journal", b"damaged at", b"too long\n", j, used);
-    put_named(out, first, b"room", room(j.len(), used) as u64)
+    let first = put_store(out, at, JOURNAL, DAMAGED, TOO_LONG, j, used);
+    put_named(out, first, ROOM, room(j.len(), used) as u64)
 }
 
 fn put_settings(out: &mut [u8], at: usize, held: Record, worked: Worked) -> usize
@@ -364,7 +467,7 @@ fn put_settings(out: &mut [u8], at: usize, held: Record, worked: Worked) -> usiz
     let state = put_state(out, at, held.state);
     let role = put_role(out, state, held.role, got.role);
     let range = put_caps(out, role, caps, got.caps);
-    let user = put_named(out, range, b"user cap", held.user as u64);
+    let user = put_named(out, range, USER_CAP, held.user as u64);
     put_worked(out, user, worked)
 }
 
@@ -402,7 +505,7 @@ pub fn put_session(
     let settings = put_settings(out, 0, held, worked);
     let rest = put_rest(out, settings, held);
     let stored = put_redo(out, rest, redo, ahead);
-    let id = put_named(out, stored, b"next id", next as u64);
+    let id = put_named(out, stored, NEXT_ID, next as u64);
     let end = put_journal(out, id, j, used);
-    text::put(out, end, b".\n")
+    put_word(out, end, END)
 }

@@ -5,29 +5,13 @@ ghost use mathlib.Core.Path.{_≡_};
 ghost use Rattle.io.specs.Counts.{Counts};
 ghost use Rattle.layout.specs.Layout.{imageLength};
 use inplace::Told;
-use libc::STDIN_FILENO;
-use libc::STDOUT_FILENO;
 use orders::Buffer;
 use orders::Call;
 use orders::Order;
 use orders::View;
 use orders::Word;
 
-// The first `n` bytes are written at once.
-fn tell(out: &[u8], n: usize)
-    requires { ⌜ Counts n (now out) ⌝ }
-{
-    io::write_all(STDOUT_FILENO, &out[..n]);
-}
-
 // ---- calls, on the session that is lent as its image's bytes
-
-fn occ(lent: &mut [u8], sender: u8, command: &[u8], reply: &mut [u8], out: &mut [u8]) -> Told {
-    let told = occ_call::occ(lent, sender, command, reply);
-    let n = answers::reply(out, told.answer, reply);
-    tell(out, n);
-    told
-}
 
 // Makes a packet of bytes whose type and data stand from 3 on: head and sum.
 fn frame(p: &mut [u8], sequence: u8)
@@ -42,12 +26,68 @@ fn frame(p: &mut [u8], sequence: u8)
 }
 
 // The sender stands where the packet's length will.
-fn send(lent: &mut [u8], packet: &mut [u8], sequence: u8, reply: &mut [u8], out: &mut [u8]) -> Told
+fn send(lent: &mut [u8], packet: &mut [u8], sequence: u8, reply: &mut [u8]) -> Told
     requires { ⌜ 6 ≤ length (now packet) ⌝ }
 {
     let sender = packet[2];
     frame(packet, sequence);
-    occ(lent, sender, packet, reply, out)
+    occ_call::occ(lent, sender, packet, reply)
+}
+
+fn load(lent: &mut [u8], sent: &[u8]) -> Told
+    requires { ⌜ (length (now lent) ≡ imageLength) × (8198 ≤ length (now sent)) ⌝ }
+{
+    wire::copy(lent, 0, &sent[..layout::IMAGE]);
+    inplace::answer_with(0, 0)
+}
+
+fn fresh(lent: &mut [u8]) -> Told {
+    image::write(session::fresh(), lent);
+    inplace::answer_with(0, 0)
+}
+
+// `sent` holds the bytes as `orders` puts them.
+fn carry_out(
+    lent: &mut [u8],
+    call: Call,
+    count: usize,
+    sequence: u8,
+    sent: &mut [u8],
+    reply: &mut [u8],
+) -> Told
+    requires { ⌜ (length (now lent) ≡ imageLength) × (count ≤ 8192) × (8198 ≤ length (now sent)) ⌝ }
+{
+    match call {
+        Call::Occ => occ_call::occ(lent, sent[0], &sent[1..count + 1], reply),
+        Call::Send => send(lent, &mut sent[..count + 6], sequence, reply),
+        Call::Sbe => sbe_call::sbe(lent, &sent[..count], reply),
+        Call::Load => load(lent, sent),
+        Call::Undo => undo_call::undo(lent),
+        Call::Redo => undo_call::redo(lent),
+        Call::Fresh => fresh(lent),
+    }
+}
+
+// ---- their answers
+
+// How a call is answered.
+enum Form {
+    Reply,
+    Response,
+    Kind,
+    Ok,
+}
+
+fn form_of(call: Call) -> Form {
+    match call {
+        Call::Occ => Form::Reply,
+        Call::Send => Form::Reply,
+        Call::Sbe => Form::Response,
+        Call::Load => Form::Ok,
+        Call::Undo => Form::Kind,
+        Call::Redo => Form::Kind,
+        Call::Fresh => Form::Ok,
+    }
 }
 
 // A response has 32 bytes; a longer buffer is kept past them.
@@ -60,91 +100,20 @@ fn response_len(buffer: &[u8]) -> usize
     32
 }
 
-fn sbe(lent: &mut [u8], request: &[u8], reply: &mut [u8], out: &mut [u8]) {
-    let told = sbe_call::sbe(lent, request, reply);
-    let n = response_len(reply);
-    let end = answers::rung(out, told.answer, &reply[..n], told.beside);
-    tell(out, end);
-}
-
 // A kind is a byte.
 fn kind_of(beside: u16) -> u8 {
     (beside % 256) as u8
 }
 
-fn tell_kind(told: Told, out: &mut [u8]) {
-    let n = answers::with_kind(out, told.answer, kind_of(told.beside));
-    tell(out, n);
-}
-
-fn undo(lent: &mut [u8], out: &mut [u8]) {
-    tell_kind(undo_call::undo(lent), out);
-}
-
-fn redo(lent: &mut [u8], out: &mut [u8]) {
-    tell_kind(undo_call::redo(lent), out);
-}
-
-fn tell_ok(out: &mut [u8]) {
-    let n = answers::line(out, b"ok");
-    tell(out, n);
-}
-
-fn load(lent: &mut [u8], sent: &[u8], out: &mut [u8])
-    requires { ⌜ (length (now lent) ≡ imageLength) × (8198 ≤ length (now sent)) ⌝ }
+fn put_told(call: Call, told: Told, reply: &[u8], out: &mut [u8]) -> usize
+    ensures { λ r. ⌜ Counts r (now (out .exit)) ⌝ }
 {
-    wire::copy(lent, 0, &sent[..layout::IMAGE]);
-    tell_ok(out);
-}
-
-fn fresh(lent: &mut [u8], out: &mut [u8]) {
-    image::write(session::fresh(), lent);
-    tell_ok(out);
-}
-
-// What is kept beside the session: the sequence of the last packet sent, the reply buffers that are lent, and what the last OCC call told.
-struct Bench {
-    sequence: u8,
-    buffer: Buffer,
-    last: Told,
-}
-
-// `sent` holds the bytes as `orders` puts them. What the last OCC call told is given back.
-fn carry_out(
-    lent: &mut [u8],
-    call: Call,
-    count: usize,
-    b: Bench,
-    sent: &mut [u8],
-    reply: &mut [u8],
-    out: &mut [u8],
-) -> Told
-    requires { ⌜ (length (now lent) ≡ imageLength) × (count ≤ 8192) × (8198 ≤ length (now sent)) ⌝ }
-{
-    let last = b.last;
-    match call {
-        Call::Occ => occ(lent, sent[0], &sent[1..count + 1], reply, out),
-        Call::Send => send(lent, &mut sent[..count + 6], b.sequence, reply, out),
-        Call::Sbe => {
-            sbe(lent, &sent[..count], reply, out);
-            last
-        }
-        Call::Load => {
-            load(lent, sent, out);
-            last
-        }
-        Call::Undo => {
-            undo(lent, out);
-            last
-        }
-        Call::Redo => {
-            redo(lent, out);
-            last
-        }
-        Call::Fresh => {
-            fresh(lent, out);
-            last
-        }
+    let n = response_len(reply);
+    match form_of(call) {
+        Form::Reply => answers::reply(out, told.answer, reply),
+        Form::Response => answers::rung(out, told.answer, &reply[..n], told.beside),
+        Form::Kind => answers::with_kind(out, told.answer, kind_of(told.beside)),
+        Form::Ok => answers::line(out, b"ok"),
     }
 }
 
@@ -175,6 +144,29 @@ fn reply_len(buffer: Buffer, call: Call) -> usize
     orders::MOST_BUFFER
 }
 
+// What is kept beside the session: the sequence of the last packet sent, the reply buffers that are lent, what the last OCC call told, and
+// whether answers can still be written.
+struct Bench {
+    sequence: u8,
+    buffer: Buffer,
+    last: Told,
+    heard: bool,
+}
+
+// The bytes of an answer, and what the last OCC call told.
+struct Said {
+    length: usize,
+    last: Told,
+}
+
+// What the last OCC call told, after this one.
+fn next_last(call: Call, told: Told, last: Told) -> Told {
+    let Form::Reply = form_of(call) else {
+        return last;
+    };
+    told
+}
+
 // Lends the call its part of a reply buffer.
 fn call_with(
     lent: &mut [u8],
@@ -183,13 +175,21 @@ fn call_with(
     b: Bench,
     sent: &mut [u8],
     out: &mut [u8],
-) -> Told
+) -> Said
     requires { ⌜ (length (now lent) ≡ imageLength) × (count ≤ 8192) × (8198 ≤ length (now sent)) ⌝ }
+    ensures { λ r. ⌜ Counts (r .length) (now (out .exit)) ⌝ }
 {
     let mut reply = reply_buffer();
     let buffer = b.buffer;
+    let before = b.last;
     let room = reply_len(buffer, call);
-    carry_out(lent, call, count, b, sent, &mut reply[..room], out)
+    let part = &mut reply[..room];
+    let told = carry_out(lent, call, count, b.sequence, sent, part);
+    let n = put_told(call, told, part, out);
+    Said {
+        length: n,
+        last: next_last(call, told, before),
+    }
 }
 
 // ---- views
@@ -236,29 +236,33 @@ fn look(lent: &[u8], view: View, last: Told, out: &mut [u8]) -> usize
 
 // ---- lines
 
-// What the last OCC call told is given back.
-fn obey(lent: &mut [u8], order: Order, b: Bench, sent: &mut [u8], out: &mut [u8]) -> Told
-    requires { ⌜ (length (now lent) ≡ imageLength) × (order .count ≤ 8192) × (8198 ≤ length (now sent)) ⌝ }
+// The answer to a line that makes no call; a line that is skipped has none.
+fn put_other(lent: &[u8], order: Order, last: Told, out: &mut [u8]) -> usize
+    requires { ⌜ length (now lent) ≡ imageLength ⌝ }
+    ensures { λ r. ⌜ Counts r (now (out .exit)) ⌝ }
 {
     let word = order.word;
-    let last = b.last;
     match word {
-        Word::Make(call) => call_with(lent, call, order.count, b, sent, out),
-        Word::Look(view) => {
-            let n = look(lent, view, last, out);
-            tell(out, n);
-            last
-        }
-        Word::Lend(_) => {
-            tell_ok(out);
-            last
-        }
-        Word::Fail(what) => {
-            let n = answers::complaint(out, what, order.column);
-            tell(out, n);
-            last
-        }
-        Word::Skip => last,
+        Word::Look(view) => look(lent, view, last, out),
+        Word::Lend(_) => answers::line(out, b"ok"),
+        Word::Fail(what) => answers::complaint(out, what, order.column),
+        _ => 0,
+    }
+}
+
+fn obey(lent: &mut [u8], order: Order, b: Bench, sent: &mut [u8], out: &mut [u8]) -> Said
+    requires { ⌜ (length (now lent) ≡ imageLength) × (order .count ≤ 8192) × (8198 ≤ length (now sent)) ⌝ }
+    ensures { λ r. ⌜ Counts (r .length) (now (out .exit)) ⌝ }
+{
+    let word = order.word;
+    if let Word::Make(call) = word {
+        return call_with(lent, call, order.count, b, sent, out);
+    }
+    let last = b.last;
+    let n = put_other(lent, order, last, out);
+    Said {
+        length: n,
+        last: last,
     }
 }
 
@@ -280,25 +284,35 @@ fn next_buffer(word: Word, buffer: Buffer) -> Buffer {
     buffer
 }
 
+// The bench that a line is obeyed on.
+fn ready(b: Bench, word: Word) -> Bench {
+    let held = b.buffer;
+    let last = b.last;
+    let buffer = next_buffer(word, held);
+    Bench {
+        sequence: next_sequence(word, b.sequence),
+        buffer: buffer,
+        last: last,
+        heard: b.heard,
+    }
+}
+
+// An answer is written as soon as it is there.
 fn answer(lent: &mut [u8], b: Bench, line: &[u8], sent: &mut [u8], out: &mut [u8]) -> Bench
     requires { ⌜ (length (now lent) ≡ imageLength) × (8198 ≤ length (now sent)) ⌝ }
 {
     let order = orders::read(line, sent);
     let word = order.word;
-    let sequence = next_sequence(word, b.sequence);
-    let held = b.buffer;
-    let buffer = next_buffer(word, held);
-    let before = b.last;
-    let ready = Bench {
-        sequence: sequence,
-        buffer: buffer,
-        last: before,
-    };
-    let last = obey(lent, order, ready, sent, out);
+    let now = ready(b, word);
+    let said = obey(lent, order, now, sent, out);
+    let n = said.length;
+    let last = said.last;
+    let buffer = now.buffer;
     Bench {
-        sequence: sequence,
+        sequence: now.sequence,
         buffer: buffer,
         last: last,
+        heard: streams::write(&out[..n]),
     }
 }
 
@@ -326,7 +340,7 @@ struct Served {
     held: usize,
 }
 
-// Answers each line that the piece ends.
+// Answers each line that the piece ends, as long as answers can be written.
 fn serve_piece(
     lent: &mut [u8],
     b: Bench,
@@ -346,15 +360,15 @@ fn serve_piece(
         let n = text::find(part, b'\n');
         held = gather(line, held, &part[..n]);
         if part.len() <= n {
-            return Served {
-                bench: bench,
-                held: held,
-            };
+            break;
         }
         at += n + 1;
         let next = answer(lent, bench, &line[..held], sent, out);
         bench = next;
         held = 0;
+        if !next.heard {
+            break;
+        }
     }
     Served {
         bench: bench,
@@ -362,35 +376,52 @@ fn serve_piece(
     }
 }
 
-// A last line without an end.
-fn finish(lent: &mut [u8], b: Bench, line: &[u8], held: usize, sent: &mut [u8], out: &mut [u8])
-    requires { ⌜ (length (now lent) ≡ imageLength) × (8198 ≤ length (now sent)) ⌝ }
+// A piece of the input, and whether nothing comes after it.
+struct Piece {
+    count: usize,
+    last: bool,
+}
+
+// Where the input ends a line's end is put, so that a last line without one is answered too.
+fn fetch(piece: &mut [u8]) -> Piece
+    requires { ⌜ 1 ≤ length (now piece) ⌝ }
+    ensures { λ r. ⌜ Counts (r .count) (now (piece .exit)) ⌝ }
 {
-    if held <= line.len() {
-        answer(lent, b, &line[..held], sent, out);
+    let got = streams::read_input(piece);
+    if got.failed || got.count > 0 {
+        return Piece {
+            count: got.count,
+            last: got.failed,
+        };
+    }
+    piece[0] = b'\n';
+    Piece {
+        count: io::count(1, piece),
+        last: true,
     }
 }
 
 // A proved loop has to end: it counts down from a number that no run uses up.
 fn serve(lent: &mut [u8], piece: &mut [u8], line: &mut [u8], sent: &mut [u8], out: &mut [u8])
-    requires { ⌜ (length (now lent) ≡ imageLength) × (8198 ≤ length (now sent)) ⌝ }
+    requires { ⌜ (length (now lent) ≡ imageLength) × (1 ≤ length (now piece)) × (8198 ≤ length (now sent)) ⌝ }
 {
     let mut bench = Bench {
         sequence: 0,
         buffer: Buffer::Whole,
         last: inplace::answer_with(0, 0),
+        heard: true,
     };
     let mut held = 0;
     let mut left = u64::MAX;
     while left > 0 {
         left -= 1;
-        let got = io::count(libc::read(STDIN_FILENO, piece), piece);
-        if got == 0 {
-            finish(lent, bench, line, held, sent, out);
+        let got = fetch(piece);
+        let n = got.count;
+        let served = serve_piece(lent, bench, held, &piece[..n], line, sent, out);
+        let next = served.bench;
+        if got.last || !next.heard {
             return;
         }
-        let served = serve_piece(lent, bench, held, &piece[..got], line, sent, out);
-        let next = served.bench;
         bench = next;
         held = served.held;
     }

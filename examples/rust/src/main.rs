@@ -6,12 +6,9 @@ mod ffi;
 const HTMGT: u8 = 0x10;
 const BMC: u8 = 0x20;
 
-/// BJARGOLSK_SESSION of bjargolsk.h.
-const SESSION: usize = 4337;
-
 /// A session's image, and the buffer for replies.
 struct Bench {
-    session: [u8; SESSION],
+    session: [u8; ffi::BJARGOLSK_SESSION],
     reply: [u8; 4096],
     sequence: u8,
 }
@@ -20,7 +17,7 @@ struct Bench {
 impl Bench {
     fn fresh() -> Self {
         let mut bench = Bench {
-            session: [0; SESSION],
+            session: [0; ffi::BJARGOLSK_SESSION],
             reply: [0; 4096],
             sequence: 0,
         };

@@ -1,6 +1,6 @@
 -- `answers::help` meets its contract: its parts are put one after the other. Assumes nothing.
 use Rattle.text.specs.laws.Pieces.{piece, pieces, last-piece}
-use Rattle.answers.specs.Words.{wordsIn, begunBy}
+use Rattle.words.specs.Words.{wordsIn, begunBy}
 use Rattle.answers.specs.Answers.{helpText}
 use borrow.Author.Needs.{needs}
 use Rattle.answers.proofs.help.Statement.{statement}

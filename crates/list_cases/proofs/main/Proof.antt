@@ -1,4 +1,3 @@
--- `list_cases::main` meets its contract: each argument is listed once; what is left of them falls. Assumes nothing.
 use Prim.Native.Nat.{_-_}
 use borrow.Author.Needs.{needs}
 use Rattle.list_cases.proofs.main.Statement.{statement}
@@ -19,6 +18,9 @@ loop-holds c = search needs
 list-arg-requires : tie.Need-list-arg-requires Inv-loop μ-loop
 list-arg-requires c κs = search needs
 
+returns : tie.Need-returns Inv-loop μ-loop
+returns c = search needs
+
 add-i : tie.Need-add-i Inv-loop μ-loop
 add-i c = search needs
 
@@ -28,8 +30,8 @@ loop-less c = search needs
 loop-again : tie.Need-loop-again Inv-loop μ-loop
 loop-again c = search needs
 
-returns : tie.Need-returns Inv-loop μ-loop
-returns c = search needs
+returns-2 : tie.Need-returns-2 Inv-loop μ-loop
+returns-2 c = search needs
 
 pub main-spec : {M : Type 1} → statement M
 main-spec =
@@ -40,7 +42,8 @@ main-spec =
     arg-count-requires
     loop-holds
     list-arg-requires
+    returns
     add-i
     loop-less
     loop-again
-    returns)
+    returns-2)

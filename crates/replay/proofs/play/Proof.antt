@@ -20,8 +20,8 @@ part-step-end c = search needs
 step-requires : tie.Need-step-requires
 step-requires c κs = search needs
 
-add-result : tie.Need-add-result
-add-result c = search needs
+add-t14 : tie.Need-add-t14
+add-t14 c = search needs
 
 same-length : tie.Need-same-length
 same-length c = search needs
@@ -41,7 +41,7 @@ play-spec =
     part-step-start
     part-step-end
     step-requires
-    add-result
+    add-t14
     same-length
     same-length-2
     returns)

@@ -2,15 +2,15 @@ use Prim.Native.Nat.{_≤_, _+_, _-_}
 use mathlib.Core.Path.{_≡_}
 use lib.ListN.{length}
 use Rattle.io.specs.Counts.{Counts}
+use borrow.Author.Needs.{needs}
 use Rattle.replay.proofs.play_front.Statement.{statement}
 use Rattle.replay.proofs.play_front.Tie as tie
-use borrow.Author.Needs.{needs}
 
 abbrev Inv-loop : tie.InvT-loop
-Inv-loop lent₀ before piece out₀ number₀ at₀ waiting₀ n₀ lent out number at waiting n = (at + n ≤ length piece) × (Counts waiting out) × (length lent ≡ length lent₀) × (length out ≡ length out₀)
+Inv-loop lent₀ before piece out₀ number₀ at₀ lines₀ n₀ lent out number at lines n = (at + n ≤ length piece) × (Counts (lines .waiting) out) × (length lent ≡ length lent₀) × (length out ≡ length out₀)
 
 abbrev μ-loop : tie.MeasureT-loop
-μ-loop lent₀ before piece out₀ number₀ at₀ waiting₀ n₀ lent out number at waiting n = length piece - at
+μ-loop lent₀ before piece out₀ number₀ at₀ lines₀ n₀ lent out number at lines n = length piece - at
 
 front-requires : tie.Need-front-requires Inv-loop μ-loop
 front-requires c κs = search needs
@@ -36,6 +36,15 @@ part-play-end c = search needs
 play-requires : tie.Need-play-requires Inv-loop μ-loop
 play-requires c κs = search needs
 
+same-length : tie.Need-same-length Inv-loop μ-loop
+same-length c = search needs
+
+same-length-2 : tie.Need-same-length-2 Inv-loop μ-loop
+same-length-2 c = search needs
+
+returns : tie.Need-returns Inv-loop μ-loop
+returns c = search needs
+
 sub-front : tie.Need-sub-front Inv-loop μ-loop
 sub-front c = search needs
 
@@ -54,17 +63,23 @@ loop-less c = search needs
 loop-again : tie.Need-loop-again Inv-loop μ-loop
 loop-again c = search needs
 
-tell-requires : tie.Need-tell-requires Inv-loop μ-loop
-tell-requires c κs = search needs
+slice-reshare-prefix-write : tie.Need-slice-reshare-prefix-write Inv-loop μ-loop
+slice-reshare-prefix-write c = search needs
 
-same-length : tie.Need-same-length Inv-loop μ-loop
-same-length c = search needs
+slice-aggregate-write : tie.Need-slice-aggregate-write Inv-loop μ-loop
+slice-aggregate-write c = search needs
 
-same-length-2 : tie.Need-same-length-2 Inv-loop μ-loop
-same-length-2 c = search needs
+write-requires : tie.Need-write-requires Inv-loop μ-loop
+write-requires c κs = search needs
 
-returns : tie.Need-returns Inv-loop μ-loop
-returns c = search needs
+same-length-3 : tie.Need-same-length-3 Inv-loop μ-loop
+same-length-3 c = search needs
+
+same-length-4 : tie.Need-same-length-4 Inv-loop μ-loop
+same-length-4 c = search needs
+
+returns-2 : tie.Need-returns-2 Inv-loop μ-loop
+returns-2 c = search needs
 
 pub play-front-spec : {M : Type 1} → statement M
 play-front-spec =
@@ -80,13 +95,18 @@ play-front-spec =
     part-play-start
     part-play-end
     play-requires
+    same-length
+    same-length-2
+    returns
     sub-front
     part-front-start
     part-front-end
     front-requires-2
     loop-less
     loop-again
-    tell-requires
-    same-length
-    same-length-2
-    returns)
+    slice-reshare-prefix-write
+    slice-aggregate-write
+    write-requires
+    same-length-3
+    same-length-4
+    returns-2)

@@ -1,4 +1,4 @@
--- `show::put_area` meets its contract: its parts are put one after the other. Assumes nothing.
+use Rattle.show.specs.Words.{wordNumber}
 use mathlib.Core.Path.{refl, ap, _∙_}
 use Rattle.text.specs.Text.{hexes}
 use Rattle.text.specs.laws.Pieces.{piece, pieces, last-piece, same-pieces, filled}
@@ -22,8 +22,8 @@ cast-put-be c = search needs
 put-be-requires-2 : tie.Need-put-be-requires-2
 put-be-requires-2 c κs = search needs
 
-put-requires : tie.Need-put-requires
-put-requires c κs = search needs
+put-word-requires : tie.Need-put-word-requires
+put-word-requires c κs = search needs
 
 slice-aggregate-put-hexes : tie.Need-slice-aggregate-put-hexes
 slice-aggregate-put-hexes c = search needs
@@ -31,11 +31,8 @@ slice-aggregate-put-hexes c = search needs
 put-hexes-requires : tie.Need-put-hexes-requires
 put-hexes-requires c κs = search needs
 
-slice-aggregate-put : tie.Need-slice-aggregate-put
-slice-aggregate-put c = search needs
-
-put-requires-2 : tie.Need-put-requires-2
-put-requires-2 c κs = search needs
+put-word-requires-2 : tie.Need-put-word-requires-2
+put-word-requires-2 c κs = search needs
 
 slice-aggregate-put-hexes-2 : tie.Need-slice-aggregate-put-hexes-2
 slice-aggregate-put-hexes-2 c = search needs
@@ -43,18 +40,15 @@ slice-aggregate-put-hexes-2 c = search needs
 put-hexes-requires-2 : tie.Need-put-hexes-requires-2
 put-hexes-requires-2 c κs = search needs
 
-slice-aggregate-put-2 : tie.Need-slice-aggregate-put-2
-slice-aggregate-put-2 c = search needs
-
-put-requires-3 : tie.Need-put-requires-3
-put-requires-3 c κs = search needs
+put-word-requires-3 : tie.Need-put-word-requires-3
+put-word-requires-3 c κs = search needs
 
 same-length : tie.Need-same-length
 same-length c = search needs
 
 returns : tie.Need-returns
-unfolding areaText
-returns c = piece _ _ _ (c .before .before .before .before .before .before .before .before .before .before .before .before .before .before .before .before .before .before .before .before .before .before .put .ensures .1) (pieces _ _ _ (same-pieces _ (ap hexes (c .before .before .before .before .before .before .before .before .before .before .before .before .before .before .before .before .before .before .before .before .before .before .before .before .before .before .before .before .before .put-be .ensures ∙ filled 8 _ _ refl)) (c .before .before .before .before .before .before .before .before .before .before .before .before .before .before .before .before .before .put-hexes .ensures)) (piece _ _ _ (c .before .before .before .before .before .before .before .before .before .before .before .before .put2 .ensures .1) (pieces _ _ _ (same-pieces _ (ap hexes (c .before .before .before .before .before .before .before .before .before .before .before .before .before .before .before .before .before .before .before .before .before .before .before .before .before .put-be2 .ensures ∙ filled 4 _ _ refl)) (c .before .before .before .before .before .before .before .put-hexes2 .ensures)) (last-piece _ _ (c .before .before .put3 .ensures .1)))))
+unfolding areaText wordNumber
+returns c = piece _ _ _ (c .before .before .before .before .before .before .before .before .before .before .before .before .before .before .before .before .before .before .before .before .put-word .ensures .1) (pieces _ _ _ (same-pieces _ (ap hexes (c .before .before .before .before .before .before .before .before .before .before .before .before .before .before .before .before .before .before .before .before .before .before .before .before .before .before .before .put-be .ensures ∙ filled 8 _ _ refl)) (c .before .before .before .before .before .before .before .before .before .before .before .before .before .before .before .put-hexes .ensures)) (piece _ _ _ (c .before .before .before .before .before .before .before .before .before .before .before .put-word2 .ensures .1) (pieces _ _ _ (same-pieces _ (ap hexes (c .before .before .before .before .before .before .before .before .before .before .before .before .before .before .before .before .before .before .before .before .before .before .before .put-be2 .ensures ∙ filled 4 _ _ refl)) (c .before .before .before .before .before .before .put-hexes2 .ensures)) (last-piece _ _ (c .before .before .put-word3 .ensures .1)))))
 
 pub put-area-spec : {M : Type 1} → statement M
 put-area-spec =
@@ -65,14 +59,12 @@ put-area-spec =
     slice-aggregate-put-be-2
     cast-put-be
     put-be-requires-2
-    put-requires
+    put-word-requires
     slice-aggregate-put-hexes
     put-hexes-requires
-    slice-aggregate-put
-    put-requires-2
+    put-word-requires-2
     slice-aggregate-put-hexes-2
     put-hexes-requires-2
-    slice-aggregate-put-2
-    put-requires-3
+    put-word-requires-3
     same-length
     returns)

@@ -1,15 +1,12 @@
--- `show::put_caps` meets its contract: its parts are put one after the other. Assumes nothing.
+use Rattle.show.specs.Words.{wordNumber}
 use Rattle.show.specs.Show.{capsText}
 use Rattle.text.specs.laws.Pieces.{piece, pieces, last-piece}
 use borrow.Author.Needs.{needs}
 use Rattle.show.proofs.put_caps.Statement.{statement}
 use Rattle.show.proofs.put_caps.Tie as tie
 
-slice-aggregate-put : tie.Need-slice-aggregate-put
-slice-aggregate-put c = search needs
-
-put-requires : tie.Need-put-requires
-put-requires c κs = search needs
+put-word-requires : tie.Need-put-word-requires
+put-word-requires c κs = search needs
 
 cast-put-number : tie.Need-cast-put-number
 cast-put-number c = search needs
@@ -36,15 +33,14 @@ same-length : tie.Need-same-length
 same-length c = search needs
 
 returns : tie.Need-returns
-unfolding capsText
-returns c = piece _ _ _ (c .before .before .before .before .before .before .before .before .before .before .before .before .before .before .before .before .before .before .before .before .before .put .ensures .1) (pieces _ _ _ (c .before .before .before .before .before .before .before .before .before .before .before .before .before .before .before .before .put-number .ensures) (pieces _ _ _ (c .before .before .before .before .before .before .before .before .before .before .before .put-number2 .ensures) (pieces _ _ _ (c .before .before .before .before .before .before .put-number3 .ensures) (last-piece _ _ (c .before .before .put-mark .ensures)))))
+unfolding capsText wordNumber
+returns c = piece _ _ _ (c .before .before .before .before .before .before .before .before .before .before .before .before .before .before .before .before .before .before .before .before .before .put-word .ensures .1) (pieces _ _ _ (c .before .before .before .before .before .before .before .before .before .before .before .before .before .before .before .before .put-number .ensures) (pieces _ _ _ (c .before .before .before .before .before .before .before .before .before .before .before .put-number2 .ensures) (pieces _ _ _ (c .before .before .before .before .before .before .put-number3 .ensures) (last-piece _ _ (c .before .before .put-mark .ensures)))))
 
 pub put-caps-spec : {M : Type 1} → statement M
 put-caps-spec =
     tie.close
     (tie.spec
-    slice-aggregate-put
-    put-requires
+    put-word-requires
     cast-put-number
     put-number-requires
     cast-put-number-2

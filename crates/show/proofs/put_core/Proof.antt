@@ -1,4 +1,3 @@
--- `show::put_core` meets its contract: the test is that of the definition. Assumes nothing.
 use mathlib.Core.Path.{refl}
 use Rattle.text.specs.Text.{putAll}
 use Rattle.wire.specs.laws.Cases.{if-eq, else-eq}

@@ -1,4 +1,4 @@
--- `show::put_log` meets its contract: the test is that of the definition. Assumes nothing.
+use Rattle.show.specs.Words.{wordNumber}
 use mathlib.Core.Path.{refl}
 use Rattle.text.specs.Text.{putAll}
 use Rattle.wire.specs.laws.Cases.{if-eq, else-eq}
@@ -9,17 +9,14 @@ use Rattle.show.proofs.put_log.Statement.{statement}
 use Rattle.show.proofs.put_log.Tie as tie
 
 returns : tie.Need-returns
-unfolding logText putAll
+unfolding logText putAll wordNumber
 returns c = same-pieces _ (if-eq _ _ (c .if1 .taken) refl) refl
 
 put-byte-requires : tie.Need-put-byte-requires
 put-byte-requires c κs = search needs
 
-slice-aggregate-put : tie.Need-slice-aggregate-put
-slice-aggregate-put c = search needs
-
-put-requires : tie.Need-put-requires
-put-requires c κs = search needs
+put-word-requires : tie.Need-put-word-requires
+put-word-requires c κs = search needs
 
 cast-put-decimal : tie.Need-cast-put-decimal
 cast-put-decimal c = search needs
@@ -31,8 +28,8 @@ same-length : tie.Need-same-length
 same-length c = search needs
 
 returns-2 : tie.Need-returns-2
-unfolding logText
-returns-2 c = same-pieces _ (else-eq _ _ (c .before .before .before .before .before .before .before .before .before .before .before .before .before .before .if1 .left) refl) (pieces _ _ _ (c .before .before .before .before .before .before .before .before .before .before .before .before .put-byte .ensures) (piece _ _ _ (c .before .before .before .before .before .before .before .put .ensures .1) (last-piece _ _ (c .before .before .put-decimal .ensures .1))))
+unfolding logText wordNumber
+returns-2 c = same-pieces _ (else-eq _ _ (c .before .before .before .before .before .before .before .before .before .before .before .before .before .if1 .left) refl) (pieces _ _ _ (c .before .before .before .before .before .before .before .before .before .before .before .put-byte .ensures) (piece _ _ _ (c .before .before .before .before .before .before .before .put-word .ensures .1) (last-piece _ _ (c .before .before .put-decimal .ensures .1))))
 
 pub put-log-spec : {M : Type 1} → statement M
 put-log-spec =
@@ -40,8 +37,7 @@ put-log-spec =
     (tie.spec
     returns
     put-byte-requires
-    slice-aggregate-put
-    put-requires
+    put-word-requires
     cast-put-decimal
     put-decimal-requires
     same-length

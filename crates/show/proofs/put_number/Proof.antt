@@ -1,15 +1,12 @@
--- `show::put_number` meets its contract: its parts are put one after the other. Assumes nothing.
+use Rattle.show.specs.Words.{wordNumber}
 use Rattle.show.specs.Show.{numberText}
 use Rattle.text.specs.laws.Pieces.{piece, last-piece}
 use borrow.Author.Needs.{needs}
 use Rattle.show.proofs.put_number.Statement.{statement}
 use Rattle.show.proofs.put_number.Tie as tie
 
-slice-aggregate-put : tie.Need-slice-aggregate-put
-slice-aggregate-put c = search needs
-
-put-requires : tie.Need-put-requires
-put-requires c κs = search needs
+put-word-requires : tie.Need-put-word-requires
+put-word-requires c κs = search needs
 
 put-decimal-requires : tie.Need-put-decimal-requires
 put-decimal-requires c κs = search needs
@@ -18,9 +15,8 @@ same-length : tie.Need-same-length
 same-length c = search needs
 
 returns : tie.Need-returns
-unfolding numberText
-returns c = piece _ _ _ (c .before .before .before .before .before .before .put .ensures .1) (last-piece _ _ (c .before .before .put-decimal .ensures .1))
+unfolding numberText wordNumber
+returns c = piece _ _ _ (c .before .before .before .before .before .before .put-word .ensures .1) (last-piece _ _ (c .before .before .put-decimal .ensures .1))
 
 pub put-number-spec : {M : Type 1} → statement M
-put-number-spec =
-    tie.close (tie.spec slice-aggregate-put put-requires put-decimal-requires same-length returns)
+put-number-spec = tie.close (tie.spec put-word-requires put-decimal-requires same-length returns)

@@ -1,4 +1,3 @@
--- `show::put_numbers` meets its contract: the pieces left, put now, give the end. Assumes nothing.
 use Rattle.text.specs.Text.{sheet, putAll}
 use Rattle.show.specs.Show.{numbersText}
 use Rattle.show.proofs.Turns.{numbers-more, numbers-end}

@@ -1,4 +1,4 @@
--- `show::put_places` meets its contract: none is said where no id is set, else each log is put. Assumes nothing.
+use Rattle.show.specs.Words.{wordNumber}
 use mathlib.Core.Path.{refl}
 use Rattle.wire.specs.laws.Cases.{if-eq, else-eq}
 use Rattle.text.specs.laws.Pieces.{pieces, last-piece, same-pieces}
@@ -28,18 +28,15 @@ cast-if1-4 c = search needs
 add-if1-3 : tie.Need-add-if1-3
 add-if1-3 c = search needs
 
-slice-aggregate-put : tie.Need-slice-aggregate-put
-slice-aggregate-put c = search needs
-
-put-requires : tie.Need-put-requires
-put-requires c κs = search needs
+put-word-requires : tie.Need-put-word-requires
+put-word-requires c κs = search needs
 
 same-length : tie.Need-same-length
 same-length c = search needs
 
 returns : tie.Need-returns
-unfolding placesText
-returns c = same-pieces _ (if-eq _ _ (c .before .before .before .before .before .if1 .taken) refl) (last-piece _ _ (c .before .before .put .ensures .1))
+unfolding placesText wordNumber
+returns c = same-pieces _ (if-eq _ _ (c .before .before .before .before .if1 .taken) refl) (last-piece _ _ (c .before .before .put-word .ensures .1))
 
 put-log-requires : tie.Need-put-log-requires
 put-log-requires c κs = search needs
@@ -57,7 +54,7 @@ same-length-2 : tie.Need-same-length-2
 same-length-2 c = search needs
 
 returns-2 : tie.Need-returns-2
-unfolding placesText
+unfolding placesText wordNumber
 returns-2 c = same-pieces _ (else-eq _ _ (c .before .before .before .before .before .before .before .before .before .before .before .before .before .before .before .before .if1 .left) refl) (pieces _ _ _ (c .before .before .before .before .before .before .before .before .before .before .before .before .before .before .put-log .ensures) (pieces _ _ _ (c .before .before .before .before .before .before .before .before .before .before .put-log2 .ensures) (pieces _ _ _ (c .before .before .before .before .before .before .put-log3 .ensures) (c .before .before .put-log4 .ensures))))
 
 pub put-places-spec : {M : Type 1} → statement M
@@ -71,8 +68,7 @@ put-places-spec =
     add-if1-2
     cast-if1-4
     add-if1-3
-    slice-aggregate-put
-    put-requires
+    put-word-requires
     same-length
     returns
     put-log-requires

@@ -1,4 +1,3 @@
--- `show::put_reading` meets its contract: each arm puts what the definition says for it. Assumes nothing.
 use mathlib.Core.Path.{sym, ap}
 use Rattle.show.specs.Show.{readingText}
 use Rattle.text.specs.laws.Pieces.{same-pieces}

@@ -1,4 +1,3 @@
--- `show::put_rest` meets its contract: its parts are put one after the other. Assumes nothing.
 use Rattle.text.specs.laws.Pieces.{pieces}
 use Rattle.show.specs.Show.{restText}
 use borrow.Author.Needs.{needs}

@@ -1,4 +1,4 @@
--- `show::put_settings` meets its contract: its parts are put one after the other. Assumes nothing.
+use Rattle.show.specs.Words.{wordNumber}
 use Rattle.text.specs.laws.Pieces.{pieces}
 use Rattle.show.specs.Show.{settingsText}
 use borrow.Author.Needs.{needs}
@@ -14,9 +14,6 @@ put-role-requires c κs = search needs
 put-caps-requires : tie.Need-put-caps-requires
 put-caps-requires c κs = search needs
 
-slice-aggregate-put-named : tie.Need-slice-aggregate-put-named
-slice-aggregate-put-named c = search needs
-
 cast-put-named : tie.Need-cast-put-named
 cast-put-named c = search needs
 
@@ -30,8 +27,8 @@ same-length : tie.Need-same-length
 same-length c = search needs
 
 returns : tie.Need-returns
-unfolding settingsText
-returns c = pieces _ _ _ (c .before .before .before .before .before .before .before .before .before .before .before .before .before .before .before .before .before .before .before .before .put-state .ensures) (pieces _ _ _ (c .before .before .before .before .before .before .before .before .before .before .before .before .before .before .before .before .put-role .ensures) (pieces _ _ _ (c .before .before .before .before .before .before .before .before .before .before .before .before .put-caps .ensures) (pieces _ _ _ (c .before .before .before .before .before .before .put-named .ensures) (c .before .before .put-worked .ensures))))
+unfolding settingsText wordNumber
+returns c = pieces _ _ _ (c .before .before .before .before .before .before .before .before .before .before .before .before .before .before .before .before .before .before .before .put-state .ensures) (pieces _ _ _ (c .before .before .before .before .before .before .before .before .before .before .before .before .before .before .before .put-role .ensures) (pieces _ _ _ (c .before .before .before .before .before .before .before .before .before .before .before .put-caps .ensures) (pieces _ _ _ (c .before .before .before .before .before .before .put-named .ensures) (c .before .before .put-worked .ensures))))
 
 pub put-settings-spec : {M : Type 1} → statement M
 put-settings-spec =
@@ -40,7 +37,6 @@ put-settings-spec =
     put-state-requires
     put-role-requires
     put-caps-requires
-    slice-aggregate-put-named
     cast-put-named
     put-named-requires
     put-worked-requires

@@ -1,4 +1,3 @@
--- `show::put_store` meets its contract: the used part is no longer than the store. Assumes nothing.
 use lib.Seq.{length-take-le}
 use mathlib.Core.Path.{refl, sym, ap}
 use native.Mathlib.Omega.{arith}
@@ -9,15 +8,15 @@ use borrow.Author.Needs.{needs}
 use Rattle.show.proofs.put_store.Statement.{statement}
 use Rattle.show.proofs.put_store.Tie as tie
 
-put-requires : tie.Need-put-requires
-put-requires c κs = search needs
+put-word-requires : tie.Need-put-word-requires
+put-word-requires c κs = search needs
 
 same-length : tie.Need-same-length
 same-length c = search needs
 
 returns : tie.Need-returns
 unfolding storeText
-returns c = same-pieces _ (if-lt _ _ (c .before .before .before .before .if1 .taken) refl) (last-piece _ _ (c .before .before .put .ensures .1))
+returns c = same-pieces _ (if-lt _ _ (c .before .before .before .before .if1 .taken) refl) (last-piece _ _ (c .before .before .put-word .ensures .1))
 
 slice-aggregate-read : tie.Need-slice-aggregate-read
 slice-aggregate-read c = sym (length-take-le _ _ (omega arith))
@@ -39,7 +38,7 @@ pub put-store-spec : {M : Type 1} → statement M
 put-store-spec =
     tie.close
     (tie.spec
-    put-requires
+    put-word-requires
     same-length
     returns
     slice-aggregate-read

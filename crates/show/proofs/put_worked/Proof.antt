@@ -1,12 +1,9 @@
--- `show::put_worked` meets its contract: its parts are put one after the other. Assumes nothing.
+use Rattle.show.specs.Words.{wordNumber}
 use Rattle.show.specs.Show.{workedText}
 use Rattle.text.specs.laws.Pieces.{piece, pieces}
 use borrow.Author.Needs.{needs}
 use Rattle.show.proofs.put_worked.Statement.{statement}
 use Rattle.show.proofs.put_worked.Tie as tie
-
-slice-aggregate-put-named : tie.Need-slice-aggregate-put-named
-slice-aggregate-put-named c = search needs
 
 cast-put-named : tie.Need-cast-put-named
 cast-put-named c = search needs
@@ -14,20 +11,14 @@ cast-put-named c = search needs
 put-named-requires : tie.Need-put-named-requires
 put-named-requires c κs = search needs
 
-slice-aggregate-put : tie.Need-slice-aggregate-put
-slice-aggregate-put c = search needs
-
-put-requires : tie.Need-put-requires
-put-requires c κs = search needs
+put-word-requires : tie.Need-put-word-requires
+put-word-requires c κs = search needs
 
 put-yes-requires : tie.Need-put-yes-requires
 put-yes-requires c κs = search needs
 
-slice-aggregate-put-2 : tie.Need-slice-aggregate-put-2
-slice-aggregate-put-2 c = search needs
-
-put-requires-2 : tie.Need-put-requires-2
-put-requires-2 c κs = search needs
+put-word-requires-2 : tie.Need-put-word-requires-2
+put-word-requires-2 c κs = search needs
 
 put-yes-requires-2 : tie.Need-put-yes-requires-2
 put-yes-requires-2 c κs = search needs
@@ -39,21 +30,18 @@ same-length : tie.Need-same-length
 same-length c = search needs
 
 returns : tie.Need-returns
-unfolding workedText
-returns c = pieces _ _ _ (c .before .before .before .before .before .before .before .before .before .before .before .before .before .before .before .before .before .before .before .before .before .before .before .before .put-named .ensures) (piece _ _ _ (c .before .before .before .before .before .before .before .before .before .before .before .before .before .before .before .before .before .before .before .put .ensures .1) (piece _ _ _ (c .before .before .before .before .before .before .before .before .before .before .before .before .before .before .before .put-yes .ensures) (piece _ _ _ (c .before .before .before .before .before .before .before .before .before .before .put2 .ensures .1) (piece _ _ _ (c .before .before .before .before .before .before .put-yes2 .ensures) (c .before .before .put-wanted .ensures)))))
+unfolding workedText wordNumber
+returns c = pieces _ _ _ (c .before .before .before .before .before .before .before .before .before .before .before .before .before .before .before .before .before .before .before .before .before .before .put-named .ensures) (piece _ _ _ (c .before .before .before .before .before .before .before .before .before .before .before .before .before .before .before .before .before .before .put-word .ensures .1) (piece _ _ _ (c .before .before .before .before .before .before .before .before .before .before .before .before .before .before .put-yes .ensures) (piece _ _ _ (c .before .before .before .before .before .before .before .before .before .before .put-word2 .ensures .1) (piece _ _ _ (c .before .before .before .before .before .before .put-yes2 .ensures) (c .before .before .put-wanted .ensures)))))
 
 pub put-worked-spec : {M : Type 1} → statement M
 put-worked-spec =
     tie.close
     (tie.spec
-    slice-aggregate-put-named
     cast-put-named
     put-named-requires
-    slice-aggregate-put
-    put-requires
+    put-word-requires
     put-yes-requires
-    slice-aggregate-put-2
-    put-requires-2
+    put-word-requires-2
     put-yes-requires-2
     put-wanted-requires
     same-length

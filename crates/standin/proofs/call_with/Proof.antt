@@ -14,11 +14,17 @@ reply-len-requires c κs = search needs
 array-borrow-prefix-reply : tie.Need-array-borrow-prefix-reply
 array-borrow-prefix-reply c = search needs
 
-slice-aggregate-carry-out : tie.Need-slice-aggregate-carry-out
-slice-aggregate-carry-out c = sym (length-take-le _ _ (omega arith))
+slice-aggregate-part : tie.Need-slice-aggregate-part
+slice-aggregate-part c = sym (length-take-le _ _ (omega arith))
 
 carry-out-requires : tie.Need-carry-out-requires
 carry-out-requires c κs = search needs
+
+put-told-requires : tie.Need-put-told-requires
+put-told-requires c κs = search needs
+
+next-last-requires : tie.Need-next-last-requires
+next-last-requires c κs = search needs
 
 same-length : tie.Need-same-length
 same-length c = search needs
@@ -39,8 +45,10 @@ call-with-spec =
     reply-buffer-requires
     reply-len-requires
     array-borrow-prefix-reply
-    slice-aggregate-carry-out
+    slice-aggregate-part
     carry-out-requires
+    put-told-requires
+    next-last-requires
     same-length
     same-length-2
     same-length-3

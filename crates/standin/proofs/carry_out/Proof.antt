@@ -87,11 +87,11 @@ same-length-2 c = search needs
 same-length-3 : tie.Need-same-length-3
 same-length-3 c = search needs
 
-same-length-4 : tie.Need-same-length-4
-same-length-4 c = search needs
-
 returns : tie.Need-returns
 returns c = search needs
+
+same-length-4 : tie.Need-same-length-4
+same-length-4 c = search needs
 
 same-length-5 : tie.Need-same-length-5
 same-length-5 c = search needs
@@ -99,17 +99,20 @@ same-length-5 c = search needs
 same-length-6 : tie.Need-same-length-6
 same-length-6 c = search needs
 
+returns-2 : tie.Need-returns-2
+returns-2 c = search needs
+
 same-length-7 : tie.Need-same-length-7
 same-length-7 c = search needs
 
 same-length-8 : tie.Need-same-length-8
 same-length-8 c = search needs
 
-returns-2 : tie.Need-returns-2
-returns-2 c = search needs
-
 same-length-9 : tie.Need-same-length-9
 same-length-9 c = search needs
+
+returns-3 : tie.Need-returns-3
+returns-3 c = search needs
 
 same-length-10 : tie.Need-same-length-10
 same-length-10 c = search needs
@@ -117,47 +120,23 @@ same-length-10 c = search needs
 same-length-11 : tie.Need-same-length-11
 same-length-11 c = search needs
 
-same-length-12 : tie.Need-same-length-12
-same-length-12 c = search needs
-
-returns-3 : tie.Need-returns-3
-returns-3 c = search needs
-
-same-length-13 : tie.Need-same-length-13
-same-length-13 c = search needs
-
-same-length-14 : tie.Need-same-length-14
-same-length-14 c = search needs
-
-same-length-15 : tie.Need-same-length-15
-same-length-15 c = search needs
-
 returns-4 : tie.Need-returns-4
 returns-4 c = search needs
 
-same-length-16 : tie.Need-same-length-16
-same-length-16 c = search needs
-
-same-length-17 : tie.Need-same-length-17
-same-length-17 c = search needs
+same-length-12 : tie.Need-same-length-12
+same-length-12 c = search needs
 
 returns-5 : tie.Need-returns-5
 returns-5 c = search needs
 
-same-length-18 : tie.Need-same-length-18
-same-length-18 c = search needs
-
-same-length-19 : tie.Need-same-length-19
-same-length-19 c = search needs
+same-length-13 : tie.Need-same-length-13
+same-length-13 c = search needs
 
 returns-6 : tie.Need-returns-6
 returns-6 c = search needs
 
-same-length-20 : tie.Need-same-length-20
-same-length-20 c = search needs
-
-same-length-21 : tie.Need-same-length-21
-same-length-21 c = search needs
+same-length-14 : tie.Need-same-length-14
+same-length-14 c = search needs
 
 returns-7 : tie.Need-returns-7
 returns-7 c = search needs
@@ -193,28 +172,21 @@ carry-out-spec =
     same-length
     same-length-2
     same-length-3
-    same-length-4
     returns
+    same-length-4
     same-length-5
     same-length-6
+    returns-2
     same-length-7
     same-length-8
-    returns-2
     same-length-9
+    returns-3
     same-length-10
     same-length-11
-    same-length-12
-    returns-3
-    same-length-13
-    same-length-14
-    same-length-15
     returns-4
-    same-length-16
-    same-length-17
+    same-length-12
     returns-5
-    same-length-18
-    same-length-19
+    same-length-13
     returns-6
-    same-length-20
-    same-length-21
+    same-length-14
     returns-7)

@@ -7,19 +7,16 @@ use Rattle.standin.proofs.load.Statement.{statement}
 use Rattle.standin.proofs.load.Tie as tie
 
 slice-aggregate-copy : tie.Need-slice-aggregate-copy
-slice-aggregate-copy c = sym (length-take-le imageLength (c .before .before .before .before .before .args .sent .now) (omega (arith, c .before .before .before .before .before .pre .1)))
+slice-aggregate-copy c = sym (length-take-le imageLength (c .before .before .before .before .args .sent .now) (omega (arith, c .before .before .before .before .pre .1)))
 
 copy-requires : tie.Need-copy-requires
-copy-requires c κs = omega (arith, c .before .before .before .before .before .pre .0, length-take-le imageLength (c .before .before .before .before .before .args .sent .now) (omega (arith, c .before .before .before .before .before .pre .1)))
+copy-requires c κs = omega (arith, c .before .before .before .before .pre .0, length-take-le imageLength (c .before .before .before .before .args .sent .now) (omega (arith, c .before .before .before .before .pre .1)))
 
-tell-ok-requires : tie.Need-tell-ok-requires
-tell-ok-requires c κs = search needs
+answer-with-requires : tie.Need-answer-with-requires
+answer-with-requires c κs = search needs
 
 same-length : tie.Need-same-length
 same-length c = search needs
-
-same-length-2 : tie.Need-same-length-2
-same-length-2 c = search needs
 
 returns : tie.Need-returns
 returns c = search needs
@@ -27,10 +24,4 @@ returns c = search needs
 pub load-spec : {M : Type 1} → statement M
 load-spec =
     tie.close
-    (tie.spec
-    slice-aggregate-copy
-    copy-requires
-    tell-ok-requires
-    same-length
-    same-length-2
-    returns)
+    (tie.spec slice-aggregate-copy copy-requires answer-with-requires same-length returns)

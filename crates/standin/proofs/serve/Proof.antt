@@ -1,4 +1,3 @@
--- `standin::serve` meets its contract: the lengths are kept; the turns left fall. Assumes nothing.
 use mathlib.Core.Path.{_≡_}
 use lib.ListN.{length}
 use Rattle.standin.proofs.serve.Statement.{statement}
@@ -20,14 +19,17 @@ loop-holds c = search needs
 sub-left : tie.Need-sub-left Inv-loop μ-loop
 sub-left c = search needs
 
-read-requires : tie.Need-read-requires Inv-loop μ-loop
-read-requires c κs = search needs
+fetch-requires : tie.Need-fetch-requires Inv-loop μ-loop
+fetch-requires c κs = search needs
 
-count-requires : tie.Need-count-requires Inv-loop μ-loop
-count-requires c κs = search needs
+slice-reshare-prefix-serve-piece : tie.Need-slice-reshare-prefix-serve-piece Inv-loop μ-loop
+slice-reshare-prefix-serve-piece c = search needs
 
-finish-requires : tie.Need-finish-requires Inv-loop μ-loop
-finish-requires c κs = search needs
+slice-aggregate-serve-piece : tie.Need-slice-aggregate-serve-piece Inv-loop μ-loop
+slice-aggregate-serve-piece c = search needs
+
+serve-piece-requires : tie.Need-serve-piece-requires Inv-loop μ-loop
+serve-piece-requires c κs = search needs
 
 same-length : tie.Need-same-length Inv-loop μ-loop
 same-length c = search needs
@@ -46,15 +48,6 @@ same-length-5 c = search needs
 
 returns : tie.Need-returns Inv-loop μ-loop
 returns c = search needs
-
-slice-reshare-prefix-serve-piece : tie.Need-slice-reshare-prefix-serve-piece Inv-loop μ-loop
-slice-reshare-prefix-serve-piece c = search needs
-
-slice-aggregate-serve-piece : tie.Need-slice-aggregate-serve-piece Inv-loop μ-loop
-slice-aggregate-serve-piece c = search needs
-
-serve-piece-requires : tie.Need-serve-piece-requires Inv-loop μ-loop
-serve-piece-requires c κs = search needs
 
 loop-less : tie.Need-loop-less Inv-loop μ-loop
 loop-less c = search needs
@@ -89,18 +82,16 @@ serve-spec =
     answer-with-requires
     loop-holds
     sub-left
-    read-requires
-    count-requires
-    finish-requires
+    fetch-requires
+    slice-reshare-prefix-serve-piece
+    slice-aggregate-serve-piece
+    serve-piece-requires
     same-length
     same-length-2
     same-length-3
     same-length-4
     same-length-5
     returns
-    slice-reshare-prefix-serve-piece
-    slice-aggregate-serve-piece
-    serve-piece-requires
     loop-less
     loop-again
     same-length-6

@@ -1,12 +1,12 @@
--- `answers::nth` meets its contract: the word wanted is the one left to count to among the words left. Assumes nothing.
+-- `words::nth` meets its contract: the word wanted is the one left to count to among the words left. Assumes nothing.
 use Prim.Native.Nat.{_-_}
 use mathlib.Core.Path.{_≡_, refl}
 use mathlib.Core.List.{[]}
 use lib.ListN.{length, drop, getD}
-use Rattle.answers.specs.Words.{wordsIn, wordAt}
-use Rattle.answers.proofs.Words.{word-here, word-later, word-none}
-use Rattle.answers.proofs.nth.Statement.{statement}
-use Rattle.answers.proofs.nth.Tie as tie
+use Rattle.words.specs.Words.{wordsIn, wordAt}
+use Rattle.words.proofs.Walk.{word-here, word-later, word-none}
+use Rattle.words.proofs.nth.Statement.{statement}
+use Rattle.words.proofs.nth.Tie as tie
 use borrow.Author.Needs.{needs}
 
 abbrev Inv-loop : tie.InvT-loop

@@ -1,12 +1,12 @@
--- `answers::put_words` meets its contract: the words left, put now, give the end. Assumes nothing.
+-- `words::put_words` meets its contract: the words left, put now, give the end. Assumes nothing.
 use Prim.Native.Nat.{_-_}
 use mathlib.Core.Path.{_≡_, refl, _∙_}
 use lib.ListN.{length, drop}
 use Rattle.text.specs.Text.{sheet, putAll}
-use Rattle.answers.specs.Words.{wordsIn}
-use Rattle.answers.proofs.Words.{words-more, words-end}
-use Rattle.answers.proofs.put_words.Statement.{statement}
-use Rattle.answers.proofs.put_words.Tie as tie
+use Rattle.words.specs.Words.{wordsIn}
+use Rattle.words.proofs.Walk.{words-more, words-end}
+use Rattle.words.proofs.put_words.Statement.{statement}
+use Rattle.words.proofs.put_words.Tie as tie
 use borrow.Author.Needs.{needs}
 
 abbrev Inv-loop : tie.InvT-loop

@@ -1,0 +1,95 @@
+/* What bjargolsk.h says of its callers' buffers, tried: any alignment, NULL with length 0, sessions that calls which change nothing leave unwritten. */
+#define _DEFAULT_SOURCE /* mmap's MAP_ANONYMOUS */
+#include <stdio.h>
+#include <sys/mman.h>
+
+#include "bjargolsk.h"
+
+enum { ROOM = 2 * 4096 };
+
+static const uint8_t poll_packet[] = {1, 0x00, 0, 1, 0x10, 0, 0x12};
+static const uint8_t refused_packet[] = {2, 0x22, 0, 2, 0xFF, 0xFF, 0x02, 0x24};
+static uint8_t reply[BJARGOLSK_OCC_REPLY + 64];
+static int failures;
+
+static void expect(const char *what, uint32_t result, uint32_t answer)
+{
+    if (BJARGOLSK_ANSWER(result) != answer) {
+        printf("%s: answer %u, not %u\n", what, (unsigned)BJARGOLSK_ANSWER(result), (unsigned)answer);
+        failures++;
+    }
+}
+
+static uint32_t occ(uint8_t *session, const uint8_t *command, size_t length, size_t shift)
+{
+    return bjargolsk_occ(session, BJARGOLSK_SESSION, BJARGOLSK_HTMGT, command, length, reply + shift, BJARGOLSK_OCC_REPLY);
+}
+
+static void nulls(uint8_t *session)
+{
+    expect("fresh, no session", bjargolsk_fresh(NULL, 0), 1);
+    expect("occ, no session", bjargolsk_occ(NULL, 0, BJARGOLSK_HTMGT, poll_packet, sizeof poll_packet, reply, BJARGOLSK_OCC_REPLY), 1);
+    expect("occ, no command", occ(session, NULL, 0, 0), 4);
+    expect("occ, no reply", bjargolsk_occ(session, BJARGOLSK_SESSION, BJARGOLSK_HTMGT, poll_packet, sizeof poll_packet, NULL, 0), 3);
+    expect("sbe, no request", bjargolsk_sbe(session, BJARGOLSK_SESSION, NULL, 0, reply, BJARGOLSK_SBE_REPLY), 4);
+    expect("sbe, no reply", bjargolsk_sbe(session, BJARGOLSK_SESSION, poll_packet, sizeof poll_packet, NULL, 0), 3);
+    expect("undo, no session", bjargolsk_undo(NULL, 0), 1);
+    expect("redo, no session", bjargolsk_redo(NULL, 0), 1);
+}
+
+/* On a page that can't be written: a call that wrote would end the program. */
+static void unwritten(uint8_t *session)
+{
+    static const uint8_t unknown_request[BJARGOLSK_SBE_REPLY] = {0, 0, 1, 0, 0, 1, 0xEE, 0xEE};
+    expect("poll, read-only", occ(session, poll_packet, sizeof poll_packet, 0), 0);
+    expect("refused by status, read-only", occ(session, refused_packet, sizeof refused_packet, 0), 0);
+    expect("refused by answer, read-only", occ(session, poll_packet, 3, 0), 4);
+    expect("unknown request, read-only", bjargolsk_sbe(session, BJARGOLSK_SESSION, unknown_request, sizeof unknown_request, reply, BJARGOLSK_SBE_REPLY), 0);
+    expect("undo of nothing, read-only", bjargolsk_undo(session, BJARGOLSK_SESSION), 6);
+    expect("redo of nothing, read-only", bjargolsk_redo(session, BJARGOLSK_SESSION), 8);
+}
+
+/* A journal that is full: the same request is answered 5, on a page that can't be written too. */
+static void full(uint8_t *session)
+{
+    static const uint8_t mask_request[BJARGOLSK_SBE_REPLY] = {0, 0, 0, 0, 0, 1, 0xD1, 0x03};
+    uint32_t result = 0;
+    bjargolsk_fresh(session, BJARGOLSK_SESSION);
+    while (BJARGOLSK_ANSWER(result) == 0)
+        result = bjargolsk_sbe(session, BJARGOLSK_SESSION, mask_request, sizeof mask_request, reply, BJARGOLSK_SBE_REPLY);
+    expect("full journal", result, 5);
+    mprotect(session, ROOM, PROT_READ);
+    expect("full journal, read-only", bjargolsk_sbe(session, BJARGOLSK_SESSION, mask_request, sizeof mask_request, reply, BJARGOLSK_SBE_REPLY), 5);
+    mprotect(session, ROOM, PROT_READ | PROT_WRITE);
+}
+
+/* An entry that can't be put in (docs/IMAGE.md): a log is to come back at place 1, and none pends; next id 2, 4 bytes of journal. */
+static void damaged(uint8_t *session)
+{
+    static const uint8_t tail[] = {0, 2, 0, 4, 1, 1, 1, 1};
+    bjargolsk_fresh(session, BJARGOLSK_SESSION);
+    for (size_t i = 0; i < sizeof tail; i++)
+        session[235 + i] = tail[i];
+    mprotect(session, ROOM, PROT_READ);
+    expect("undo that can't be, read-only", bjargolsk_undo(session, BJARGOLSK_SESSION), 7);
+    mprotect(session, ROOM, PROT_READ | PROT_WRITE);
+}
+
+int main(void)
+{
+    uint8_t *pages = mmap(NULL, ROOM, PROT_READ | PROT_WRITE, MAP_PRIVATE | MAP_ANONYMOUS, -1, 0);
+    if (pages == MAP_FAILED)
+        return 2;
+    for (size_t shift = 0; shift < 64; shift++) {
+        expect("fresh, any alignment", bjargolsk_fresh(pages + shift, BJARGOLSK_SESSION), 0);
+        expect("poll, any alignment", occ(pages + shift, poll_packet, sizeof poll_packet, shift), 0);
+    }
+    bjargolsk_fresh(pages, BJARGOLSK_SESSION);
+    nulls(pages);
+    full(pages);
+    damaged(pages);
+    bjargolsk_fresh(pages, BJARGOLSK_SESSION);
+    mprotect(pages, ROOM, PROT_READ);
+    unwritten(pages);
+    return failures != 0;
+}

@@ -19,7 +19,7 @@ use Rattle.session.specs.declared.Session.{Session}
 use Rattle.image.specs.Rows.{widthsOf}
 use Rattle.image.specs.laws.Rows.{length-joined}
 use Rattle.image.specs.laws.Image.{recordWidths, widths-record}
-use Rattle.image.specs.Image.{byte, headRows, throttlesRows, thermalRows, logsRows, mailboxRows, workedRows, recordRows, sessionRows, imageOf}
+use Rattle.image.specs.Image.{byte, headRows, throttlesRows, thermalRows, logsRows, mailboxRows, workedRows, recordRows, laterRows, sessionRows, imageOf}
 use Rattle.layout.specs.Layout.{imageLength}
 
 -- bytes written after those that were written from a place on
@@ -45,11 +45,12 @@ pub length-record : (r : Record) → length (r .throttles .sets) ≡ 160 → len
 unfolding sumOf recordWidths
 length-record r sets thermal = length-joined (recordRows r) ∙ ap sumOf (widths-record r sets thermal)
 
-pub length-session : (s : Session) → length (joined (recordRows (s .held))) ≡ 230 → length (s .journal) ≡ 2048 → length (s .redo) ≡ 2048 → length (imageOf s) ≡ imageLength
+pub length-session : (s : Session) → length (joined (recordRows (s .held))) ≡ 230 → length (s .journal) ≡ 2048 → length (s .redo) ≡ 2048 → length (s .marks) ≡ 64
+    → length (imageOf s) ≡ imageLength
 unfolding sumOf widthsOf imageOf sessionRows workedRows toBE
-length-session s h e f =
-    let rest = workedRows (s .worked) (s .next) (s .used) ++ (s .journal ∷ toBE 2 (s .ahead) ∷ s .redo ∷ []) in
-    let m = length-joined rest ∙ ap sumOf (λ i. 2 ∷ 1 ∷ 1 ∷ 1 ∷ 2 ∷ 2 ∷ e i ∷ 2 ∷ f i ∷ []) in
+length-session s h e f g =
+    let rest = workedRows (s .worked) (s .next) (s .used) ++ (s .journal ∷ toBE 2 (s .ahead) ∷ s .redo ∷ laterRows s) in
+    let m = length-joined rest ∙ ap sumOf (λ i. 2 ∷ 1 ∷ 1 ∷ 1 ∷ 2 ∷ 2 ∷ e i ∷ 2 ∷ f i ∷ g i ∷ []) in
     ap length (joined-append (recordRows (s .held)) rest) ∙ length-append (joined (recordRows (s .held))) (joined rest) ∙ ap₂ (λ (a b : ℕ). a + b) h m
 
 -- a buffer that is filled by what is written
@@ -131,7 +132,8 @@ module _ (d : List ℕ) (long : 239 ≤ length d) where
       rows-on 239 d long 0 193 four (mailboxRows (r .mask) (r .deadman) (r .areas)) y z (lit< tt) (from-front four (take 21 recordWidths) (ap (take 21) (widths-record r sets thermal))) k j
 
 -- the whole image, field after field
-module _ (d : List ℕ) (long : 2289 ≤ length d) (s : Session) (wide : length (joined (recordRows (s .held))) ≡ 230) (journal : length (s .journal) ≡ 2048) where
+module _ (d : List ℕ) (long : 4337 ≤ length d) (s : Session) (wide : length (joined (recordRows (s .held))) ≡ 230) (journal : length (s .journal) ≡ 2048)
+    (redo : length (s .redo) ≡ 2048) where
   abbrev head : List (List ℕ)
   head = recordRows (s .held) ++ workedRows (s .worked) (s .next) (s .used)
 
@@ -147,17 +149,30 @@ module _ (d : List ℕ) (long : 2289 ≤ length d) (s : Session) (wide : length 
       ∙ length-append (joined head) (s .journal)
       ∙ ap₂ (λ (a b : ℕ). a + b) length-head journal
 
-  pub session-put : (x y u v z : List ℕ) → x ≡ pasted 0 (joined (recordRows (s .held))) d → y ≡ pasted 230 (joined (workedRows (s .worked) (s .next) (s .used))) x
-      → u ≡ pasted 239 (s .journal) y → v ≡ pasted 2287 (toBE 2 (s .ahead)) u → z ≡ pasted 2289 (s .redo) v → z ≡ pasted 0 (imageOf s) d
-  unfolding joined imageOf sessionRows toBE
-  session-put x y u v z p q r t w =
-      let stores = s .journal ∷ toBE 2 (s .ahead) ∷ [] in
-      let two = rows-on 2289 d long 0 230 (recordRows (s .held)) (workedRows (s .worked) (s .next) (s .used)) x y (lit< tt) (zero-add _ ∙ wide) p q in
-      let three = row-on 2289 d long 0 239 head (s .journal) y u (lit< tt) (zero-add _ ∙ length-head) two r in
-      let four = row-on 2289 d long 0 2287 (head ++ (s .journal ∷ [])) (toBE 2 (s .ahead)) u v (lit< tt) (zero-add _ ∙ length-with) three t in
-      let long′ = ap length (joined-append (head ++ (s .journal ∷ [])) (toBE 2 (s .ahead) ∷ [])) ∙ length-append (joined (head ++ (s .journal ∷ []))) _ ∙ ap (λ (n : ℕ). n + 2) length-with in
-      row-on 2289 d long 0 2289 ((head ++ (s .journal ∷ [])) ++ (toBE 2 (s .ahead) ∷ [])) (s .redo) v z (lit< tt) (zero-add _ ∙ long′) four w
+  abbrev stores : List (List ℕ)
+  stores = head ++ (s .journal ∷ [])
+
+  length-ahead : length (joined (stores ++ (toBE 2 (s .ahead) ∷ []))) ≡ 2289
+  unfolding joined toBE
+  length-ahead = ap length (joined-append stores (toBE 2 (s .ahead) ∷ [])) ∙ length-append (joined stores) _ ∙ ap (λ (n : ℕ). n + 2) length-with
+
+  length-redo : length (joined ((stores ++ (toBE 2 (s .ahead) ∷ [])) ++ (s .redo ∷ []))) ≡ 4337
+  unfolding joined
+  length-redo =
+      ap length (joined-append (stores ++ (toBE 2 (s .ahead) ∷ [])) (s .redo ∷ []) ∙ ap (λ (l : List ℕ). joined (stores ++ (toBE 2 (s .ahead) ∷ [])) ++ l) (append-nil (s .redo)))
+      ∙ length-append (joined (stores ++ (toBE 2 (s .ahead) ∷ []))) (s .redo) ∙ ap₂ (λ (a b : ℕ). a + b) length-ahead redo
+
+  pub session-put : (x y u v w z : List ℕ) → x ≡ pasted 0 (joined (recordRows (s .held))) d → y ≡ pasted 230 (joined (workedRows (s .worked) (s .next) (s .used))) x
+      → u ≡ pasted 239 (s .journal) y → v ≡ pasted 2287 (toBE 2 (s .ahead)) u → w ≡ pasted 2289 (s .redo) v → z ≡ pasted 4337 (s .marks) w → z ≡ pasted 0 (imageOf s) d
+  unfolding imageOf sessionRows
+  session-put x y u v w z p q r t k m =
+      let two = rows-on 4337 d long 0 230 (recordRows (s .held)) (workedRows (s .worked) (s .next) (s .used)) x y (lit< tt) (zero-add _ ∙ wide) p q in
+      let three = row-on 4337 d long 0 239 head (s .journal) y u (lit< tt) (zero-add _ ∙ length-head) two r in
+      let four = row-on 4337 d long 0 2287 stores (toBE 2 (s .ahead)) u v (lit< tt) (zero-add _ ∙ length-with) three t in
+      let five = row-on 4337 d long 0 2289 (stores ++ (toBE 2 (s .ahead) ∷ [])) (s .redo) v w (lit< tt) (zero-add _ ∙ length-ahead) four k in
+      row-on 4337 d long 0 4337 ((stores ++ (toBE 2 (s .ahead) ∷ [])) ++ (s .redo ∷ [])) (s .marks) w z (lit< tt) (zero-add _ ∙ length-redo) five m
       ∙ ap (λ (l : List (List ℕ)). pasted 0 (joined l) d)
-      (append-assoc (head ++ (s .journal ∷ [])) (toBE 2 (s .ahead) ∷ []) (s .redo ∷ [])
-      ∙ append-assoc head (s .journal ∷ []) (toBE 2 (s .ahead) ∷ s .redo ∷ [])
-      ∙ append-assoc (recordRows (s .held)) (workedRows (s .worked) (s .next) (s .used)) (stores ++ (s .redo ∷ [])))
+      (append-assoc (stores ++ (toBE 2 (s .ahead) ∷ [])) (s .redo ∷ []) (s .marks ∷ [])
+      ∙ append-assoc stores (toBE 2 (s .ahead) ∷ []) (s .redo ∷ s .marks ∷ [])
+      ∙ append-assoc head (s .journal ∷ []) (toBE 2 (s .ahead) ∷ s .redo ∷ s .marks ∷ [])
+      ∙ append-assoc (recordRows (s .held)) (workedRows (s .worked) (s .next) (s .used)) (s .journal ∷ toBE 2 (s .ahead) ∷ s .redo ∷ s .marks ∷ []))

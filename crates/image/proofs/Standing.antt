@@ -8,24 +8,28 @@ use lib.Seq.{length-take-le, drop-drop}
 use Rattle.wire.specs.Wire.{toBE, pasted, joined}
 use Rattle.wire.specs.laws.Wire.{drop-pasted, length-pasted, paste-self}
 use Rattle.image.specs.declared.Head.{Head}
-use Rattle.image.specs.Image.{recordRows, workedRows, imageOf, partAt, journalIn, redoIn, withStore, sessionIn}
+use Rattle.image.specs.Image.{recordRows, workedRows, imageOf, partAt, storeAt, journalIn, redoIn, marksIn, withPart, withStore, sessionIn}
+use Rattle.journal.specs.declared.Way.the-variants.{Before, After}
 use Rattle.layout.specs.Layout.{imageLength}
-use Rattle.image.specs.laws.Stores.{store-long, store-back, store-below, store-pasted}
+use Rattle.image.specs.laws.Stores.{part-pasted, part-long, part-below, store-long, store-back, store-below, store-marks, marks-back, marks-store}
 use Rattle.image.proofs.Fields.{filled, length-session, session-put}
 
 -- a store has its 2,048 bytes
 pub length-store : (b : List ℕ) → length b ≡ imageLength → (at : ℕ) → at ≤ 2289 → length (partAt 2048 at b) ≡ 2048
 length-store b long at h = length-take-le 2048 (drop at b) (simp length-drop (omega arith))
 
--- both stores written
-pub both-put : (d j r x y : List ℕ) → x ≡ pasted 239 j d → y ≡ pasted 2289 r x → length d ≡ imageLength → length j ≡ 2048 → length r ≡ 2048
-    → (journalIn y ≡ j) × (redoIn y ≡ r)
-both-put d j r x y p q long wj wr =
-    let one : x ≡ withStore 239 j d = p ∙ store-pasted d j long wj 239 (omega arith) in
+-- both stores and the marks written
+pub stores-put : (d j r m x y z : List ℕ) → x ≡ pasted 239 j d → y ≡ pasted 2289 r x → z ≡ pasted 4337 m y → length d ≡ imageLength → length j ≡ 2048 → length r ≡ 2048
+    → length m ≡ 64 → (journalIn z ≡ j) × ((redoIn z ≡ r) × (marksIn z ≡ m))
+unfolding storeAt
+stores-put d j r m x y z p q t long wj wr wm =
+    let one : x ≡ withStore 239 j d = p ∙ part-pasted 2048 d j long wj 239 (omega arith) in
     let same : length x ≡ imageLength = ap length one ∙ store-long d j long wj 239 (omega arith) in
-    let two : y ≡ withStore 2289 r x = q ∙ store-pasted x r same wr 2289 (omega arith) in (
-      ap journalIn two ∙ store-below x r same wr 2289 (omega arith) 239 (omega arith) ∙ ap journalIn one ∙ store-back d j long wj 239 (omega arith),
-      ap redoIn two ∙ store-back x r same wr 2289 (omega arith),
+    let two : y ≡ withStore 2289 r x = q ∙ part-pasted 2048 x r same wr 2289 (omega arith) in
+    let still : length y ≡ imageLength = ap length two ∙ store-long x r same wr 2289 (omega arith) in
+    let three : z ≡ withPart 64 4337 m y = t ∙ part-pasted 64 y m still wm 4337 (omega arith) in (
+      ap journalIn three ∙ marks-store y m still wm Before ∙ ap journalIn two ∙ store-below x r same wr 2289 (omega arith) 239 (omega arith) ∙ ap journalIn one ∙ store-back d j long wj 239 (omega arith),
+      (ap redoIn three ∙ marks-store y m still wm After ∙ ap redoIn two ∙ store-back x r same wr 2289 (omega arith), ap marksIn three ∙ marks-back y m still wm),
     )
 
 module _ (d : List ℕ) (long : length d ≡ imageLength) (h : Head) (x y z : List ℕ) (wide : length (joined (recordRows (h .held))) ≡ 230)
@@ -67,6 +71,9 @@ module _ (d : List ℕ) (long : length d ≡ imageLength) (h : Head) (x y z : Li
   head-stands =
       let journal : y ≡ pasted 239 (journalIn d) y = sym (paste-self 239 2048 y (omega (arith, length-kept))) ∙ ap (λ (l : List ℕ). pasted 239 (take 2048 l) y) tail-kept in
       let redo : z ≡ pasted 2289 (redoIn d) z = sym (paste-self 2289 2048 z (omega (arith, length-after))) ∙ ap (λ (l : List ℕ). pasted 2289 (take 2048 l) z) end-kept in
+      let above : drop 4337 z ≡ drop 4337 d = sym (drop-drop 2048 2289 z) ∙ ap (drop 2048) end-kept ∙ drop-drop 2048 2289 d in
+      let marks : z ≡ pasted 4337 (marksIn d) z = sym (paste-self 4337 64 z (omega (arith, length-after))) ∙ ap (λ (l : List ℕ). pasted 4337 (take 64 l) z) above in
       let one = length-store d long 239 (omega arith) in
-      let all = session-put d (omega arith) (sessionIn h d) wide one x y y z z p q journal r redo in
-      filled imageLength _ d z (length-session (sessionIn h d) wide one (length-store d long 2289 (omega arith))) all long
+      let two = length-store d long 2289 (omega arith) in
+      let all = session-put d (omega arith) (sessionIn h d) wide one two x y y z z z p q journal r redo marks in
+      filled imageLength _ d z (length-session (sessionIn h d) wide one two (length-take-le 64 (drop 4337 d) (simp length-drop (omega arith)))) all long

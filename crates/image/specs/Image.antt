@@ -1,4 +1,4 @@
--- The image of a session: its fields one after the other, numbers big-endian, no padding, 4,337 bytes. Beside each row is its offset.
+-- The image of a session: its fields one after the other, numbers big-endian, no padding, 4,401 bytes. Beside each row is its offset.
 use Prim.Native.Nat.{ℕ, _+_}
 use mathlib.Core.Bool.{cond, not}
 use mathlib.Core.List.{List, [], _∷_, _++_}
@@ -17,7 +17,7 @@ use Rattle.record.specs.declared.Worked.{Worked}
 use Rattle.journal.specs.declared.Way.{Way}
 use Rattle.journal.specs.declared.Way.the-variants.{Before, After}
 use Rattle.session.specs.declared.Session.{Session}
-use Rattle.layout.specs.Layout.{storeSize, journalAt, aheadAt, redoAt, imageLength}
+use Rattle.layout.specs.Layout.{storeSize, marksSize, journalAt, aheadAt, redoAt, marksAt, imageLength}
 use Rattle.image.specs.declared.Head.{Head}
 
 -- ---- a session as bytes
@@ -93,7 +93,9 @@ recordRows r =
 
 -- what stands after the redo store, as wide as `laterWidths` says (layout/specs/Layout.antt)
 abbrev pub laterRows : Session → List (List ℕ)
-laterRows s = []  -- 4337
+laterRows s =
+    s .marks  -- 4337
+    ∷ []
 
 unfoldable pub sessionRows : Session → List (List ℕ)
 sessionRows s =
@@ -163,7 +165,7 @@ recordIn b =
 unfoldable pub workedIn : List ℕ → Worked
 workedIn b = record { limit = numberAt 2 230 b; observation = byteAt 232 b; active = byteAt 233 b; wanted = byteAt 234 b }
 
--- a session's head: all but its journal and its redo store
+-- a session's head: all but its journal, its redo store and its marks
 unfoldable pub headIn : List ℕ → Head
 headIn b = record { held = recordIn b; worked = workedIn b; next = numberAt 2 235 b; used = numberAt 2 237 b; ahead = numberAt 2 aheadAt b }
 
@@ -179,9 +181,12 @@ storeAt After = redoAt
 abbrev pub storeIn : Way → List ℕ → List ℕ
 storeIn w b = partAt storeSize (storeAt w) b
 
--- the bytes with x for the store at a place
+-- the bytes with x for the n bytes at a place; with x for the store there
+abbrev pub withPart : ℕ → ℕ → List ℕ → List ℕ → List ℕ
+withPart n at x b = take at b ++ (x ++ drop n (drop at b))
+
 abbrev pub withStore : ℕ → List ℕ → List ℕ → List ℕ
-withStore at x b = take at b ++ (x ++ drop storeSize (drop at b))
+withStore at x b = withPart storeSize at x b
 
 abbrev pub journalIn : List ℕ → List ℕ
 journalIn b = partAt storeSize journalAt b
@@ -189,10 +194,13 @@ journalIn b = partAt storeSize journalAt b
 abbrev pub redoIn : List ℕ → List ℕ
 redoIn b = partAt storeSize redoAt b
 
--- a head, and the stores that stand in the bytes
+abbrev pub marksIn : List ℕ → List ℕ
+marksIn b = partAt marksSize marksAt b
+
+-- a head, and the stores and marks that stand in the bytes
 unfoldable pub sessionIn : Head → List ℕ → Session
 sessionIn h b =
-    record { held = h .held; worked = h .worked; next = h .next; used = h .used; journal = journalIn b; ahead = h .ahead; redo = redoIn b }
+    record { held = h .held; worked = h .worked; next = h .next; used = h .used; journal = journalIn b; ahead = h .ahead; redo = redoIn b; marks = marksIn b }
 
 unfoldable pub sessionOf : List ℕ → Session
 sessionOf b = sessionIn (headIn b) b

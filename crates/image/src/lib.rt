@@ -1,9 +1,9 @@
-// A session as 4,337 bytes, its image: its head read and written at the fields' offsets, numbers big-endian, no padding.
+// A session as 4,401 bytes, its image: its head read and written at the fields' offsets, numbers big-endian, no padding.
 ghost use mathlib.Core.Path.{_≡_};
 ghost use Prim.Native.Nat.{_≤_, _+_};
 ghost use lib.ListN.{length};
 ghost use Rattle.wire.specs.Wire.{pasted, Bytes, joined};
-ghost use Rattle.image.specs.Image.{headRows, throttlesRows, thermalRows, logsRows, mailboxRows, workedRows, recordRows, imageOf, writtenTo, partAt, capsIn, throttlesIn, receivedIn, logAt, logsIn, deadmanIn, areasIn, recordIn, workedIn, headIn, headRenewed, storeAt, journalIn, redoIn, sessionIn};
+ghost use Rattle.image.specs.Image.{headRows, throttlesRows, thermalRows, logsRows, mailboxRows, workedRows, recordRows, imageOf, writtenTo, partAt, capsIn, throttlesIn, receivedIn, logAt, logsIn, deadmanIn, areasIn, recordIn, workedIn, headIn, headRenewed, storeAt, journalIn, redoIn, marksIn, sessionIn};
 ghost use Rattle.layout.specs.Layout.{journalAt, redoAt, imageLength};
 use journal::Way;
 use record::Area;
@@ -17,7 +17,7 @@ use record::Throttles;
 use record::Worked;
 use session::Session;
 
-// A session without its journal and its redo store, which stay in the lent bytes.
+// A session without its journal, its redo store and its marks, which stay in the lent bytes.
 pub struct Head {
     pub held: Record,
     pub worked: Worked,
@@ -151,7 +151,7 @@ fn put_record(d: &mut [u8], r: Record)
     put_mailbox(d, r.mask, deadman, areas);
 }
 
-// The head, around the stores that stand there.
+// The head, around the stores and marks that stand there.
 pub fn write_head(d: &mut [u8], h: Head)
     requires { ⌜ length (now d) ≡ imageLength ⌝ }
     ensures { λ _. ⌜ now (d .exit) ≡ imageOf (sessionIn h (now (d .entry))) ⌝ }
@@ -163,12 +163,13 @@ pub fn write_head(d: &mut [u8], h: Head)
     wire::put_be(d, layout::AHEAD, 2, h.ahead as u64);
 }
 
-fn put_stores(d: &mut [u8], journal: [u8; 2048], redo: [u8; 2048])
+fn put_stores(d: &mut [u8], journal: [u8; 2048], redo: [u8; 2048], marks: [u8; 64])
     requires { ⌜ length (now d) ≡ imageLength ⌝ }
-    ensures { λ _. ⌜ (journalIn (now (d .exit)) ≡ journal) × (redoIn (now (d .exit)) ≡ redo) ⌝ }
+    ensures { λ _. ⌜ (journalIn (now (d .exit)) ≡ journal) × ((redoIn (now (d .exit)) ≡ redo) × (marksIn (now (d .exit)) ≡ marks)) ⌝ }
 {
     wire::copy(&mut *d, layout::JOURNAL, &journal);
-    wire::copy(d, layout::REDO, &redo);
+    wire::copy(&mut *d, layout::REDO, &redo);
+    wire::copy(d, layout::MARKS, &marks);
 }
 
 // A whole session; bytes of another length are kept.
@@ -180,9 +181,10 @@ pub fn write(s: Session, d: &mut [u8])
     }
     let journal = s.journal;
     let redo = s.redo;
+    let marks = s.marks;
     let held = s.held;
     let worked = s.worked;
-    put_stores(&mut *d, journal, redo);
+    put_stores(&mut *d, journal, redo, marks);
     write_head(
         d,
         Head {

@@ -1,23 +1,58 @@
 -- What calls and changes leave in the lent bytes of a session.
 use mathlib.Core.Bool.{cond, not}
-use mathlib.Core.List.{List}
+use mathlib.Core.List.{List, _∷_}
 use mathlib.Core.Path.{_≡_}
-use lib.ListN.{length}
+use lib.ListN.{length, take}
 use lib.Dec.{eqb}
-use Prim.Native.Nat.{ℕ, _+_}
+use Prim.Native.Nat.{ℕ, _+_, _≤_}
 use Rattle.change.specs.Change.{putOf}
 use Rattle.change.specs.declared.Edit.{Edit}
-use Rattle.session.specs.Session.{Carried, madeOf}
+use Rattle.entries.specs.Entries.{Entry, written, between, scan}
+use Rattle.marks.specs.Marks.{marksOf}
+use Rattle.journal.specs.Add.{addedTo}
+use Rattle.journal.specs.declared.End.{End}
+use Rattle.journal.specs.declared.End.the-variants.{At, Full}
+use Rattle.session.specs.Session.{Carried, entriesIn, marksFor, madeOf}
 use Rattle.session.specs.declared.Session.{Session}
 use Rattle.image.specs.declared.Head.{Head}
-use Rattle.image.specs.Image.{imageOf, headRenewed, sessionIn, sessionOf}
-use Rattle.layout.specs.Layout.{imageLength}
+use Rattle.image.specs.Image.{imageOf, headRenewed, withPart, journalIn, redoIn, marksIn, sessionIn, sessionOf}
+use Rattle.layout.specs.Layout.{marksSize, marksAt, imageLength}
 use Rattle.inplace.specs.declared.Told.{Told}
 
 -- h is the head that stands in these bytes, which are an image
 pub record HeadStands (h : Head) (b : List ℕ) : Type 0 where
   pub long : length b ≡ imageLength
   pub image : b ≡ imageOf (sessionIn h b)
+
+-- the journal reads as entries up to its used bytes, and the marks are theirs
+pub record Marked (used : ℕ) (b : List ℕ) : Type 0 where
+  pub fits : used ≤ 2048
+  pub entries : List Entry
+  pub reads : scan (take used (journalIn b)) ≡ between entries
+  pub marks-are : marksIn b ≡ marksOf entries
+
+-- y are the bytes b with the marks for one entry more, whatever it is, at the used end
+abbrev pub MarksMore : ℕ → List ℕ → List ℕ → Type 0
+MarksMore used b y = (e : Entry) → y ≡ withPart marksSize marksAt (marksOf (e ∷ entriesIn used (journalIn b))) b
+
+-- y are the bytes b with an entry more at the used end of the journal, which ends at m then, and its marks
+pub record HasMore (used : ℕ) (e : Edit) (m : ℕ) (b y : List ℕ) : Type 0 where
+  pub long : length y ≡ imageLength
+  pub journal : journalIn y ≡ addedTo used e (journalIn b)
+  pub redo : redoIn y ≡ redoIn b
+  pub marks-are : marksIn y ≡ marksFor (addedTo used e (journalIn b)) m
+
+abbrev pub Entered : ℕ → Edit → List ℕ → List ℕ → End → Type 0
+Entered used e b y (At m) = HasMore used e m b y
+Entered used e b y Full = y ≡ b
+
+-- and the newest of them begins at a place
+pub record MarkedTo (used at : ℕ) (b : List ℕ) : Type 0 where
+  pub marked : Marked used b
+  pub newest : Entry
+  pub older : List Entry
+  pub are : marked .entries ≡ newest ∷ older
+  pub begins : at ≡ length (written older)
 
 -- the head after a change whose entry ends at `used`: the redo store is empty then
 unfoldable pub headAfter : Head → Edit → ℕ → Head

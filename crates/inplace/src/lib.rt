@@ -5,16 +5,19 @@ ghost use mathlib.Core.Bool.{true};
 ghost use Prim.Native.Nat.{_≤_, _+_};
 ghost use lib.ListN.{length};
 ghost use Rattle.wire.specs.Wire.{pasted};
-ghost use Rattle.journal.specs.Bytes.{entryBytes};
+ghost use Rattle.entries.specs.laws.Entries.{Sized};
+ghost use Rattle.marks.specs.Marks.{marksOf};
+ghost use Rattle.journal.specs.Bytes.{entryFor, entryBytes};
 ghost use Rattle.journal.specs.Add.{entryLen, endOf, addedTo, cutFrom};
-ghost use Rattle.session.specs.Session.{storesOk, wellFormed, carriedOf};
-ghost use Rattle.image.specs.Image.{storeAt, storeIn, withStore, journalIn, sessionIn};
-ghost use Rattle.layout.specs.Layout.{journalAt, imageLength};
-ghost use Rattle.inplace.specs.InPlace.{headAfter, carriedIn};
+ghost use Rattle.session.specs.Session.{storesOk, entriesIn, wellFormed, carriedOf};
+ghost use Rattle.image.specs.Image.{storeAt, storeIn, withPart, withStore, journalIn, sessionIn};
+ghost use Rattle.layout.specs.Layout.{marksSize, journalAt, marksAt, imageLength};
+ghost use Rattle.inplace.specs.InPlace.{Marked, MarksMore, Entered, MarkedTo, headAfter, carriedIn};
 use change::Edit;
 use image::Head;
 use journal::End;
 use journal::Way;
+use marks::Newest;
 
 // A session answer; beside it a small number, the reason of a status 0x13, and one of 16 bits: the place of that status, the doorbell, the kind
 // moved. 0 where a call has none.
@@ -46,10 +49,21 @@ fn stores_ok(lent: &[u8], h: Head) -> bool
     if layout::STORE < used + ahead {
         return false;
     }
-    if !session::store_ok(Way::Before, &lent[layout::JOURNAL..layout::AHEAD], used) {
+    let marks = &lent[layout::MARKS..layout::IMAGE];
+    if !session::store_ok(
+        Way::Before,
+        &lent[layout::JOURNAL..layout::AHEAD],
+        used,
+        marks,
+    ) {
         return false;
     }
-    session::store_ok(Way::After, &lent[layout::REDO..layout::REDO_END], ahead)
+    session::store_ok(
+        Way::After,
+        &lent[layout::REDO..layout::REDO_END],
+        ahead,
+        marks,
+    )
 }
 
 pub fn well_formed(lent: &[u8], h: Head) -> bool
@@ -93,8 +107,66 @@ fn add(lent: &mut [u8], used: usize, e: Edit) -> End
     ensures { λ x. ⌜ x ≡ endOf 2048 used e ⌝ }
     ensures { λ _. ⌜ now (lent .exit) ≡ withStore journalAt (addedTo used e (journalIn (now (lent .entry)))) (now (lent .entry)) ⌝ }
     ensures { λ _. ⌜ length (addedTo used e (journalIn (now (lent .entry)))) ≡ 2048 ⌝ }
+    ensures { λ _. ⌜ Sized (entryFor e) ⌝ }
 {
     journal::add(&mut lent[layout::JOURNAL..layout::AHEAD], used, e)
+}
+
+// ---- its marks: no walk over the whole journal
+
+// For an entry more, whatever it is, that begins at the used end: it is marked where 32 stand from the last mark on.
+pub fn mark_added(lent: &mut [u8], used: usize)
+    requires { ⌜ (length (now lent) ≡ imageLength) × Marked used (now lent) × (used + 2 ≤ 2048) ⌝ }
+    ensures { λ _. ⌜ MarksMore used (now (lent .entry)) (now (lent .exit)) ⌝ }
+{
+    let last = marks::last(&lent[layout::MARKS..layout::IMAGE]);
+    let start = layout::JOURNAL + last.place;
+    let end = layout::JOURNAL + used;
+    let found = marks::find_newest(&lent[start..end]);
+    let Newest::At(_, passed) = found else {
+        return;
+    };
+    if passed != 31 {
+        return;
+    }
+    let next = 2 * (last.number + 1);
+    wire::put_be(
+        &mut lent[layout::MARKS..layout::IMAGE],
+        next,
+        2,
+        used as u64,
+    );
+}
+
+// For the newest entry less, which begins at `at`: its mark, if it has one, is the last.
+pub fn mark_removed(lent: &mut [u8], used: usize, at: usize)
+    requires { ⌜ (length (now lent) ≡ imageLength) × MarkedTo used at (now lent) ⌝ }
+    ensures { λ _. ⌜ now (lent .exit) ≡ withPart marksSize marksAt (marksOf (entriesIn at (journalIn (now (lent .entry))))) (now (lent .entry)) ⌝ }
+{
+    let last = marks::last(&lent[layout::MARKS..layout::IMAGE]);
+    if last.place != at {
+        return;
+    }
+    wire::put_be(
+        &mut lent[layout::MARKS..layout::IMAGE],
+        2 * last.number,
+        2,
+        0,
+    );
+}
+
+// An entry is added to the journal, where there is room, with its mark.
+fn enter(lent: &mut [u8], used: usize, e: Edit) -> End
+    requires { ⌜ (length (now lent) ≡ imageLength) × Marked used (now lent) ⌝ }
+    ensures { λ x. ⌜ x ≡ endOf 2048 used e ⌝ }
+    ensures { λ x. ⌜ Entered used e (now (lent .entry)) (now (lent .exit)) x ⌝ }
+{
+    let end = add(&mut *lent, used, e);
+    let End::At(to) = end else {
+        return End::Full;
+    };
+    mark_added(lent, used);
+    End::At(to)
 }
 
 // ---- a change carried out
@@ -119,7 +191,7 @@ pub fn carry(lent: &mut [u8], h: Head, e: Edit) -> bool
     ensures { λ _. ⌜ now (lent .exit) ≡ carriedIn (now (lent .entry)) (carriedOf (sessionIn h (now (lent .entry))) e) ⌝ }
 {
     let back = change::inverse(h.held, e);
-    let end = add(&mut *lent, h.used as usize, back);
+    let end = enter(&mut *lent, h.used as usize, back);
     let End::At(used) = end else {
         return true;
     };

@@ -16,6 +16,8 @@ use Rattle.change.specs.declared.Change.{Change}
 use Rattle.change.specs.declared.Edit.{Edit}
 use Rattle.change.specs.Change.{kindOf}
 use Rattle.entries.specs.Entries.{bytesOf, bodyLengths, bodyLen}
+use Rattle.entries.specs.laws.Entries.{Sized}
+use Rattle.journal.specs.laws.Bodies.{lengths}
 use Rattle.journal.specs.declared.Found.{Found}
 use Rattle.journal.specs.declared.Found.the-variants.{Bad}
 use Rattle.journal.specs.declared.Got.{Got}
@@ -65,6 +67,10 @@ getD-under m (x ∷ l) (suc i) h = getD-under m l i (under-both m x (under m l) 
 pub body-short : (k : ℕ) → bodyLen k ≤ 163
 unfolding bodyLen
 body-short k = getD-under 163 bodyLengths k refl
+
+pub entry-sized : (e : Edit) → length (e .tables .thermal) ≡ 9 → length (e .tables .throttles .sets) ≡ 160 → Sized (entryFor e)
+unfolding entryFor
+entry-sized e n m = let l = lengths (e .tables) (e .change) n m in (sym (l .0), omega (arith, l .0, l .1))
 
 pub room-for : (k n m : ℕ) → k ≡ n → bodyLen k ≤ m → bodyLen n ≤ m
 room-for k n m e h = subst (λ (i : ℕ). bodyLen i ≤ m) e h

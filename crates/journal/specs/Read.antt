@@ -14,8 +14,10 @@ use Rattle.record.specs.declared.Log.{Log}
 use Rattle.change.specs.declared.Change.{Change}
 use Rattle.change.specs.declared.Change.the-variants.{Clear, Unclear, SetState, SetRole, SetCaps, SetUser, SetThermal, SetThrottles, Reset, Unreset, SetMask, SetDeadman, SetAreas}
 use Rattle.change.specs.declared.Tables.{Tables}
-use Rattle.entries.specs.Entries.{Entry, bodyLen, Scan, between, within, unknown, scan}
+use Rattle.entries.specs.Entries.{Entry, bodyLen, Scan, between, within, unknown, entriesOf, scan}
+use Rattle.marks.specs.Marks.{marksOf, same}
 use Rattle.formed.specs.Formed.{madeOk, unresetOk, changeOk}
+use Rattle.journal.specs.Ways.{byWay}
 use Rattle.journal.specs.declared.Found.{Found}
 use Rattle.journal.specs.declared.Found.the-variants.{Good, Bad}
 use Rattle.journal.specs.declared.Got.{Got}
@@ -106,3 +108,10 @@ scanOk w (unknown es) = false
 
 unfoldable pub entriesOk : Way → List ℕ → Bool
 entriesOk w j = scanOk w (scan j)
+
+-- document 02, i: "one not at its entry, or unused and not 0, makes it ill formed": the journal has marks m, the redo store none
+unfoldable pub marksOk : Way → List ℕ → List Entry → Bool
+marksOk w m es = byWay w (same m (marksOf es)) true
+
+unfoldable pub readOk : Way → List ℕ → List ℕ → Bool
+readOk w m j = cond (entriesOk w j) (marksOk w m (entriesOf (scan j))) false

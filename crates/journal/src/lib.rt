@@ -2,13 +2,17 @@
 // and cutting it off.
 ghost use mathlib.Core.Path.{_≡_};
 ghost use mathlib.Core.List.{_∷_};
-ghost use Prim.Native.Nat.{_≤_, _+_};
+ghost use mathlib.Core.Bool.{true};
+ghost use Prim.Native.Nat.{_≤_, _<_, _+_};
 ghost use lib.ListN.{length, take, drop};
 ghost use Rattle.wire.specs.Wire.{pasted, toBE};
 ghost use Rattle.change.specs.Change.{kindOf};
 ghost use Rattle.entries.specs.Entries.{bodyLen};
-ghost use Rattle.journal.specs.Bytes.{throttlesBody, deadmanBody, areasBody, Spells, entryBytes};
-ghost use Rattle.journal.specs.Read.{capsAt, areaAt, throttlesFrom, clearedAs, resetAs, resetOk, foundFor, tablesIn, badGot, gotOf, entryOk, entriesOk};
+ghost use Rattle.entries.specs.laws.Entries.{Sized};
+ghost use Rattle.marks.specs.Marks.{standsAt, restUnused};
+ghost use Rattle.journal.specs.Bytes.{throttlesBody, deadmanBody, areasBody, Spells, entryFor, entryBytes};
+ghost use Rattle.journal.specs.Read.{capsAt, areaAt, throttlesFrom, clearedAs, resetAs, resetOk, foundFor, tablesIn, badGot, gotOf, entryOk, readOk};
+ghost use Rattle.journal.specs.Ways.{byWay};
 ghost use Rattle.journal.specs.Add.{entryLen, endOf, addedTo, cutFrom};
 use change::Change;
 use change::Edit;
@@ -97,10 +101,12 @@ fn put_areas(d: &mut [u8], areas: Areas)
     wire::put_be(d, 21, 4, pass.size as u64);
 }
 
-// How many bytes a change's entry has.
-pub fn entry_len(change: Change) -> usize
-    ensures { λ r. ⌜ r ≡ bodyLen (kindOf change) + 1 ⌝ }
+// How many bytes a change's entry has: by the types of its tables as many as its kind says.
+pub fn entry_len(e: Edit) -> usize
+    ensures { λ r. ⌜ r ≡ entryLen e ⌝ }
+    ensures { λ _. ⌜ Sized (entryFor e) ⌝ }
 {
+    let change = e.change;
     let n = entries::body_len(change::kind(change));
     n + 1
 }
@@ -349,11 +355,34 @@ fn body_ok(way: Way, kind: u8, b: &[u8]) -> bool
     }
 }
 
-// Whether the bytes read exactly as entries with such values.
-pub fn all_ok(way: Way, j: &[u8]) -> bool
-    ensures { λ r. ⌜ r ≡ entriesOk way (now (j .entry)) ⌝ }
+// Document 02, i: only the journal is marked.
+fn mark_stands(way: Way, m: &[u8], n: usize, at: usize) -> bool
+    requires { ⌜ (length (now m) ≡ 64) × (n < 1024) ⌝ }
+    ensures { λ r. ⌜ r ≡ byWay way (standsAt (now (m .entry)) n at) true ⌝ }
+{
+    match way {
+        Way::Before => marks::stands(m, n, at),
+        Way::After => true,
+    }
+}
+
+fn rest_unused(way: Way, m: &[u8], n: usize) -> bool
+    requires { ⌜ (length (now m) ≡ 64) × (n ≤ 1024) ⌝ }
+    ensures { λ r. ⌜ r ≡ byWay way (restUnused (now (m .entry)) n) true ⌝ }
+{
+    match way {
+        Way::Before => marks::rest_unused(m, n),
+        Way::After => true,
+    }
+}
+
+// Whether the bytes read exactly as entries with such values, and the journal's marks m are theirs. It is one pass.
+pub fn all_ok(way: Way, j: &[u8], m: &[u8]) -> bool
+    requires { ⌜ (length (now m) ≡ 64) × (length (now j) ≤ 2048) ⌝ }
+    ensures { λ r. ⌜ r ≡ readOk way (now (m .entry)) (now (j .entry)) ⌝ }
 {
     let mut at = 0;
+    let mut count = 0;
     let mut last = 0;
     let mut n = 0;
     while at < j.len() {
@@ -371,9 +400,13 @@ pub fn all_ok(way: Way, j: &[u8]) -> bool
         if !body_ok(way, kind, &j[start..end]) {
             return false;
         }
+        if !mark_stands(way, m, count, at) {
+            return false;
+        }
+        count += 1;
         at = end;
     }
-    true
+    rest_unused(way, m, count)
 }
 
 // ---- the end of the used bytes
@@ -390,9 +423,9 @@ pub fn append(j: &mut [u8], used: usize, e: Edit)
 pub fn add(j: &mut [u8], used: usize, e: Edit) -> End
     ensures { λ r. ⌜ r ≡ endOf (length (now (j .entry))) used e ⌝ }
     ensures { λ _. ⌜ now (j .exit) ≡ addedTo used e (now (j .entry)) ⌝ }
+    ensures { λ _. ⌜ Sized (entryFor e) ⌝ }
 {
-    let change = e.change;
-    let n = entry_len(change);
+    let n = entry_len(e);
     if j.len() < used {
         return End::Full;
     }

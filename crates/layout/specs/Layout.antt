@@ -8,9 +8,12 @@ use Rattle.wire.specs.Wire.{sumOf}
 abbrev pub storeSize : ℕ
 storeSize = 2048
 
--- after the redo store: nothing yet
+-- after the redo store: 32 marks of two bytes (document 02, i)
+abbrev pub marksSize : ℕ
+marksSize = 64
+
 abbrev pub laterWidths : List ℕ
-laterWidths = []
+laterWidths = marksSize ∷ []
 
 -- the head (record, worked-out values, next id, used bytes of the journal), the journal, the used bytes of the redo store, the redo store, and what came later
 unfoldable pub partWidths : List ℕ
@@ -31,8 +34,8 @@ aheadAt = 2287
 abbrev pub redoAt : ℕ
 redoAt = 2289
 
-abbrev pub laterAt : ℕ
-laterAt = 4337
+abbrev pub marksAt : ℕ
+marksAt = 4337
 
 abbrev pub imageLength : ℕ
-imageLength = 4337
+imageLength = 4401

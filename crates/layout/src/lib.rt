@@ -13,5 +13,8 @@ pub const REDO: usize = 2289;
 
 pub const REDO_END: usize = 4337;
 
+// The marks begin, and end where the image ends.
+pub const MARKS: usize = 4337;
+
 // All of it.
-pub const IMAGE: usize = 4337;
+pub const IMAGE: usize = 4401;

@@ -19,7 +19,7 @@ pub record TypedRecord (r : Record) : Type 0 where
   pub ffdc : AreaFits (r .areas .ffdc)
   pub pass : AreaFits (r .areas .pass)
 
--- "a journal of 2,048 bytes .. with its used length", and a redo store likewise
+-- "a journal of 2,048 bytes .. with its used length", and a redo store likewise; 32 marks of two bytes
 pub record TypedSession (s : Session) : Type 0 where
   pub held : TypedRecord (s .held)
   pub journal : length (s .journal) ≡ 2048
@@ -27,3 +27,4 @@ pub record TypedSession (s : Session) : Type 0 where
   pub used : s .used < 65536
   pub redo : length (s .redo) ≡ 2048
   pub ahead : s .ahead < 65536
+  pub marks : length (s .marks) ≡ 64

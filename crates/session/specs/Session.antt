@@ -14,6 +14,8 @@ use Rattle.change.specs.declared.Change.{Change}
 use Rattle.change.specs.declared.Change.the-variants.{Clear, Unclear, SetState, SetRole, SetCaps, SetUser, SetThermal, SetThrottles, Reset, Unreset, SetMask, SetDeadman, SetAreas}
 use Rattle.change.specs.declared.Edit.{Edit}
 use Rattle.formed.specs.Formed.{recordOk}
+use Rattle.entries.specs.Entries.{Entry, entriesOf, scan}
+use Rattle.marks.specs.Marks.{marksOf, same}
 use Rattle.journal.specs.Read.{entriesOk}
 use Rattle.journal.specs.Add.{endOf, addedTo}
 use Rattle.journal.specs.declared.End.{End}
@@ -23,10 +25,10 @@ use Rattle.journal.specs.declared.Way.the-variants.{Before, After}
 use Rattle.session.specs.declared.Session.{Session}
 
 -- "A session is one value: record, worked-out values, next log id, and a journal of 2,048 bytes, all zero when fresh, with its used length"
--- and "a redo store of 2,048 bytes in the session" (d), with its own
+-- and "a redo store of 2,048 bytes in the session" (d), with its own; "Marks are part of the session" (i): 32 of two bytes
 unfoldable pub freshSession : Session
 freshSession =
-    record { held = freshRecord; worked = workedOf freshRecord; next = 1; journal = replicate 2048 0; used = 0; redo = replicate 2048 0; ahead = 0 }
+    record { held = freshRecord; worked = workedOf freshRecord; next = 1; journal = replicate 2048 0; used = 0; redo = replicate 2048 0; ahead = 0; marks = replicate 64 0 }
 
 -- ---- "A session is well formed if"
 
@@ -46,12 +48,21 @@ heldOk held worked next = cond (not (recordOk held next)) false (workedFits (wor
 unfoldable pub storeOk : Way → List ℕ → ℕ → Bool
 storeOk w j used = cond (ltb (length j) used) false (cond (not (entriesOk w (take used j))) false (allAre 0 (drop used j)))
 
+-- the entries that the used bytes of a store begin with
+unfoldable pub entriesIn : ℕ → List ℕ → List Entry
+entriesIn used j = entriesOf (scan (take used j))
+
+-- i: the marks are those of the journal's entries
+abbrev pub marksFor : List ℕ → ℕ → List ℕ
+marksFor journal used = marksOf (entriesIn used journal)
+
 -- d: "and its length with the journal's is at most 2,048"
 unfoldable pub storesOk : Session → Bool
 storesOk s =
     cond (ltb 2048 (s .used + s .ahead)) false
     (cond (not (storeOk Before (s .journal) (s .used))) false
-    (storeOk After (s .redo) (s .ahead)))
+    (cond (not (same (s .marks) (marksFor (s .journal) (s .used)))) false
+    (storeOk After (s .redo) (s .ahead))))
 
 unfoldable pub wellFormed : Session → Bool
 wellFormed s = cond (not (heldOk (s .held) (s .worked) (s .next))) false (storesOk s)
@@ -75,10 +86,10 @@ madeOf (SetDeadman deadman) = 0
 madeOf (SetAreas areas) = 0
 
 -- a session from a session: this record, with the limit, readiness and wanted format that are worked out of it, this next id and these two
--- stores; whatever isn't named here is kept
+-- stores, with the journal's marks; whatever isn't named here is kept
 unfoldable pub renewed : Session → Record → ℕ → List ℕ → ℕ → List ℕ → ℕ → Session
 renewed s held next journal used redo ahead =
-    record { held = held; worked = workedOf held; next = next; journal = journal; used = used; redo = redo; ahead = ahead }
+    record { held = held; worked = workedOf held; next = next; journal = journal; used = used; redo = redo; ahead = ahead; marks = marksFor journal used }
 
 -- the session after a change, or that its entry has no room
 pub record Carried : Type 0 where

@@ -1,6 +1,9 @@
 // The session: one value, and the parts of the test whether it is well formed.
 ghost use mathlib.Core.Path.{_≡_};
-ghost use Rattle.session.specs.Session.{freshSession, workedFits, heldOk, storeOk, madeOf};
+ghost use mathlib.Core.Bool.{false, cond};
+ghost use lib.ListN.{length};
+ghost use Rattle.session.specs.Session.{freshSession, workedFits, heldOk, storeOk, entriesIn, madeOf};
+ghost use Rattle.journal.specs.Read.{marksOk};
 use change::Change;
 use journal::Way;
 use record::Record;
@@ -14,6 +17,7 @@ pub struct Session {
     pub used: u16,
     pub redo: [u8; 2048],
     pub ahead: u16,
+    pub marks: [u8; 64],
 }
 
 pub fn fresh() -> Session
@@ -29,6 +33,7 @@ pub fn fresh() -> Session
         used: 0,
         redo: [0; 2048],
         ahead: 0,
+        marks: [0; 64],
     }
 }
 
@@ -59,14 +64,15 @@ pub fn held_ok(held: Record, worked: Worked, next: u16) -> bool
     worked_fits(record::work_out(held), worked)
 }
 
-// The used bytes of a store read as entries with good values, and the unused part is zero. It is read once.
-pub fn store_ok(way: Way, j: &[u8], used: usize) -> bool
-    ensures { λ x. ⌜ x ≡ storeOk way (now (j .entry)) used ⌝ }
+// The used bytes of a store read as entries with good values, and the unused part is zero; the journal's marks m are those of its entries. It is read once.
+pub fn store_ok(way: Way, j: &[u8], used: usize, m: &[u8]) -> bool
+    requires { ⌜ (length (now m) ≡ 64) × (length (now j) ≡ 2048) ⌝ }
+    ensures { λ x. ⌜ x ≡ cond (storeOk way (now (j .entry)) used) (marksOk way (now (m .entry)) (entriesIn used (now (j .entry)))) false ⌝ }
 {
     if j.len() < used {
         return false;
     }
-    if !journal::all_ok(way, &j[..used]) {
+    if !journal::all_ok(way, &j[..used], m) {
         return false;
     }
     wire::all_zero(&j[used..])

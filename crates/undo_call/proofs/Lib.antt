@@ -1,1 +1,3 @@
+pub mod Finding
 pub mod Taking
+pub mod Marking

@@ -4,8 +4,7 @@ use mathlib.Core.Bool.{Bool, true, false, not}
 use mathlib.Core.Path.{_≡_, refl, sym, ap, subst, _∙_}
 use mathlib.Core.List.{List, []}
 use native.Mathlib.Omega.{arith}
-use denote.Enum.Declared.{tagOf}
-use lib.Dec.{ltb}
+use lib.Dec.{ltb, eqb}
 use lib.ListN.{length, take, drop, replicate, length-drop, length-replicate}
 use borrow.Author.Tests.{not-false, ltb-false}
 use lib.Seq.{length-take-le, take-take, drop-drop}
@@ -18,10 +17,10 @@ use Rattle.change.specs.declared.Change.{Change}
 use Rattle.change.specs.declared.Changed.{Changed}
 use Rattle.change.specs.declared.Edit.{Edit}
 use Rattle.formed.specs.Formed.{recordOk}
-use Rattle.entries.specs.Entries.{bodyLen, scan, readingOf, readingFits}
+use Rattle.entries.specs.Entries.{bodyLen, scan, readingOf}
 use Rattle.entries.specs.declared.Reading.{Reading}
-use Rattle.entries.specs.declared.Reading.the-variants.{Whole, Unknown, Cut}
-use Rattle.entries.proofs.Reading.{the-type}
+use Rattle.entries.specs.declared.Reading.the-variants.{Whole}
+use Rattle.marks.specs.declared.Newest.the-variants.{At}
 use Rattle.journal.specs.Ways.{byWay, other}
 use Rattle.journal.specs.Bytes.{entryBytes}
 use Rattle.journal.specs.Read.{gotOf}
@@ -31,36 +30,30 @@ use Rattle.journal.specs.declared.Way.{Way}
 use Rattle.journal.specs.declared.Way.the-variants.{Before, After}
 use Rattle.journal.specs.declared.Found.the-variants.{Good, Bad}
 use Rattle.journal.specs.declared.Got.{Got}
-use Rattle.session.specs.Session.{wellFormed, renewed}
+use Rattle.record.specs.Record.{workedOf}
+use Rattle.session.specs.Session.{entriesIn, marksFor, wellFormed, renewed}
 use Rattle.session.specs.Road.{Asks, refuses, moves, storeOf, usedOf, lessened, grown, grownTo, sessionMoved, kept, done, settled}
 use Rattle.session.specs.laws.Session.{formed}
 use Rattle.session.specs.declared.Session.{Session}
 use Rattle.links.specs.laws.Links.{kind-of-back}
 use Rattle.image.specs.declared.Head.{Head}
-use Rattle.image.specs.Image.{headRenewed, imageOf, partAt, headIn, storeAt, storeIn, withStore, journalIn, redoIn, sessionIn}
+use Rattle.image.specs.Image.{headRenewed, imageOf, partAt, headIn, storeAt, storeIn, withStore, journalIn, redoIn, marksIn, sessionIn}
 use Rattle.layout.specs.Layout.{journalAt, redoAt, imageLength}
-use Rattle.image.specs.laws.Stores.{store-low, store-long, store-back, store-above, store-below}
+use Rattle.image.specs.laws.Stores.{store-low, store-long, store-back, store-above, store-below, store-marks}
 use Rattle.image.proofs.Standing.{length-store}
 use Rattle.inplace.specs.declared.Told.{Told}
 use Rattle.inplace.specs.InPlace.{Left, HeadStands}
 use Rattle.inplace.specs.laws.InPlace.{stands, on-read}
 use Rattle.inplace.specs.laws.InPlace as inplace
-use Rattle.undo_call.specs.Undo.{putAsks, editAsks, foundAsks, gotAsks, entryAsks, readAsks, noneLeft, newestAsks, moveAsks, moveCall, headMoved, movedLeft, movedBy, moveOn}
+use Rattle.undo_call.specs.Undo.{putAsks, editAsks, foundAsks, gotAsks, entryAsks, readAsks, noneLeft, newestAsks, moveAsks, moveCall, headMoved, passedBy, movedLeft, movedBy, moveOn, NewestFound, Moved}
+use Rattle.undo_call.proofs.Finding.{newest-low}
 
-read-unknown : (w : Way) (s : Session) (at : ℕ) → refuses 1 ≡ readAsks w s (Unknown at)
-unfolding readAsks
-read-unknown w s at = refl
-
-read-cut : (w : Way) (s : Session) (at : ℕ) → refuses 1 ≡ readAsks w s (Cut at)
-unfolding readAsks
-read-cut w s at = refl
-
-abbrev Tells : Session → Told → List ℕ → Asks → Type 0
-Tells s t y a = (t ≡ movedBy s a .told) × (y ≡ movedBy s a .image)
+abbrev Tells : Way → Session → Told → List ℕ → Asks → Type 0
+Tells w s t y a = (t ≡ movedBy w s a .told) × (y ≡ movedBy w s a .image)
 
 -- the same of what is the same
-tells-same : (s : Session) (t : Told) (y : List ℕ) {a c : Asks} → a ≡ c → Tells s t y a → Tells s t y c
-tells-same s t y e q = (q .0 ∙ ap (λ (x : Asks). movedBy s x .told) e, q .1 ∙ ap (λ (x : Asks). movedBy s x .image) e)
+tells-same : (w : Way) (s : Session) (t : Told) (y : List ℕ) {a c : Asks} → a ≡ c → Tells w s t y a → Tells w s t y c
+tells-same w s t y e q = (q .0 ∙ ap (λ (x : Asks). movedBy w s x .told) e, q .1 ∙ ap (λ (x : Asks). movedBy w s x .image) e)
 
 -- ---- the two stores
 
@@ -121,6 +114,10 @@ module _ (w : Way) (b x y c d : List ℕ) (long : length b ≡ imageLength) (wid
   pub second-left : storeIn (other w) d ≡ y
   second-left = ap (storeIn (other w)) second ∙ store-back c y long-c wide′ (storeAt (other w)) (store-low (other w))
 
+  pub marks-stay : marksIn d ≡ marksIn b
+  marks-stay =
+      ap marksIn second ∙ store-marks c y long-c wide′ (storeAt (other w)) (store-low (other w)) ∙ ap marksIn first ∙ store-marks b x long wide (storeAt w) (store-low w)
+
 length-take-le-by : (m n : ℕ) (l : List ℕ) → m ≡ n → n ≤ length l → length (take m l) ≡ n
 length-take-le-by m n l e h = ap (λ (i : ℕ). length (take i l)) e ∙ length-take-le n l h
 
@@ -138,19 +135,19 @@ length-cut at used j =
 pub entry-moved : (w : Way) (b c d : List ℕ) (at from to : ℕ) (back : Edit) (v : Way) → length b ≡ imageLength → v ≡ other w
     → c ≡ withStore (storeAt w) (cutFrom at from (storeIn w b)) b
     → d ≡ withStore (storeAt v) (pasted to (entryBytes back) (storeIn v c)) c → length (pasted to (entryBytes back) (storeIn v c)) ≡ 2048
-    → (storeIn w d ≡ cutFrom at from (storeIn w b)) × ((storeIn (other w) d ≡ pasted to (entryBytes back) (storeIn (other w) b)) × (length d ≡ imageLength))
+    → Moved w at from to back b d
 entry-moved w b c d at from to back v long is p q n =
     let wide = length-cut at from (storeIn w b) ∙ length-store b long (storeAt w) (store-low w) in
     let grown = pasted to (entryBytes back) (storeIn (other w) c) in
     let wide′ = ap (λ (u : Way). length (pasted to (entryBytes back) (storeIn u c))) (sym is) ∙ n in
-    let q′ = q ∙ ap (λ (u : Way). withStore (storeAt u) (pasted to (entryBytes back) (storeIn u c)) c) is in (
-      first-left w b (cutFrom at from (storeIn w b)) grown c d long wide wide′ p q′,
-      (
-        second-left w b (cutFrom at from (storeIn w b)) grown c d long wide wide′ p q′
-            ∙ ap (pasted to (entryBytes back)) (other-stays w b (cutFrom at from (storeIn w b)) grown c d long wide wide′ p q′),
-        long-d w b (cutFrom at from (storeIn w b)) grown c d long wide wide′ p q′,
-      ),
-    )
+    let q′ = q ∙ ap (λ (u : Way). withStore (storeAt u) (pasted to (entryBytes back) (storeIn u c)) c) is in
+    let first = cutFrom at from (storeIn w b) in
+    record {
+      less = first-left w b first grown c d long wide wide′ p q′;
+      more = second-left w b first grown c d long wide wide′ p q′ ∙ ap (pasted to (entryBytes back)) (other-stays w b first grown c d long wide wide′ p q′);
+      marks-kept = marks-stay w b first grown c d long wide wide′ p q′;
+      long = long-d w b first grown c d long wide wide′ p q′;
+    }
 
 pub long-moved : (w : Way) (b c : List ℕ) (at from : ℕ) → length b ≡ imageLength → c ≡ withStore (storeAt w) (cutFrom at from (storeIn w b)) b → length c ≡ imageLength
 long-moved w b c at from long p =
@@ -183,13 +180,31 @@ module _ (w : Way) (h : Head) (b : List ℕ) (at : ℕ) (e : Edit) (after : Reco
     unfolding grownTo sessionIn
     end-is = λ i. (q ∙ sym (other-used w h b)) i + (np ∙ ap entryLen is) i
 
-    pub session-moved : (d y : List ℕ) (head : Head) → storeIn w d ≡ cutFrom at from (storeIn w b) → storeIn (other w) d ≡ pasted to (entryBytes back) (storeIn (other w) b)
-        → head ≡ headMoved h w after at (to + n) → y ≡ imageOf (sessionIn head d) → y ≡ imageOf (sessionMoved w before at e after)
-    unfolding sessionIn headMoved headRenewed sessionMoved renewed
-    session-moved d y head one two hp yp =
-        let js = stores-are w d (lessened w before at) (grown w before e) (one ∙ less-is) (two ∙ more-is) in
-        yp ∙ ap (λ (k : Head). imageOf (sessionIn k d)) hp
-        ∙ (λ i. imageOf (renewed before after (h .next) (js .0 i) (byWay w at (end-is i)) (js .1 i) (byWay w (end-is i) at)))
+    -- g are the lent bytes with the new marks, d with the entry moved too
+    module _ (g d : List ℕ) (moved : Moved w at from to back g d) (journal-kept : storeIn w g ≡ storeIn w b) (other-kept : storeIn (other w) g ≡ storeIn (other w) b)
+        (marks-are : marksIn g ≡ marksFor (byWay w (lessened w before at) (grown w before e)) (byWay w at (grownTo w before e))) where
+      pub session-moved : (y : List ℕ) (head : Head) → head ≡ headMoved h w after at (to + n) → y ≡ imageOf (sessionIn head d) → y ≡ imageOf (sessionMoved w before at e after)
+      unfolding sessionIn headMoved headRenewed sessionMoved renewed
+      session-moved y head hp yp =
+          let one = moved .less ∙ ap (cutFrom at from) journal-kept ∙ less-is in
+          let two = moved .more ∙ ap (pasted to (entryBytes back)) other-kept ∙ more-is in
+          let js = stores-are w d (lessened w before at) (grown w before e) one two in
+          yp ∙ ap (λ (k : Head). imageOf (sessionIn k d)) hp
+          ∙ (λ i. imageOf (record {
+            held = after;
+            worked = workedOf after;
+            next = h .next;
+            journal = js .0 i;
+            used = byWay w at (end-is i);
+            redo = js .1 i;
+            ahead = byWay w (end-is i) at;
+            marks = (moved .marks-kept ∙ marks-are) i;
+          }))
+
+some-number : (w : Way) → eqb (noneLeft w) 0 ≡ false
+unfolding noneLeft byWay
+some-number Before = refl
+some-number After = refl
 
 -- h is the head that stands in the lent bytes b
 module _ (w : Way) (h : Head) (b : List ℕ) (here : HeadStands h b) where
@@ -197,9 +212,10 @@ module _ (w : Way) (h : Head) (b : List ℕ) (here : HeadStands h b) where
   s = sessionIn h b
 
   -- refused by the number n
-  by-number : (n : ℕ) (t : Told) {a : Asks} → t ≡ record { answer = n; small = 0; beside = 0 } → refuses n ≡ a → Tells s t b a
+  by-number : (n : ℕ) (t : Told) {a : Asks} → eqb n 0 ≡ false → t ≡ record { answer = n; small = 0; beside = 0 } → refuses n ≡ a → Tells w s t b a
   unfolding movedBy movedLeft settled kept
-  by-number n t p e = tells-same s t b e (p, here .image)
+  by-number n t z p e =
+      tells-same w s t b e (p ∙ (λ i. record { answer = n; small = else-b {z = 0} (passedBy w s) 0 z refl i; beside = 0 }), here .image)
 
   -- ---- a change put into the record, or refused
 
@@ -208,22 +224,22 @@ module _ (w : Way) (h : Head) (b : List ℕ) (here : HeadStands h b) where
     unfolding editAsks sessionIn
     by-put x q = q ∙ ap (putAsks w (h .next) at e) is
 
-    pub put-refused : (t : Told) → t ≡ record { answer = 7; small = 0; beside = 0 } → not (p .ok) ≡ true → Tells s t b (editAsks w s at e)
+    pub put-refused : (t : Told) → t ≡ record { answer = 7; small = 0; beside = 0 } → not (p .ok) ≡ true → Tells w s t b (editAsks w s at e)
     unfolding putAsks
-    put-refused t q failed = by-number 7 t q (by-put _ (if-b _ _ failed refl))
+    put-refused t q failed = by-number 7 t refl q (by-put _ (if-b _ _ failed refl))
 
     module _ (fits : not (p .ok) ≡ false) (g : Bool) (judged : g ≡ recordOk (p .after) (h .next)) where
-      pub put-ill : (t : Told) → t ≡ record { answer = 7; small = 0; beside = 0 } → not g ≡ true → Tells s t b (editAsks w s at e)
+      pub put-ill : (t : Told) → t ≡ record { answer = 7; small = 0; beside = 0 } → not g ≡ true → Tells w s t b (editAsks w s at e)
       unfolding putAsks
-      put-ill t q ill = by-number 7 t q (by-put _ (else-b _ _ fits (if-b _ _ (sym (ap not judged) ∙ ill) refl)))
+      put-ill t q ill = by-number 7 t refl q (by-put _ (else-b _ _ fits (if-b _ _ (sym (ap not judged) ∙ ill) refl)))
 
       -- y are the lent bytes after it
-      pub put-done : (k : ℕ) (y : List ℕ) (t : Told) → not g ≡ false → k ≡ kindOf (e .change) → t ≡ record { answer = 0; small = 0; beside = k }
-          → y ≡ imageOf (sessionMoved w s at e (p .after)) → Tells s t y (editAsks w s at e)
+      pub put-done : (k passed : ℕ) (y : List ℕ) → passed ≡ passedBy w s → not g ≡ false → k ≡ kindOf (e .change)
+          → y ≡ imageOf (sessionMoved w s at e (p .after)) → Tells w s (record { answer = 0; small = passed; beside = k }) y (editAsks w s at e)
       unfolding putAsks movedBy movedLeft settled done sessionIn
-      put-done k y t ok kp tp yp =
-          tells-same s t y (by-put (moves w at e) (else-b _ _ fits (else-b _ _ (sym (ap not judged) ∙ ok) refl)))
-          (tp ∙ (λ i. record { answer = 0; small = 0; beside = kp i }), yp ∙ ap (λ (x : Changed). imageOf (sessionMoved w s at e (x .after))) is)
+      put-done k passed y pp ok kp yp =
+          tells-same w s _ y (by-put (moves w at e) (else-b _ _ fits (else-b _ _ (sym (ap not judged) ∙ ok) refl)))
+          ((λ i. record { answer = 0; small = pp i; beside = kp i }), yp ∙ ap (λ (x : Changed). imageOf (sessionMoved w s at e (x .after))) is)
 
   -- ---- the entry at a place of its store
 
@@ -242,16 +258,16 @@ module _ (w : Way) (h : Head) (b : List ℕ) (here : HeadStands h b) where
       got-is : g ≡ gotOf w (take (usedOf w s - at) (drop at (storeOf w s)))
       got-is = is ∙ ap (gotOf w) newest-part
 
-      pub entry-bad : (t : Told) (r : Reading) (count : ℕ) → t ≡ record { answer = 1; small = 0; beside = 0 } → g .found ≡ Bad → r ≡ Whole count at → Tells s t b (readAsks w s r)
+      pub entry-bad : (t : Told) (r : Reading) (count : ℕ) → t ≡ record { answer = 1; small = 0; beside = 0 } → g .found ≡ Bad → r ≡ Whole count at → Tells w s t b (readAsks w s r)
       unfolding readAsks entryAsks gotAsks foundAsks
       entry-bad t r count p bad whole =
-          by-number 1 t p (sym (ap (foundAsks w s at (g .tables)) bad) ∙ ap (gotAsks w s at) got-is ∙ sym (ap (readAsks w s) whole))
+          by-number 1 t refl p (sym (ap (foundAsks w s at (g .tables)) bad) ∙ ap (gotAsks w s at) got-is ∙ sym (ap (readAsks w s) whole))
 
       pub entry-good : (t : Told) (y : List ℕ) (r : Reading) (count : ℕ) (ch : Change) → g .found ≡ Good ch → r ≡ Whole count at
-          → Tells s t y (editAsks w s at (record { change = ch; tables = g .tables })) → Tells s t y (readAsks w s r)
+          → Tells w s t y (editAsks w s at (record { change = ch; tables = g .tables })) → Tells w s t y (readAsks w s r)
       unfolding readAsks entryAsks gotAsks foundAsks
       entry-good t y r count ch good whole q =
-          tells-same s t y (sym (ap (foundAsks w s at (g .tables)) good) ∙ ap (gotAsks w s at) got-is ∙ sym (ap (readAsks w s) whole)) q
+          tells-same w s t y (sym (ap (foundAsks w s at (g .tables)) good) ∙ ap (gotAsks w s at) got-is ∙ sym (ap (readAsks w s) whole)) q
 
       -- it ends where the used bytes do
       pub entry-ends : (ch : Change) → g .found ≡ Good ch → at + entryLen (record { change = ch; tables = g .tables }) ≡ used
@@ -274,61 +290,41 @@ module _ (w : Way) (h : Head) (b : List ℕ) (here : HeadStands h b) where
     pub count-fits : (n : ℕ) → n ≡ used → n ≤ 2048
     count-fits n counted = omega (arith, counted, used-fits)
 
-    pub none-held : (n : ℕ) → n ≡ used → (k : ℕ) (t : Told) → k ≡ noneLeft w → t ≡ record { answer = k; small = 0; beside = 0 } → n ≡ 0 → Tells s t b (newestAsks w s)
+    pub none-held : (n : ℕ) → n ≡ used → (k : ℕ) (t : Told) → k ≡ noneLeft w → t ≡ record { answer = k; small = 0; beside = 0 } → n ≡ 0 → Tells w s t b (newestAsks w s)
     unfolding newestAsks
-    none-held n counted k t kp p z = by-number (noneLeft w) t (p ∙ (λ i. record { answer = kp i; small = 0; beside = 0 })) (if-eq _ _ (used-is w h b ∙ sym counted ∙ z) refl)
+    none-held n counted k t kp p z = by-number (noneLeft w) t (some-number w) (p ∙ (λ i. record { answer = kp i; small = 0; beside = 0 })) (if-eq _ _ (used-is w h b ∙ sym counted ∙ z) refl)
 
-    module _ (m : ℕ) (there : m ≡ storeAt w) (n : ℕ) (counted : n ≡ used) where
-      used-part : take (m + n - m) (drop m b) ≡ take (usedOf w s) (storeOf w s)
-      used-part =
-          let k : m + n - m ≡ n = omega arith in
-          ap (λ (i : ℕ). take i (drop m b)) k ∙ sym (take-take n 2048 (drop m b) (omega (arith, counted, used-fits)))
-          ∙ (λ i. take ((counted ∙ sym (used-is w h b)) i) (partAt 2048 (there i) b)) ∙ ap (take (usedOf w s)) (sym (store-is w h b))
+    -- the newest entry was found
+    module _ (n : ℕ) (counted : n ≡ used) (some : n ≡ 0 → ⊥) (at passed : ℕ) (x : NewestFound w s (At at passed)) where
+      pub by-newest : (t : Told) (y : List ℕ) → Tells w s t y (readAsks w s (Whole (x .0) at)) → Tells w s t y (newestAsks w s)
+      unfolding newestAsks
+      by-newest t y q =
+          tells-same w s t y (else-eq (refuses (noneLeft w)) _ (λ z. some (counted ∙ sym (used-is w h b) ∙ z)) (ap (readAsks w s) (sym (x .1)))) q
 
-      module _ (some : n ≡ 0 → ⊥) (r : Reading) (is : r ≡ readingOf (scan (take (m + n - m) (drop m b)))) where
-        reading-is : readAsks w s r ≡ newestAsks w s
-        unfolding newestAsks
-        reading-is =
-            else-eq (refuses (noneLeft w)) _ (λ z. some (counted ∙ sym (used-is w h b) ∙ z)) (ap (readAsks w s) (is ∙ ap (λ (l : List ℕ). readingOf (scan l)) used-part))
-
-        pub not-whole : (t : Told) → t ≡ record { answer = 1; small = 0; beside = 0 } → (tagOf the-type r ≡ 0 → ⊥) → Tells s t b (newestAsks w s)
-        not-whole t p k = by-number 1 t p (no-entries r k ∙ reading-is)
-          where
-            no-entries : (x : Reading) → (tagOf the-type x ≡ 0 → ⊥) → refuses 1 ≡ readAsks w s x
-            no-entries (Whole count newest) k = absurd (k refl)
-            no-entries (Unknown at) k = read-unknown w s at
-            no-entries (Cut at) k = read-cut w s at
-
-        pub by-reading : (t : Told) (y : List ℕ) → Tells s t y (readAsks w s r) → Tells s t y (newestAsks w s)
-        by-reading t y q = tells-same s t y reading-is q
-
-        pub newest-fits : readingFits (length (take (m + n - m) (drop m b))) r → (count newest : ℕ) → r ≡ Whole count newest → newest ≤ n
-        newest-fits f count newest e =
-            let long : length (take (m + n - m) (drop m b)) ≡ n =
-            length-take-le-by (m + n - m) n (drop m b) (omega arith) (simp length-drop (omega (arith, here .long, there, store-low w, counted, used-fits))) in
-            omega (arith, subst (readingFits (length (take (m + n - m) (drop m b)))) e f .0, long)
+      pub at-low : at ≤ n
+      at-low = omega (arith, counted, newest-low w h b here whole at passed x)
 
 -- ---- the whole call
 
 pub no-image : (w : Way) (b : List ℕ) → (length b ≡ imageLength → ⊥) → (t : Told) → t ≡ record { answer = 1; small = 0; beside = 0 } → (t ≡ moveOn w b .told) × (b ≡ moveOn w b .image)
 unfolding moveOn
-no-image w b z t p = let q = inplace.no-image (λ (s : Session). movedLeft (moveCall w s)) [] b z t p in (q .0, q .1 .0)
+no-image w b z t p = let q = inplace.no-image (λ (s : Session). movedLeft (passedBy w s) (moveCall w s)) [] b z t p in (q .0, q .1 .0)
 
 module _ (w : Way) (b : List ℕ) (long : length b ≡ imageLength) (h : Head) (read : h ≡ headIn b) (g : Bool) (formed : g ≡ wellFormed (sessionIn h b)) where
-  on-bytes : (t : Told) (y : List ℕ) {a : Asks} → a ≡ moveAsks w (sessionIn h b) → Tells (sessionIn h b) t y a → (t ≡ moveOn w b .told) × (y ≡ moveOn w b .image)
+  on-bytes : (t : Told) (y : List ℕ) {a : Asks} → a ≡ moveAsks w (sessionIn h b) → Tells w (sessionIn h b) t y a → (t ≡ moveOn w b .told) × (y ≡ moveOn w b .image)
   unfolding movedBy moveOn moveCall
   on-bytes t y e q =
-      let p = tells-same (sessionIn h b) t y e q in
-      let r = on-read (λ (s : Session). movedLeft (moveCall w s)) [] b long h read in
+      let p = tells-same w (sessionIn h b) t y e q in
+      let r = on-read (λ (s : Session). movedLeft (passedBy w s) (moveCall w s)) [] b long h read in
       (p .0 ∙ ap (λ (l : Left). l .told) r, p .1 ∙ ap (λ (l : Left). l .image) r)
 
   pub ill-formed : Bytes b → (t : Told) → t ≡ record { answer = 1; small = 0; beside = 0 } → not g ≡ true → (t ≡ moveOn w b .told) × (b ≡ moveOn w b .image)
   unfolding moveAsks
-  ill-formed bytes t p ill = on-bytes t b (if-b _ _ (sym (ap not formed) ∙ ill) refl) (by-number w h b (stands b long h read bytes) 1 t p refl)
+  ill-formed bytes t p ill = on-bytes t b (if-b _ _ (sym (ap not formed) ∙ ill) refl) (by-number w h b (stands b long h read bytes) 1 t refl p refl)
 
   pub well-formed-is : not g ≡ false → wellFormed (sessionIn h b) ≡ true
   well-formed-is ok = sym formed ∙ not-false g ok
 
-  pub newest-taken : (t : Told) (y : List ℕ) → not g ≡ false → Tells (sessionIn h b) t y (newestAsks w (sessionIn h b)) → (t ≡ moveOn w b .told) × (y ≡ moveOn w b .image)
+  pub newest-taken : (t : Told) (y : List ℕ) → not g ≡ false → Tells w (sessionIn h b) t y (newestAsks w (sessionIn h b)) → (t ≡ moveOn w b .told) × (y ≡ moveOn w b .image)
   unfolding moveAsks
   newest-taken t y ok q = on-bytes t y (else-b _ _ (sym (ap not formed) ∙ ok) refl) q

@@ -4,7 +4,7 @@ use Prim.Native.Nat.{ℕ, _-_}
 use mathlib.Core.Bool.{cond, not}
 use mathlib.Core.List.{List, []}
 use mathlib.Core.Path.{_≡_}
-use lib.ListN.{take, drop}
+use lib.ListN.{length, take, drop}
 use lib.Dec.{eqb}
 use Rattle.wire.specs.Conditions.{_and_}
 use Rattle.record.specs.declared.Record.{Record}
@@ -16,20 +16,28 @@ use Rattle.formed.specs.Formed.{recordOk}
 use Rattle.entries.specs.Entries.{scan, readingOf}
 use Rattle.entries.specs.declared.Reading.{Reading}
 use Rattle.entries.specs.declared.Reading.the-variants.{Whole, Unknown, Cut}
-use Rattle.journal.specs.Ways.{byWay}
+use Rattle.wire.specs.Wire.{pasted}
+use Rattle.journal.specs.Ways.{byWay, other}
+use Rattle.journal.specs.Bytes.{entryBytes}
+use Rattle.journal.specs.Add.{cutFrom}
 use Rattle.journal.specs.Read.{gotOf}
 use Rattle.journal.specs.declared.Found.{Found}
 use Rattle.journal.specs.declared.Found.the-variants.{Good, Bad}
 use Rattle.journal.specs.declared.Got.{Got}
 use Rattle.journal.specs.declared.Way.{Way}
 use Rattle.journal.specs.declared.Way.the-variants.{Before, After}
-use Rattle.session.specs.Session.{wellFormed}
+use Rattle.marks.specs.declared.Mark.{Mark}
+use Rattle.marks.specs.declared.Newest.{Newest}
+use Rattle.marks.specs.declared.Newest.the-variants.{At, Nothing}
+use Rattle.marks.specs.Marks.{marksOf, passedOf, Last}
+use Rattle.session.specs.Session.{entriesIn, wellFormed}
 use Rattle.session.specs.Road.{Asks, refuses, moves, storeOf, usedOf, Said, settled}
 use Rattle.session.specs.declared.Session.{Session}
 use Rattle.image.specs.declared.Head.{Head}
-use Rattle.image.specs.Image.{imageOf, headRenewed}
+use Rattle.image.specs.Image.{imageOf, headRenewed, storeIn, withPart, journalIn, marksIn}
+use Rattle.layout.specs.Layout.{marksSize, marksAt, imageLength}
 use Rattle.inplace.specs.declared.Told.{Told}
-use Rattle.inplace.specs.InPlace.{Left, onImage}
+use Rattle.inplace.specs.InPlace.{Left, Marked, MarkedTo, MarksMore, onImage}
 
 -- ---- the newest entry of a way's store, put into the record
 
@@ -77,21 +85,26 @@ undoCall s = moveCall Before s
 abbrev pub redoCall : Session → Said
 redoCall s = moveCall After s
 
--- ---- on a session that is lent as its image's bytes: the kind stands beside the answer
+-- ---- on a session that is lent as its image's bytes: kind and number passed stand beside the answer
 
 -- the head with the record after it; its entry's store ends at `at` then, the other one at `end`
 unfoldable pub headMoved : Head → Way → Record → ℕ → ℕ → Head
 headMoved h w held at end = headRenewed h held (h .next) (byWay w at end) (byWay w end at)
 
-unfoldable pub movedLeft : Said → Left
-movedLeft q = record { told = record { answer = q .answer; small = 0; beside = q .kind }; image = imageOf (q .session); reply = q .reply }
+-- i: "Report the number passed (0 when refused)", of the entries that the journal holds; redo reports none
+unfoldable pub passedBy : Way → Session → ℕ
+passedBy w s = byWay w (passedOf (length (entriesIn (s .used) (s .journal)))) 0
+
+unfoldable pub movedLeft : ℕ → Said → Left
+movedLeft passed q =
+    record { told = record { answer = q .answer; small = cond (eqb (q .answer) 0) passed 0; beside = q .kind }; image = imageOf (q .session); reply = q .reply }
 
 -- what is asked of a session, settled on its image
-unfoldable pub movedBy : Session → Asks → Left
-movedBy s a = movedLeft (settled s [] a)
+unfoldable pub movedBy : Way → Session → Asks → Left
+movedBy w s a = movedLeft (passedBy w s) (settled s [] a)
 
 unfoldable pub moveOn : Way → List ℕ → Left
-moveOn w b = onImage b [] (λ (s : Session). movedLeft (moveCall w s))
+moveOn w b = onImage b [] (λ (s : Session). movedLeft (passedBy w s) (moveCall w s))
 
 abbrev pub undoOn : List ℕ → Left
 undoOn b = moveOn Before b
@@ -108,3 +121,33 @@ UndoAllows b told image = MoveAllows Before b told image
 
 abbrev pub RedoAllows : List ℕ → Told → List ℕ → Type 0
 RedoAllows b told image = MoveAllows After b told image
+
+-- ---- an entry moved: y are the lent bytes b without the one at `at`, and with what takes the change back in the other store
+
+pub record Moved (w : Way) (at from to : ℕ) (back : Edit) (b y : List ℕ) : Type 0 where
+  pub less : storeIn w y ≡ cutFrom at from (storeIn w b)
+  pub more : storeIn (other w) y ≡ pasted to (entryBytes back) (storeIn (other w) b)
+  pub marks-kept : marksIn y ≡ marksIn b
+  pub long : length y ≡ imageLength
+
+-- ---- the marks (i)
+
+-- where undo begins to look for the newest entry: at the last mark; redo at the front of its store
+abbrev pub LooksFrom : Way → List ℕ → ℕ → Type 0
+LooksFrom Before b from = (x : Mark) × Last (marksIn b) x × (from ≡ x .place)
+LooksFrom After b from = from ≡ 0
+
+-- the newest entry of a store that has one is found at its place, and the number passed is the one to report
+abbrev pub NewestFound : Way → Session → Newest → Type 0
+NewestFound w s (At at passed) = (count : ℕ) × (readingOf (scan (take (usedOf w s) (storeOf w s))) ≡ Whole count at) × (passed ≡ passedBy w s)
+NewestFound w s Nothing = ⊥
+
+-- before an entry is moved: undo takes the newest away, redo puts one more at the used end
+abbrev pub MarksBefore : Way → ℕ → ℕ → List ℕ → Type 0
+MarksBefore Before used at b = MarkedTo used at b
+MarksBefore After used at b = Marked used b
+
+-- and y are the bytes after it
+abbrev pub MarksAfter : Way → ℕ → ℕ → List ℕ → List ℕ → Type 0
+MarksAfter Before used at b y = y ≡ withPart marksSize marksAt (marksOf (entriesIn at (journalIn b))) b
+MarksAfter After used at b y = MarksMore used b y

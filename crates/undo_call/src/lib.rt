@@ -4,22 +4,21 @@ ghost use mathlib.Core.Bool.{true};
 ghost use mathlib.Core.Path.{_≡_};
 ghost use Prim.Native.Nat.{_≤_, _+_};
 ghost use lib.ListN.{length};
-ghost use Rattle.wire.specs.Wire.{pasted};
 ghost use Rattle.journal.specs.Ways.{byWay, other};
-ghost use Rattle.journal.specs.Bytes.{entryBytes};
-ghost use Rattle.journal.specs.Add.{entryLen, cutFrom};
+ghost use Rattle.journal.specs.Add.{entryLen};
+ghost use Rattle.journal.specs.declared.Way.the-variants.{After};
 ghost use Rattle.session.specs.Session.{wellFormed};
-ghost use Rattle.image.specs.Image.{imageOf, storeIn, sessionIn};
+ghost use Rattle.image.specs.Image.{imageOf, sessionIn};
 ghost use Rattle.layout.specs.Layout.{imageLength};
 ghost use Rattle.inplace.specs.InPlace.{HeadStands};
 ghost use Rattle.session.specs.Road.{sessionMoved};
-ghost use Rattle.undo_call.specs.Undo.{noneLeft, headMoved, editAsks, newestAsks, movedBy, MoveAllows, UndoAllows, RedoAllows};
+ghost use Rattle.undo_call.specs.Undo.{noneLeft, headMoved, editAsks, newestAsks, passedBy, movedBy, LooksFrom, NewestFound, MarksBefore, MarksAfter, Moved, MoveAllows, UndoAllows, RedoAllows};
 use change::Edit;
-use entries::Reading;
 use image::Head;
 use inplace::Told;
 use journal::Found;
 use journal::Way;
+use marks::Newest;
 use record::Record;
 
 // ---- by the way
@@ -53,14 +52,39 @@ fn none_left(way: Way) -> u8
     }
 }
 
+// ---- the marks
+
+// Where to begin looking for the newest entry of a store: undo at the last mark.
+fn look_from(lent: &[u8], way: Way) -> usize
+    requires { ⌜ length (now lent) ≡ imageLength ⌝ }
+    ensures { λ from. ⌜ LooksFrom way (now (lent .entry)) from ⌝ }
+{
+    match way {
+        Way::Before => {
+            let last = marks::last(&lent[layout::MARKS..layout::IMAGE]);
+            last.place
+        }
+        Way::After => 0,
+    }
+}
+
+// The marks for the newest entry less, which begins at `at`, or for one more at the used end.
+fn mark_again(lent: &mut [u8], way: Way, used: usize, at: usize)
+    requires { ⌜ (length (now lent) ≡ imageLength) × MarksBefore way used at (now lent) × (way ≡ After → used + 2 ≤ 2048) ⌝ }
+    ensures { λ _. ⌜ MarksAfter way used at (now (lent .entry)) (now (lent .exit)) ⌝ }
+{
+    match way {
+        Way::Before => inplace::mark_removed(lent, used, at),
+        Way::After => inplace::mark_added(lent, used),
+    }
+}
+
 // ---- the change `e`, whose entry starts at `at` of its store
 
 // The entry is zeroed, and what takes the change back put at the end of the other store.
 fn move_entry(lent: &mut [u8], way: Way, at: usize, from: usize, to: usize, back: Edit)
     requires { ⌜ (length (now lent) ≡ imageLength) × (to + entryLen back ≤ 2048) ⌝ }
-    ensures { λ _. ⌜ storeIn way (now (lent .exit)) ≡ cutFrom at from (storeIn way (now (lent .entry))) ⌝ }
-    ensures { λ _. ⌜ storeIn (other way) (now (lent .exit)) ≡ pasted to (entryBytes back) (storeIn (other way) (now (lent .entry))) ⌝ }
-    ensures { λ _. ⌜ length (now (lent .exit)) ≡ imageLength ⌝ }
+    ensures { λ _. ⌜ Moved way at from to back (now (lent .entry)) (now (lent .exit)) ⌝ }
 {
     inplace::cut(&mut *lent, way, at, from);
     inplace::append(lent, other(way), to, back);
@@ -77,24 +101,24 @@ fn head_moved(h: Head, way: Way, after: Record, at: usize, end: usize) -> Head
 }
 
 fn carry_on(lent: &mut [u8], h: Head, way: Way, at: usize, e: Edit, after: Record)
-    requires { ⌜ (length (now lent) ≡ imageLength) × (at + entryLen e ≡ byWay way (h .used) (h .ahead)) × (h .used + h .ahead ≤ 2048) ⌝ }
+    requires { ⌜ (length (now lent) ≡ imageLength) × (at + entryLen e ≡ byWay way (h .used) (h .ahead)) × (h .used + h .ahead ≤ 2048) × MarksBefore way (h .used) at (now lent) ⌝ }
     ensures { λ _. ⌜ now (lent .exit) ≡ imageOf (sessionMoved way (sessionIn h (now (lent .entry))) at e after) ⌝ }
 {
     let back = change::inverse(h.held, e);
-    let taken = back.change;
-    let n = journal::entry_len(taken);
+    let n = journal::entry_len(back);
     let from = by_way(way, h.used as usize, h.ahead as usize);
     let to = by_way(way, h.ahead as usize, h.used as usize);
+    mark_again(&mut *lent, way, h.used as usize, at);
     move_entry(&mut *lent, way, at, from, to, back);
     let head = head_moved(h, way, after, at, to + n);
     image::write_head(lent, head);
 }
 
-// It is put into the record, or refused.
-fn take(lent: &mut [u8], h: Head, way: Way, at: usize, e: Edit) -> Told
-    requires { ⌜ HeadStands h (now lent) × (at + entryLen e ≡ byWay way (h .used) (h .ahead)) × (h .used + h .ahead ≤ 2048) ⌝ }
-    ensures { λ x. ⌜ x ≡ movedBy (sessionIn h (now (lent .entry))) (editAsks way (sessionIn h (now (lent .entry))) at e) .told ⌝ }
-    ensures { λ _. ⌜ now (lent .exit) ≡ movedBy (sessionIn h (now (lent .entry))) (editAsks way (sessionIn h (now (lent .entry))) at e) .image ⌝ }
+// It is put into the record, or refused. So many entries were passed to find it.
+fn take(lent: &mut [u8], h: Head, way: Way, at: usize, e: Edit, passed: u8) -> Told
+    requires { ⌜ HeadStands h (now lent) × (at + entryLen e ≡ byWay way (h .used) (h .ahead)) × (h .used + h .ahead ≤ 2048) × MarksBefore way (h .used) at (now lent) × (passed ≡ passedBy way (sessionIn h (now lent))) ⌝ }
+    ensures { λ x. ⌜ x ≡ movedBy way (sessionIn h (now (lent .entry))) (editAsks way (sessionIn h (now (lent .entry))) at e) .told ⌝ }
+    ensures { λ _. ⌜ now (lent .exit) ≡ movedBy way (sessionIn h (now (lent .entry))) (editAsks way (sessionIn h (now (lent .entry))) at e) .image ⌝ }
 {
     let change = e.change;
     let put = change::put(h.held, e);
@@ -106,26 +130,47 @@ fn take(lent: &mut [u8], h: Head, way: Way, at: usize, e: Edit) -> Told
         return inplace::answer_with(7, 0);
     }
     carry_on(lent, h, way, at, e, after);
-    inplace::answer_with(0, change::kind(change) as u16)
+    Told {
+        answer: 0,
+        small: passed,
+        beside: change::kind(change) as u16,
+    }
+}
+
+// The newest entry of a store that has one: where it begins, and how many entries undo passed, from the last mark on, to find it.
+fn newest_of(lent: &[u8], h: Head, way: Way, used: usize) -> Newest
+    requires { ⌜ HeadStands h (now lent) × (wellFormed (sessionIn h (now lent)) ≡ true) × (used ≡ byWay way (h .used) (h .ahead)) × (used ≡ 0 → ⊥) ⌝ }
+    ensures { λ x. ⌜ NewestFound way (sessionIn h (now (lent .entry))) x ⌝ }
+{
+    let store = image::store_at(way);
+    let from = look_from(lent, way);
+    let first = store + from;
+    let end = store + used;
+    let found = marks::find_newest(&lent[first..end]);
+    let Newest::At(place, passed) = found else {
+        return Newest::Nothing;
+    };
+    let told = by_way(way, passed, 0);
+    Newest::At(from + place, told)
 }
 
 // A well-formed session reads as entries with good values; what the two `else` answer can't come.
 fn take_newest(lent: &mut [u8], h: Head, way: Way) -> Told
     requires { ⌜ HeadStands h (now lent) × (wellFormed (sessionIn h (now lent)) ≡ true) ⌝ }
-    ensures { λ x. ⌜ x ≡ movedBy (sessionIn h (now (lent .entry))) (newestAsks way (sessionIn h (now (lent .entry)))) .told ⌝ }
-    ensures { λ _. ⌜ now (lent .exit) ≡ movedBy (sessionIn h (now (lent .entry))) (newestAsks way (sessionIn h (now (lent .entry)))) .image ⌝ }
+    ensures { λ x. ⌜ x ≡ movedBy way (sessionIn h (now (lent .entry))) (newestAsks way (sessionIn h (now (lent .entry)))) .told ⌝ }
+    ensures { λ _. ⌜ now (lent .exit) ≡ movedBy way (sessionIn h (now (lent .entry))) (newestAsks way (sessionIn h (now (lent .entry)))) .image ⌝ }
 {
     let used = by_way(way, h.used as usize, h.ahead as usize);
     if used == 0 {
         return inplace::answer_with(none_left(way), 0);
     }
-    let store = image::store_at(way);
-    let end = store + used;
-    let reading = entries::read(&lent[store..end]);
-    let Reading::Whole { count: _, newest } = reading else {
+    let newest = newest_of(&*lent, h, way, used);
+    let Newest::At(at, passed) = newest else {
         return inplace::answer_with(1, 0);
     };
-    let start = store + newest;
+    let store = image::store_at(way);
+    let start = store + at;
+    let end = store + used;
     let got = journal::get(way, &lent[start..end]);
     let found = got.found;
     let tables = got.tables;
@@ -136,15 +181,16 @@ fn take_newest(lent: &mut [u8], h: Head, way: Way) -> Told
         lent,
         h,
         way,
-        newest,
+        at,
         Edit {
             change: change,
             tables: tables,
         },
+        passed as u8,
     )
 }
 
-// ---- the calls, on a session that is lent as its image's bytes; the kind stands beside the answer
+// ---- the calls, on a session that is lent as its image's bytes; kind and number passed stand beside the answer
 
 fn take_from(lent: &mut [u8], way: Way) -> Told
     ensures { λ x. ⌜ MoveAllows way (now (lent .entry)) x (now (lent .exit)) ⌝ }

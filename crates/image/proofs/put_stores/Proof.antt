@@ -1,4 +1,4 @@
-use Rattle.image.proofs.Standing.{both-put}
+use Rattle.image.proofs.Standing.{stores-put}
 use borrow.Author.Needs.{needs}
 use Rattle.image.proofs.put_stores.Statement.{statement}
 use Rattle.image.proofs.put_stores.Tie as tie
@@ -15,11 +15,17 @@ slice-aggregate-copy-2 c = search needs
 copy-requires-2 : tie.Need-copy-requires-2
 copy-requires-2 c κs = search needs
 
+slice-aggregate-copy-3 : tie.Need-slice-aggregate-copy-3
+slice-aggregate-copy-3 c = search needs
+
+copy-requires-3 : tie.Need-copy-requires-3
+copy-requires-3 c κs = search needs
+
 same-length : tie.Need-same-length
 same-length c = search needs
 
 returns : tie.Need-returns
-returns c = both-put (c .before .before .before .before .before .before .before .before .before .before .before .args .d .now) _ _ _ _ (c .before .before .before .before .before .before .before .copy .ensures) (c .before .before .copy2 .ensures) (c .before .before .before .before .before .before .before .before .before .before .before .pre) (search needs) (search needs)
+returns c = stores-put (c .before .before .before .before .before .before .before .before .before .before .before .before .before .before .before .before .args .d .now) _ _ _ _ _ _ (c .before .before .before .before .before .before .before .before .before .before .before .before .copy .ensures) (c .before .before .before .before .before .before .before .copy2 .ensures) (c .before .before .copy3 .ensures) (c .before .before .before .before .before .before .before .before .before .before .before .before .before .before .before .before .pre) (search needs) (search needs) (search needs)
 
 pub put-stores-spec : {M : Type 1} → statement M
 put-stores-spec =
@@ -29,5 +35,7 @@ put-stores-spec =
     copy-requires
     slice-aggregate-copy-2
     copy-requires-2
+    slice-aggregate-copy-3
+    copy-requires-3
     same-length
     returns)

@@ -39,9 +39,9 @@ widths-record r sets thermal = λ i.
 
 widths-session : (s : Session) → TypedSession s → widthsOf (sessionRows s) ≡ widths
 unfolding widthsOf widths sessionRows recordRows headRows throttlesRows thermalRows logsRows mailboxRows workedRows toBE
-widths-session s t = λ i. widths-record (s .held) (t .held .sets) (t .held .thermal) i ++ (2 ∷ 1 ∷ 1 ∷ 1 ∷ 2 ∷ 2 ∷ t .journal i ∷ 2 ∷ t .redo i ∷ laterWidths)
+widths-session s t = λ i. widths-record (s .held) (t .held .sets) (t .held .thermal) i ++ (2 ∷ 1 ∷ 1 ∷ 1 ∷ 2 ∷ 2 ∷ t .journal i ∷ 2 ∷ t .redo i ∷ t .marks i ∷ [])
 
--- an image has 4,337 bytes
+-- an image has 4,401 bytes
 pub length-image : (s : Session) → TypedSession s → length (imageOf s) ≡ imageLength
 unfolding imageOf recordWidths widths sumOf
 length-image s t = length-joined (sessionRows s) ∙ ap sumOf (widths-session s t)
@@ -135,6 +135,7 @@ module _ (s : Session) (t : Typed s) where
         journal = row 34 i;
         ahead = number-back 2 2287 _ (imageOf s) (row 35) (t .session .ahead) i;
         redo = row 36 i;
+        marks = row 37 i;
       }
 
 -- ---- writing what was read gives the bytes
@@ -189,6 +190,7 @@ module _ (b : List ℕ) (bytes : Bytes b) (long : length b ≡ imageLength) wher
       ∷ partAt 2048 239 b
       ∷ number 2 2287 (lit< tt) i
       ∷ partAt 2048 2289 b
+      ∷ partAt 64 4337 b
       ∷ []
 
   pub image-session : imageOf (sessionOf b) ≡ b

@@ -45,6 +45,7 @@ module _ (b : List ℕ) (bytes : Bytes b) (long : length b ≡ imageLength) wher
       used = fits 2 237 (lit< tt);
       redo = part-long 2048 2289 (lit< tt);
       ahead = fits 2 2287 (lit< tt);
+      marks = part-long 64 4337 (lit< tt);
     };
     limit = fits 2 230 (lit< tt);
   }

@@ -24,7 +24,8 @@ same-length c = search needs
 
 returns : tie.Need-returns
 returns c = let wide : length (c .before .before .add .last .0) ≡ length (journalIn (c .before .before .before .before .before .args .lent .now)) = search needs in
-    added-in (c .before .before .before .before .before .args .lent .now) (c .before .before .before .before .before .pre) _ _ _ _ (c .before .before .add .ensures .0) (c .before .before .add .ensures .1) wide
+    let a = added-in (c .before .before .before .before .before .args .lent .now) (c .before .before .before .before .before .pre) _ _ _ _ (c .before .before .add .ensures .0) (c .before .before .add .ensures .1 .0) wide in
+    (a .0, (a .1 .0, (a .1 .1, c .before .before .add .ensures .1 .1)))
 
 pub add-spec : {M : Type 1} → statement M
 add-spec =

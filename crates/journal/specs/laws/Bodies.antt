@@ -3,6 +3,7 @@ use Prim.Native.Nat.{ℕ, suc, _+_, _^_, _≤_, _<_}
 use mathlib.Core.Path.{_≡_, refl, sym, ap, _∙_}
 use mathlib.Core.List.{List, _++_}
 use native.Mathlib.Omega.{arith}
+use lib.Dec.{lit<}
 use lib.ListN.{length, take, replicate}
 use lib.Seq.{take-at, take-all}
 use Rattle.wire.specs.Wire.{beNat, toBE}
@@ -11,6 +12,7 @@ use Rattle.record.specs.Widths.{CapsFit, AreaFits}
 use Rattle.record.specs.Record.{noThrottles}
 use Rattle.record.specs.declared.Caps.{Caps}
 use Rattle.record.specs.declared.Area.{Area}
+use Rattle.record.specs.declared.Throttles.{Throttles}
 use Rattle.change.specs.Change.{kindOf, noTables}
 use Rattle.change.specs.declared.Change.{Change}
 use Rattle.change.specs.declared.Change.the-variants.{Clear, Unclear, SetState, SetRole, SetCaps, SetUser, SetThermal, SetThrottles, Reset, Unreset, SetMask, SetDeadman, SetAreas}
@@ -40,39 +42,50 @@ Writable w t (SetMask mask) = (mask < 256 ^ 4) × (t ≡ noTables)
 Writable w t (SetDeadman deadman) = (deadman .time < 256 ^ 8) × (t ≡ noTables)
 Writable w t (SetAreas areas) = AreaFits (areas .ffdc) × AreaFits (areas .pass) × (t ≡ noTables)
 
--- ---- a body is as long as its kind says
+-- ---- a body is as long as its kind says, one byte at least, where the tables are as long as theirs
+
+abbrev Lengths : Tables → Change → Type 0
+Lengths t ch = (length (bodyOf t ch) ≡ bodyLen (kindOf ch)) × (1 ≤ bodyLen (kindOf ch))
+
+pub lengths : (t : Tables) (ch : Change) → length (t .thermal) ≡ 9 → length (t .throttles .sets) ≡ 160 → Lengths t ch
+unfolding bodyOf kindOf bodyLen clearedBody capsBody throttlesBody deadmanBody areaBytes areasBody toBE
+lengths t (Clear place log) n m = (refl, lit< tt)
+lengths t (Unclear place log) n m = (refl, lit< tt)
+lengths t (SetState state) n m = (refl, lit< tt)
+lengths t (SetRole got role) n m = (refl, lit< tt)
+lengths t (SetCaps got caps) n m = (refl, lit< tt)
+lengths t (SetUser user) n m = (refl, lit< tt)
+lengths t (SetThermal got) n m = (ap suc n, lit< tt)
+lengths t (SetThrottles got) n m = (ap (λ (k : ℕ). suc (suc (suc k))) m, lit< tt)
+lengths t (Reset log) n m = (refl, lit< tt)
+lengths t (Unreset state made) n m = (refl, lit< tt)
+lengths t (SetMask mask) n m = (refl, lit< tt)
+lengths t (SetDeadman deadman) n m = (refl, lit< tt)
+lengths t (SetAreas areas) n m = (refl, lit< tt)
+
+no-tables : (t : Tables) (ch : Change) → t ≡ noTables → Lengths t ch
+no-tables t ch e = lengths t ch (ap (λ (x : Tables). length (x .thermal)) e) (ap (λ (x : Tables). length (x .throttles .sets)) e)
+
+written-lengths : (w : Way) (t : Tables) (ch : Change) → Writable w t ch → Lengths t ch
+written-lengths w t (Clear place log) h = no-tables t _ (h .1)
+written-lengths w t (Unclear place log) h = no-tables t _ (h .1)
+written-lengths w t (SetState state) h = no-tables t _ h
+written-lengths w t (SetRole got role) h = no-tables t _ h
+written-lengths w t (SetCaps got caps) h = no-tables t _ (h .1)
+written-lengths w t (SetUser user) h = no-tables t _ (h .1)
+written-lengths w t (SetThermal got) h = lengths t _ (h .0) (ap (λ (x : Throttles). length (x .sets)) (h .1))
+written-lengths w t (SetThrottles got) h = lengths t _ (ap length (h .2)) (h .1)
+written-lengths w t (Reset log) h = no-tables t _ (h .1)
+written-lengths w t (Unreset state made) h = no-tables t _ (h .1)
+written-lengths w t (SetMask mask) h = no-tables t _ (h .1)
+written-lengths w t (SetDeadman deadman) h = no-tables t _ (h .1)
+written-lengths w t (SetAreas areas) h = no-tables t _ (h .2)
 
 pub length-body : (w : Way) (t : Tables) (ch : Change) → Writable w t ch → length (bodyOf t ch) ≡ bodyLen (kindOf ch)
-unfolding bodyOf kindOf bodyLen clearedBody capsBody throttlesBody deadmanBody areaBytes areasBody toBE
-length-body w t (Clear place log) h = refl
-length-body w t (Unclear place log) h = refl
-length-body w t (SetState state) h = refl
-length-body w t (SetRole got role) h = refl
-length-body w t (SetCaps got caps) h = refl
-length-body w t (SetUser user) h = refl
-length-body w t (SetThermal got) h = ap suc (h .0)
-length-body w t (SetThrottles got) h = ap (λ (n : ℕ). suc (suc (suc n))) (h .1)
-length-body w t (Reset log) h = refl
-length-body w t (Unreset state made) h = refl
-length-body w t (SetMask mask) h = refl
-length-body w t (SetDeadman deadman) h = refl
-length-body w t (SetAreas areas) h = refl
+length-body w t ch h = written-lengths w t ch h .0
 
 pub some-body : (w : Way) (t : Tables) (ch : Change) → Writable w t ch → 1 ≤ bodyLen (kindOf ch)
-unfolding kindOf bodyLen
-some-body w t (Clear place log) h = omega arith
-some-body w t (Unclear place log) h = omega arith
-some-body w t (SetState state) h = omega arith
-some-body w t (SetRole got role) h = omega arith
-some-body w t (SetCaps got caps) h = omega arith
-some-body w t (SetUser user) h = omega arith
-some-body w t (SetThermal got) h = omega arith
-some-body w t (SetThrottles got) h = omega arith
-some-body w t (Reset log) h = omega arith
-some-body w t (Unreset state made) h = omega arith
-some-body w t (SetMask mask) h = omega arith
-some-body w t (SetDeadman deadman) h = omega arith
-some-body w t (SetAreas areas) h = omega arith
+some-body w t ch h = written-lengths w t ch h .1
 
 -- ---- reading what was written gives the change
 

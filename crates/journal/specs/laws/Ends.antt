@@ -13,7 +13,7 @@ use Rattle.wire.specs.laws.Cases.{else-lt}
 use Rattle.change.specs.declared.Edit.{Edit}
 use Rattle.change.specs.Change.{kindOf}
 use Rattle.entries.specs.Entries.{Entry, bodyLen, bytesOf, between, scan}
-use Rattle.entries.specs.laws.Entries.{read-append}
+use Rattle.entries.specs.laws.Entries.{Sized, read-append}
 use Rattle.journal.specs.declared.End.the-variants.{At}
 use Rattle.journal.specs.declared.Way.{Way}
 use Rattle.journal.specs.Bytes.{entryFor, entryBytes}
@@ -23,6 +23,16 @@ use Rattle.journal.specs.laws.Bodies.{Writable, length-body, some-body}
 pub length-entry : (way : Way) (e : Edit) → Writable way (e .tables) (e .change) → length (entryBytes e) ≡ entryLen e
 unfolding entryBytes entryFor bytesOf
 length-entry way e w = ap suc (length-body way (e .tables) (e .change) w) ∙ sym (add-one (bodyLen (kindOf (e .change))))
+
+-- an entry of the size of its kind behind the used bytes: they read as the entries before and this one
+pub sized-reads : (e : Edit) (used : ℕ) (j : List ℕ) (es : List Entry) → Sized (entryFor e) → used + entryLen e ≤ length j → scan (take used j) ≡ between es
+    → scan (take (used + entryLen e) (pasted used (entryBytes e) j)) ≡ between (entryFor e ∷ es)
+unfolding entryBytes entryFor bytesOf
+sized-reads e used j es s room r =
+    let long : length (entryBytes e) ≡ entryLen e = omega (arith, s .0) in
+    ap (λ (n : ℕ). scan (take (used + n) (pasted used (entryBytes e) j))) (sym long)
+    ∙ ap scan (take-pasted used (entryBytes e) j (omega (arith, long)))
+    ∙ read-append (take used j) es (entryFor e) r (s .0) (s .1)
 
 module _ (way : Way) (e : Edit) (used : ℕ) (j : List ℕ) (w : Writable way (e .tables) (e .change)) (room : used + entryLen e ≤ length j) where
   long : used + length (entryBytes e) ≤ length j
@@ -48,10 +58,10 @@ module _ (way : Way) (e : Edit) (used : ℕ) (j : List ℕ) (w : Writable way (e
 
   -- they read as the entries before and this one
   pub added-reads : (es : List Entry) → scan (take used j) ≡ between es → scan (take (used + entryLen e) (addedTo used e j)) ≡ between (entryFor e ∷ es)
-  unfolding entryBytes entryFor
+  unfolding entryFor
   added-reads es r =
       let s = length-body way (e .tables) (e .change) w in
-      ap scan take-added ∙ read-append (take used j) es (entryFor e) r (sym s) (omega (arith, s, some-body way (e .tables) (e .change) w))
+      ap (λ (l : List ℕ). scan (take (used + entryLen e) l)) added ∙ sized-reads e used j es (sym s, omega (arith, s, some-body way (e .tables) (e .change) w)) room r
 
   -- the unused bytes stay zero
   pub added-unused : allAre 0 (drop used j) ≡ true → allAre 0 (drop (used + entryLen e) (addedTo used e j)) ≡ true

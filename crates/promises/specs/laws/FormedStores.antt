@@ -20,27 +20,11 @@ use Rattle.journal.specs.declared.Way.{Way}
 use Rattle.journal.specs.declared.Way.the-variants.{Before, After}
 use Rattle.journal.specs.laws.Bodies.{Writable}
 use Rattle.journal.specs.laws.Ends.{added, length-added, added-reads, added-unused}
+use Rattle.session.specs.laws.Reads.{Reads, reads}
 use Rattle.session.specs.laws.Session.{Store, Formed}
 use Rattle.session.specs.declared.Session.{Session}
 use Rattle.session.specs.Road.{storeOf, usedOf}
 use Rattle.links.specs.Typed.{TypedSession}
-
--- ---- what bytes whose values are good read as
-
-pub record Reads (w : Way) (j : List ℕ) : Type 0 where
-  pub entries : List Entry
-  pub scanned : scan j ≡ between entries
-  pub good : allOk w entries ≡ true
-
-reads-by : (w : Way) (x : Scan) (j : List ℕ) → scan j ≡ x → scanOk w x ≡ true → Reads w j
-unfolding scanOk
-reads-by w (between es) j e h = record { entries = es; scanned = e; good = h }
-reads-by w (within es k b n) j e h = absurd (false≢true h)
-reads-by w (unknown es) j e h = absurd (false≢true h)
-
-pub reads : (w : Way) (j : List ℕ) → entriesOk w j ≡ true → Reads w j
-unfolding entriesOk
-reads w j h = reads-by w (scan j) j refl h
 
 -- entries that were read so are good, the newest and the older ones
 pub all-good : (w : Way) (j : List ℕ) (es : List Entry) → entriesOk w j ≡ true → scan j ≡ between es → allOk w es ≡ true

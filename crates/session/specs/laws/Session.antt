@@ -13,6 +13,8 @@ use Rattle.record.specs.Record.{workedOf}
 use Rattle.record.specs.declared.Worked.{Worked}
 use Rattle.formed.specs.Formed.{recordOk, nextOk}
 use Rattle.formed.specs.laws.Formed.{both-hold, hold-both, sound}
+use Rattle.marks.specs.Marks.{same}
+use Rattle.marks.specs.laws.Tested.{same-is, is-same}
 use Rattle.journal.specs.Read.{entriesOk}
 use Rattle.session.specs.declared.Session.{Session}
 use Rattle.change.specs.Change.{inverseOf}
@@ -22,7 +24,7 @@ use Rattle.journal.specs.declared.End.{End}
 use Rattle.journal.specs.declared.End.the-variants.{At, Full}
 use Rattle.journal.specs.declared.Way.{Way}
 use Rattle.journal.specs.declared.Way.the-variants.{Before, After}
-use Rattle.session.specs.Session.{workedFits, heldOk, storeOk, storesOk, wellFormed, renewed, carriedTo, carriedOf}
+use Rattle.session.specs.Session.{workedFits, heldOk, storeOk, storesOk, marksFor, wellFormed, renewed, carriedTo, carriedOf}
 
 -- a first test that must not hold, and the rest
 ltb-hold : (m n : ℕ) (b : Bool) → cond (ltb m n) false b ≡ true → (n ≤ m) × (b ≡ true)
@@ -73,6 +75,7 @@ pub record Formed (s : Session) : Type 0 where
   pub worked-is : s .worked ≡ workedOf (s .held)
   pub both-fit : s .used + s .ahead ≤ 2048
   pub journal : Store Before (s .journal) (s .used)
+  pub marks-are : s .marks ≡ marksFor (s .journal) (s .used)
   pub redo : Store After (s .redo) (s .ahead)
 
 pub formed : (s : Session) → wellFormed s ≡ true → Formed s
@@ -82,14 +85,22 @@ formed s h =
     let q = both-hold (recordOk (s .held) (s .next)) _ (p .0) in
     let r = ltb-hold 2048 (s .used + s .ahead) _ (p .1) in
     let t = both-hold (storeOk Before (s .journal) (s .used)) _ (r .1) in
-    record { record-ok = q .0; worked-is = sym (worked-same _ _ (q .1)); both-fit = r .0; journal = store Before _ _ (t .0); redo = store After _ _ (t .1) }
+    let u = both-hold (same (s .marks) (marksFor (s .journal) (s .used))) _ (t .1) in
+    record {
+      record-ok = q .0;
+      worked-is = sym (worked-same _ _ (q .1));
+      both-fit = r .0;
+      journal = store Before _ _ (t .0);
+      marks-are = same-is _ _ (u .0);
+      redo = store After _ _ (u .1);
+    }
 
 pub formed-ok : (s : Session) → Formed s → wellFormed s ≡ true
 unfolding wellFormed heldOk storesOk
 formed-ok s f =
     hold-both
     (hold-both (f .record-ok) (ap (workedFits (workedOf (s .held))) (f .worked-is) ∙ worked-fits (workedOf (s .held))))
-    (sym (else-lt _ _ {m = 2048} {n = s .used + s .ahead} (f .both-fit) (sym (hold-both (store-ok Before _ _ (f .journal)) (store-ok After _ _ (f .redo))))))
+    (sym (else-lt _ _ {m = 2048} {n = s .used + s .ahead} (f .both-fit) (sym (hold-both (store-ok Before _ _ (f .journal)) (hold-both (ap (same (s .marks)) (sym (f .marks-are)) ∙ is-same (s .marks)) (store-ok After _ _ (f .redo)))))))
 
 pub formed-next : (s : Session) → wellFormed s ≡ true → s .next ≤ 256
 unfolding nextOk

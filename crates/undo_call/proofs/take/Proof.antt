@@ -22,22 +22,19 @@ returns-2 : tie.Need-returns-2
 returns-2 c = put-ill (c .before .before .before .before .before .before .before .before .args .way) _ (c .before .before .before .before .before .before .before .before .args .lent .now) (c .before .before .before .before .before .before .before .before .pre .0) (c .before .before .before .before .before .before .before .before .args .at) _ _ (c .before .before .before .before .before .before .put .ensures) (c .before .before .before .if1 .left) _ (c .before .before .record-ok .ensures) _ (c .answer-with2 .ensures) (c .before .if2 .taken)
 
 carry-on-requires : tie.Need-carry-on-requires
-carry-on-requires c κs = (c .before .before .before .before .before .before .before .before .pre .0 .long, c .before .before .before .before .before .before .before .before .pre .1, c .before .before .before .before .before .before .before .before .pre .2)
+carry-on-requires c κs = (c .before .before .before .before .before .before .before .before .pre .0 .long, c .before .before .before .before .before .before .before .before .pre .1, c .before .before .before .before .before .before .before .before .pre .2, c .before .before .before .before .before .before .before .before .pre .3)
 
 kind-requires : tie.Need-kind-requires
 kind-requires c κs = search needs
 
-cast-answer-with : tie.Need-cast-answer-with
-cast-answer-with c = search needs
-
-answer-with-requires-3 : tie.Need-answer-with-requires-3
-answer-with-requires-3 c κs = search needs
+cast-t16 : tie.Need-cast-t16
+cast-t16 c = search needs
 
 same-length : tie.Need-same-length
 same-length c = search needs
 
 returns-3 : tie.Need-returns-3
-returns-3 c = put-done (c .before .before .before .before .before .before .before .before .before .before .before .before .before .args .way) _ (c .before .before .before .before .before .before .before .before .before .before .before .before .before .args .lent .now) (c .before .before .before .before .before .before .before .before .before .before .before .before .before .pre .0) (c .before .before .before .before .before .before .before .before .before .before .before .before .before .args .at) _ _ (c .before .before .before .before .before .before .before .before .before .before .before .put .ensures) (c .before .before .before .before .before .before .before .before .if1 .left) _ (c .before .before .before .before .before .before .before .record-ok .ensures) _ _ _ (c .before .before .before .before .before .before .if2 .left) (c .before .kind .ensures) (c .answer-with3 .ensures) (c .before .before .before .before .carry-on .ensures)
+returns-3 c = put-done (c .before .before .before .before .before .before .before .before .before .before .before .before .args .way) _ (c .before .before .before .before .before .before .before .before .before .before .before .before .args .lent .now) (c .before .before .before .before .before .before .before .before .before .before .before .before .pre .0) (c .before .before .before .before .before .before .before .before .before .before .before .before .args .at) _ _ (c .before .before .before .before .before .before .before .before .before .before .put .ensures) (c .before .before .before .before .before .before .before .if1 .left) _ (c .before .before .before .before .before .before .record-ok .ensures) _ _ _ (c .before .before .before .before .before .before .before .before .before .before .before .before .pre .4) (c .before .before .before .before .before .if2 .left) (c .kind .ensures) (c .before .before .before .carry-on .ensures)
 
 pub take-spec : {M : Type 1} → statement M
 take-spec =
@@ -51,7 +48,6 @@ take-spec =
     returns-2
     carry-on-requires
     kind-requires
-    cast-answer-with
-    answer-with-requires-3
+    cast-t16
     same-length
     returns-3)

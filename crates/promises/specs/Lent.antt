@@ -1,12 +1,15 @@
 -- The calls for C, one after the other on one lent image.
 use Prim.Native.Nat.{ℕ}
+use mathlib.Core.Bool.{cond}
 use mathlib.Core.List.{List, [], _∷_}
+use lib.Dec.{eqb}
+use Rattle.journal.specs.declared.Way.the-variants.{Before}
 use Rattle.image.specs.Image.{imageOf}
 use Rattle.session.specs.declared.Session.{Session}
 use Rattle.inplace.specs.declared.Told.{Told}
 use Rattle.occ_call.specs.Occ.{occOn, occWhy, besideOf}
 use Rattle.sbe_call.specs.Sbe.{sbeOn}
-use Rattle.undo_call.specs.Undo.{undoOn, redoOn}
+use Rattle.undo_call.specs.Undo.{passedBy, undoOn, redoOn}
 use Rattle.bjargolsk.specs.Calls.{packed}
 use Rattle.promises.specs.Calls.{Call, occ, sbe, undo, redo, said}
 
@@ -22,11 +25,11 @@ lent b (sbe r d) = record { result = packed (sbeOn b r d .told); image = sbeOn b
 lent b undo = record { result = packed (undoOn b .told); image = undoOn b .image; reply = undoOn b .reply }
 lent b redo = record { result = packed (redoOn b .told); image = redoOn b .image; reply = redoOn b .reply }
 
--- the same of a call on a session: the answer lowest, above it reason and byte, doorbell or kind; the session as its image
+-- the same of a call on a session: the answer lowest, above it reason and byte, doorbell, kind and number passed; the session as its image
 unfoldable pub told : Session → Call → Told
 told s (occ sender c d) = besideOf (said s (occ sender c d) .answer) (occWhy s sender c d)
 told s (sbe r d) = record { answer = said s (sbe r d) .answer; small = 0; beside = said s (sbe r d) .bell }
-told s undo = record { answer = said s undo .answer; small = 0; beside = said s undo .kind }
+told s undo = record { answer = said s undo .answer; small = cond (eqb (said s undo .answer) 0) (passedBy Before s) 0; beside = said s undo .kind }
 told s redo = record { answer = said s redo .answer; small = 0; beside = said s redo .kind }
 
 unfoldable pub carriedOver : Session → Call → Lent

@@ -12,6 +12,7 @@ pub mod Marks
 pub mod Later
 pub mod Shifted
 pub mod Lent
+pub mod Passed
 pub mod Replays
 pub mod Partings
 pub mod Examples

@@ -79,7 +79,9 @@ use Rattle.image.specs.laws.Typed.{typed-image}
 use Rattle.layout.specs.Layout.{imageLength}
 use Rattle.bjargolsk.specs.Calls.{answerIn, freshOn, FreshReturns, OccReturns, SbeReturns, UndoReturns, RedoReturns}
 use Rattle.promises.specs.laws.Lent.{every-image, every-byte, no-session, fresh-image, lent-run, lent-next}
-use Rattle.promises.specs.Lent.{lent, carriedOver, lentRun}
+use Rattle.promises.specs.Lent.{lent, told as told-beside, carriedOver, lentRun}
+use Rattle.promises.specs.Passed.{MarksStand, PassedAsHeld}
+use Rattle.promises.specs.laws.Passed.{session-marks, passed-as-held, none-passed, few-passed}
 use Rattle.promises.specs.Replays.{callsIn, wholePart, linesBy, PlaysUpTo}
 use Rattle.promises.specs.laws.Replays.{trace-bytes, plays-up-to, replay-run, replay-lines, play-leaves, broken-lines, broken-image}
 use Rattle.promises.specs.Partings.{firstEntries, PlaysAsFirst}
@@ -291,6 +293,21 @@ effect-of-undo = move-effect Before
 
 pub effect-of-redo : (s : Session) → TypedSession s → redoCall s .answer ≡ 0 → RedoEffect s (redoCall s)
 effect-of-redo = move-effect After
+
+-- document 02, i (Passed.antt): the marks of every well-formed session, so that of each call's session too, stand at every 32nd entry of its journal, counting
+-- the first, and the unused ones are 0
+pub marks-at-every-32nd-entry : (s : Session) (w : WellFormed s) → MarksStand (s .marks) (w .journal .entries)
+marks-at-every-32nd-entry = session-marks
+
+-- the number that undo reports: the entries held, less one, less the greatest multiple of 32 not above that; 0 when refused; at most 31
+pub number-passed : (s : Session) → undoCall s .answer ≡ 0 → PassedAsHeld s (told-beside s undo .small)
+number-passed = passed-as-held
+
+pub number-passed-when-refused : (s : Session) → (undoCall s .answer ≡ 0 → ⊥) → told-beside s undo .small ≡ 0
+number-passed-when-refused = none-passed
+
+pub number-passed-at-most-31 : (s : Session) → told-beside s undo .small ≤ 31
+number-passed-at-most-31 = few-passed
 
 -- "redo never lacks journal room", nor undo room in the redo store: whatever the newest entry says, the entry that takes it back fits into the other store,
 -- and the two used lengths together stay what they were

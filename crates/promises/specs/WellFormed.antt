@@ -1,4 +1,4 @@
--- "A session is well formed if": document 01's sentences, one after the other, as plain conditions; the redo store's from document 02, d.
+-- "A session is well formed if": document 01's sentences, one after the other, as plain conditions; the redo store's from document 02, d, the marks' from i.
 use Prim.Native.Nat.{ℕ, zero, suc, _+_, _/_, _%_, _^_, _≤_, _<_}
 use mathlib.Core.List.{List, [], _∷_}
 use mathlib.Core.Logic.{_⊎_}
@@ -16,6 +16,7 @@ use Rattle.change.specs.declared.Change.the-variants.{Clear, Unclear, SetState,
 use Rattle.change.specs.declared.Tables.{Tables}
 use Rattle.formed.specs.Formed.{InOrder}
 use Rattle.entries.specs.Entries.{Entry, written, bodyLen}
+use Rattle.marks.specs.Marks.{marksOf}
 use Rattle.journal.specs.Read.{foundFor, tablesIn}
 use Rattle.journal.specs.declared.Found.{Found}
 use Rattle.journal.specs.declared.Found.the-variants.{Good, Bad}
@@ -133,6 +134,8 @@ pub record WellFormed (s : Session) : Type 0 where
   -- "worked-out values fit the record"
   pub worked : s .worked ≡ workedOf (s .held)
   pub journal : StoreHolds Before (s .journal) (s .used)
+  -- i: "one not at its entry, or unused and not 0, makes it ill formed": they are those of the journal's entries
+  pub marks : s .marks ≡ marksOf (journal .entries)
   pub redo : StoreHolds After (s .redo) (s .ahead)
   -- d: "and its length with the journal's is at most 2,048"
   pub both : s .used + s .ahead ≤ 2048

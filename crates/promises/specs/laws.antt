@@ -21,6 +21,7 @@ pub mod Heard
 pub mod AsIf
 pub mod WellFormed
 pub mod Plainly
+pub mod Passed
 pub mod Fresh
 pub mod Examples
 pub mod Unset

@@ -22,7 +22,7 @@ use Rattle.inplace.specs.declared.Told.{Told}
 use Rattle.occ_call.specs.Occ.{occAsks, occCall, occWhy, occLeft, occOn}
 use Rattle.occ_call.specs.laws.Why.{answer-beside}
 use Rattle.sbe_call.specs.Sbe.{sbeAsks, sbeCall, sbeLeft, sbeOn}
-use Rattle.undo_call.specs.Undo.{moveAsks, moveCall, movedLeft, moveOn, undoOn, redoOn}
+use Rattle.undo_call.specs.Undo.{moveAsks, moveCall, passedBy, movedLeft, moveOn, undoOn, redoOn}
 use Rattle.bjargolsk.specs.Calls.{packed, answerIn}
 
 -- a call that answered 0 has answer 0 in its result
@@ -60,7 +60,7 @@ module _ (b : List ℕ) (bytes : Bytes b) where
   move-refused : (w : Way) → Kept (moveOn w b) []
   unfolding moveOn movedLeft moveCall
   move-refused w =
-      refused (λ (s : Session). movedLeft (moveCall w s)) [] (λ h. let k = refusal-keeps (sessionOf b) [] (moveAsks w (sessionOf b)) h in (_, (k .0, refl, k .1)))
+      refused (λ (s : Session). movedLeft (passedBy w s) (moveCall w s)) [] (λ h. let k = refusal-keeps (sessionOf b) [] (moveAsks w (sessionOf b)) h in (_, (k .0, refl, k .1)))
 
   pub undo-refused : Kept (undoOn b) []
   undo-refused = move-refused Before

@@ -5,7 +5,7 @@ use mathlib.Core.Path.{_≡_, refl, sym, ap, ap₂, subst, _∙_}
 use mathlib.Core.List.{List, [], _∷_, map}
 use native.Mathlib.Nat.{suc-add}
 use native.Mathlib.Omega.{arith}
-use lib.ListN.{length, length-append}
+use lib.ListN.{length, length-append, length-map}
 use Rattle.record.specs.Record.{workedOf}
 use Rattle.record.specs.declared.Record.{Record}
 use Rattle.change.specs.With.{withLogs}
@@ -18,14 +18,15 @@ use Rattle.session.specs.Session.{madeOf, carriedOf}
 use Rattle.session.specs.Road.{Asks}
 use Rattle.session.specs.declared.Session.{Session}
 use Rattle.journal.specs.declared.Way.the-variants.{Before}
-use Rattle.undo_call.specs.Undo.{moveAsks}
+use Rattle.marks.specs.Marks.{passedOf}
+use Rattle.undo_call.specs.Undo.{moveAsks, passedBy}
 use Rattle.promises.specs.Calls.{Call, said}
 use Rattle.promises.specs.Marks.{left, logsMade}
 use Rattle.promises.specs.History.{Deed, keeps, adds, strikes, unstrikes, deed, applied, Run, did, next-run, OfBytes}
 use Rattle.promises.specs.Lent.{told}
 use Rattle.promises.specs.NoTrace.{ButRedo}
 use Rattle.promises.specs.laws.Stores.{length-padded, flat}
-use Rattle.promises.specs.laws.ByHistory.{backs, journalOf, byHistory, Kept, Sane}
+use Rattle.promises.specs.laws.ByHistory.{backs, journalOf, byHistory, Kept, Sane, passed-history}
 use Rattle.promises.specs.laws.Steps.{undo-asks, undo-nothing}
 use Rattle.promises.specs.laws.Marks.{tail}
 use Rattle.promises.specs.laws.Demand3.{redoable, Inv, next-inv, formed, held-is, next-is, worked-is, journal-is, used-is}
@@ -132,10 +133,16 @@ module _ (base : Record) (k : ℕ) (low : 1 ≤ k) (still : shiftedRecord k base
         both-asked (p .session) (ap (moveAsks Before) (b .inv .is)) (ap (moveAsks Before) there-is)
         (undo-shifted (p .session) (p .session) (q .session) es (suc n) rs rs′ (b .inv .sane) sane′)
 
+    passed-both : passedBy Before (q .session) ≡ passedBy Before (p .session)
+    passed-both =
+        ap (passedBy Before) there-is ∙ passed-history base (q .session) (there-edits es) (suc (suc n)) rs′ sane′
+        ∙ ap passedOf (length-map es (shiftedEdit k))
+        ∙ sym (ap (passedBy Before) (b .inv .is) ∙ passed-history base (p .session) es (suc n) rs (b .inv .sane))
+
     -- one call
     both-hear : (c c′ : Call) → SameWish k c c′ → OfBytes c
         → IdsEnd (p .session) (q .session) c c′ ⊎ (Alike k (p .session) (said (p .session) c) (said (q .session) c′) × (deed (q .session) c′ ≡ shiftedDeed k (deed (p .session) c)) × (told (q .session) c′ ≡ told (p .session) c))
-    both-hear = heard k low (p .session) (q .session) twins from-next (formed base p (b .inv)) (formed base q (b .inv′)) full-is undo-both
+    both-hear = heard k low (p .session) (q .session) twins from-next (formed base p (b .inv)) (formed base q (b .inv′)) full-is undo-both passed-both
 
   -- ---- the marks after it
 

@@ -23,7 +23,8 @@ use Rattle.occ_call.specs.Occ as occs
 use Rattle.occ_call.specs.laws.Speaks.{occ-speaks}
 use Rattle.sbe_call.specs.Sbe as sbes
 use Rattle.sbe_call.specs.laws.Speaks.{sbe-speaks}
-use Rattle.undo_call.specs.Undo.{moveAsks}
+use Rattle.inplace.specs.declared.Told.{Told}
+use Rattle.undo_call.specs.Undo.{moveAsks, passedBy}
 use Rattle.promises.specs.Calls.{Call, occ, sbe, undo, redo, bufferOf, asks, said}
 use Rattle.promises.specs.Marks.{Mark, left, logsMade}
 use Rattle.promises.specs.History.{Deed, keeps, adds, strikes, unstrikes, adding, deedBy, deed, marked, applied, Run, did, next-run, OfBytes}
@@ -31,11 +32,15 @@ use Rattle.promises.specs.Lent.{told}
 use Rattle.promises.specs.NoTrace.{ButRedo, SameSaid, AsBefore, AllButRedo}
 use Rattle.promises.specs.laws.Marks.{tail, left-change, left-strike, logs-strike}
 use Rattle.promises.specs.laws.Stores.{padded}
-use Rattle.promises.specs.laws.ByHistory.{journalOf, byHistory, Sane}
+use Rattle.promises.specs.laws.ByHistory.{journalOf, byHistory, Sane, passed-history}
 use Rattle.promises.specs.laws.Steps.{undo-asks, undo-nothing}
 use Rattle.promises.specs.laws.Settled.{noRoom, full-by-kind, same-settled}
 use Rattle.promises.specs.laws.UndoDemands.{Called, ill-formed, empty, barred, goes, called}
 use Rattle.promises.specs.laws.Demand3.{redoable, Inv, formed, held-is, next-is, worked-is, journal-is, used-is, next-inv}
+
+-- what undo tells, by answer, number passed and kind
+abbrev pub told-moved : ℕ → ℕ → ℕ → Told
+told-moved answer passed kind = record { answer = answer; small = cond (eqb answer 0) passed 0; beside = kind }
 
 -- ---- a call but redo doesn't unstrike
 
@@ -168,11 +173,17 @@ module _ (base : Record) where
         cond (not (eqb (occs.refusalOf (formed-same i) sender (length c) (length d)) 0)) Nothing
         (occs.faultFor (occs.askedOf (held-same i) (worked-same i) (next-same i) sender c .verdict) (held-same i) (getD c 1 0) (dataOf c))
 
+    -- as many entries are passed
+    passed-same : passedBy Before (q .session) ≡ passedBy Before (p .session)
+    passed-same =
+        ap (passedBy Before) there-is ∙ passed-history base (q .session) es next (redoable base q) sane′
+        ∙ sym (ap (passedBy Before) (b .inv .is) ∙ passed-history base (p .session) es next (redoable base p) (b .inv .sane))
+
     aside-told : (c : Call) → ButRedo c → told (q .session) c ≡ told (p .session) c
     unfolding told
     aside-told (occ sender c d) h = λ i. occs.besideOf (aside-said (occ sender c d) h .0 .answer i) (why-same sender c d i)
     aside-told (sbe r d) h = λ i. record { answer = aside-said (sbe r d) h .0 .answer i; small = 0; beside = aside-said (sbe r d) h .0 .bell i }
-    aside-told undo h = λ i. record { answer = aside-said undo h .0 .answer i; small = 0; beside = aside-said undo h .0 .kind i }
+    aside-told undo h = λ i. told-moved (aside-said undo h .0 .answer i) (passed-same i) (aside-said undo h .0 .kind i)
     aside-told redo h = absurd h
 
     next-aside : (c : Call) → ButRedo c → OfBytes c → Aside (next-run p c) (next-run q c)

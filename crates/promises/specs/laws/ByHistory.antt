@@ -1,6 +1,6 @@
 -- A session by its history: the changes that are left, those that can be redone and the next id determine it, byte for byte, but for what no
 -- change touches. Assumes nothing.
-use Prim.Native.Nat.{ℕ, _+_, _≤_}
+use Prim.Native.Nat.{ℕ, suc, _+_, _≤_}
 use mathlib.Core.Bool.{true}
 use mathlib.Core.Path.{_≡_, refl, sym, ap, _∙_}
 use mathlib.Core.List.{List, [], _∷_}
@@ -10,13 +10,16 @@ use Rattle.record.specs.declared.Record.{Record}
 use Rattle.change.specs.Change.{inverseOf}
 use Rattle.change.specs.declared.Edit.{Edit}
 use Rattle.formed.specs.Formed.{recordOk}
+use Rattle.entries.specs.Entries.{Scan, entriesOf, scan}
+use Rattle.marks.specs.Marks.{passedOf}
 use Rattle.journal.specs.declared.Way.{Way}
 use Rattle.journal.specs.declared.Way.the-variants.{Before, After}
 use Rattle.journal.specs.Ways.{byWay}
 use Rattle.journal.specs.declared.End.{End}
 use Rattle.journal.specs.declared.End.the-variants.{At, Full}
 use Rattle.journal.specs.Add.{endOf}
-use Rattle.session.specs.Session.{wellFormed, renewed, madeOf, carriedTo, carriedOf}
+use Rattle.undo_call.specs.Undo.{passedBy}
+use Rattle.session.specs.Session.{entriesIn, wellFormed, renewed, madeOf, carriedTo, carriedOf}
 use Rattle.session.specs.Road.{Asks, refuses, tells, makes, moves, kept, done, carriedSays, settled, sessionMoved}
 use Rattle.session.specs.laws.Session.{formed-ok}
 use Rattle.session.specs.declared.Session.{Session}
@@ -24,7 +27,7 @@ use Rattle.links.specs.Typed.{TypedRecord}
 use Rattle.links.specs.laws.Made.{Made}
 use Rattle.links.specs.laws.Links.{Link, next-up}
 use Rattle.promises.specs.History.{applied}
-use Rattle.promises.specs.laws.Stores.{padded, flat, AllStored, flat-formed}
+use Rattle.promises.specs.laws.Stores.{padded, take-padded, flat, AllStored, pile, pile-reads, flat-formed}
 
 -- the session s with these entries in the store that a way takes from, and those in the other one
 unfoldable pub standing : Way → Session → Record → ℕ → List Edit → List Edit → Session
@@ -109,6 +112,19 @@ module _ (base : Record) where
   again-stored hi es [] k = tt
   again-stored hi es (r ∷ rs) k = let l = k .0 .links in (record { writable = l .here-writable; good = l .redo-good; reads = l .redo-reads }, again-stored hi (r ∷ es) rs (k .1))
 
+  -- the journal holds as many entries as changes are left, so that many decide the number passed
+  backs-count : (es : List Edit) → length (pile (backs es)) ≡ length es
+  unfolding pile backs
+  backs-count [] = refl
+  backs-count (e ∷ es) = ap suc (backs-count es)
+
+  pub passed-history : (s : Session) (es : List Edit) (next : ℕ) (rs : List Edit) → Sane es next rs → passedBy Before (byHistory s es next rs) ≡ passedOf (length es)
+  unfolding byHistory standing byWay renewed passedBy entriesIn entriesOf
+  passed-history s es next rs g =
+      ap (λ (j : List ℕ). passedOf (length (entriesOf (scan j)))) (take-padded (flat (backs es)))
+      ∙ ap (λ (x : Scan). passedOf (length (entriesOf x))) (pile-reads Before (backs es) (backs-stored next es (g .kept)))
+      ∙ ap passedOf (backs-count es)
+
   pub history-formed : (s : Session) (es : List Edit) (next : ℕ) (rs : List Edit) → Sane es next rs → wellFormed (byHistory s es next rs) ≡ true
   unfolding byHistory standing byWay renewed
   history-formed s es next rs g =
@@ -116,6 +132,7 @@ module _ (base : Record) where
         record-ok = g .ok;
         worked-is = refl;
         both-fit = g .fits;
+        marks-are = refl;
         journal = flat-formed Before (backs es) (backs-stored next es (g .kept)) (omega (arith, g .fits));
         redo = flat-formed After rs (again-stored next es rs (g .again)) (omega (arith, g .fits));
       })

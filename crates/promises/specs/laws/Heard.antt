@@ -35,13 +35,14 @@ use Rattle.session.specs.declared.Session.{Session}
 use Rattle.occ_call.specs.Occ as occs
 use Rattle.occ_call.specs.laws.Why.{asked-read}
 use Rattle.sbe_call.specs.Sbe as sbes
-use Rattle.undo_call.specs.Undo.{moveAsks}
+use Rattle.undo_call.specs.Undo.{moveAsks, passedBy}
 use Rattle.promises.specs.Calls.{Call, occ, bufferOf, asks, said}
 use Rattle.promises.specs.History.{Deed, keeps, adds, strikes, unstrikes, adding, deedBy, deed, OfBytes}
 use Rattle.promises.specs.laws.Shifted.{shiftedChange, shiftedEdit, choose}
 use Rattle.promises.specs.Shifted.{shiftedRecord}
 use Rattle.promises.specs.Lent.{told}
 use Rattle.promises.specs.laws.Judgements.{shiftedVerdict, shiftedJudged, Ended, Likewise, old-id, asked-same, asked-clears}
+use Rattle.promises.specs.laws.Aside.{told-moved}
 use Rattle.promises.specs.laws.Blames.{same-fault, clears-fault, verdict-fault}
 use Rattle.promises.specs.Later.{Clears, SameWish, occ-same, occ-clears, sbe-same, undo-same, SameReply, same-bytes, same-poll, Twins, Alike, IdsEnd, ids-end}
 
@@ -199,7 +200,7 @@ module _ (k : ℕ) (low : 1 ≤ k) (s t : Session) (tw : Twins k s t) (from-k : 
 
   -- ---- any call
 
-  module _ (undo-alike : AlikeAsks k s (moveAsks Before s) (moveAsks Before t)) where
+  module _ (undo-alike : AlikeAsks k s (moveAsks Before s) (moveAsks Before t)) (passed-alike : passedBy Before t ≡ passedBy Before s) where
     abbrev Heard : Call → Call → Type 0
     Heard c c′ = IdsEnd s t c c′ ⊎ (Alike k s (said s c) (said t c′) × (deed t c′ ≡ shiftedDeed k (deed s c)) × (told t c′ ≡ told s c))
 
@@ -254,4 +255,4 @@ module _ (k : ℕ) (low : 1 ≤ k) (s t : Session) (tw : Twins k s t) (from-k : 
         inr (o .0, o .1, (λ i. record { answer = o .0 .answer i; small = 0; beside = o .0 .bell i }))
     heard c c′ undo-same b =
         let o = said-alike c c′ refl undo-alike in
-        inr (o .0, o .1, (λ i. record { answer = o .0 .answer i; small = 0; beside = o .0 .kind i }))
+        inr (o .0, o .1, (λ i. told-moved (o .0 .answer i) (passed-alike i) (o .0 .kind i)))

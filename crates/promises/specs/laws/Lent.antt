@@ -13,12 +13,14 @@ use Rattle.change.specs.declared.Edit.{Edit}
 use Rattle.record.specs.Widths.{CapsFit}
 use Rattle.session.specs.Session.{freshSession, renewed}
 use Rattle.session.specs.declared.Session.{Session}
+use Rattle.marks.specs.laws.Marks.{length-marks}
 use Rattle.occ_call.specs.Occ as occs
 use Rattle.sbe_call.specs.Sbe as sbes
 use Rattle.journal.specs.declared.Way.{Way}
 use Rattle.journal.specs.declared.Way.the-variants.{Before, After}
 use Rattle.journal.specs.Ways.{byWay}
-use Rattle.undo_call.specs.Undo.{moveCall, movedLeft, moveOn}
+use Rattle.session.specs.Road.{Said}
+use Rattle.undo_call.specs.Undo.{moveCall, passedBy, movedLeft, moveOn}
 use Rattle.wire.specs.Wire.{Bytes}
 use Rattle.image.specs.Image.{imageOf, sessionOf}
 use Rattle.layout.specs.Layout.{imageLength}
@@ -46,6 +48,15 @@ fresh-image b long = sym (ap (λ (q : Left). q .image) (else-ne _ _ long refl))
 abbrev as-lent : Left → Lent
 as-lent q = record { result = packed (q .told); image = q .image; reply = q .reply }
 
+-- redo reports no number
+none-reported : (q : Said) → movedLeft 0 q ≡ record { told = record { answer = q .answer; small = 0; beside = q .kind }; image = imageOf (q .session); reply = q .reply }
+unfolding movedLeft
+none-reported q = λ i. record {
+  told = record { answer = q .answer; small = cond-elim (λ (n : ℕ). n ≡ 0) (eqb (q .answer) 0) refl refl i; beside = q .kind };
+  image = imageOf (q .session);
+  reply = q .reply;
+}
+
 -- ---- on the image of a session
 
 module _ (s : Session) (t : Typed s) where
@@ -60,16 +71,16 @@ module _ (s : Session) (t : Typed s) where
   unfolding sbes.sbeOn
   sbe-on r d = on-image _ d s t
 
-  pub move-on : (w : Way) → moveOn w b ≡ movedLeft (moveCall w s)
+  pub move-on : (w : Way) → moveOn w b ≡ movedLeft (passedBy w s) (moveCall w s)
   unfolding moveOn
   move-on w = on-image _ [] s t
 
   pub lent-said : (c : Call) → lent b c ≡ carriedOver s c
-  unfolding lent carriedOver told said asks bufferOf occs.occLeft occs.occCall sbes.sbeLeft sbes.sbeCall movedLeft moveCall
+  unfolding lent carriedOver told said asks bufferOf occs.occLeft occs.occCall sbes.sbeLeft sbes.sbeCall passedBy byWay movedLeft moveCall
   lent-said (occ sender c d) = ap as-lent (occ-on sender c d)
   lent-said (sbe r d) = ap as-lent (sbe-on r d)
   lent-said undo = ap as-lent (move-on Before)
-  lent-said redo = ap as-lent (move-on After)
+  lent-said redo = ap as-lent (move-on After ∙ none-reported (moveCall After s))
 
 -- ---- every image, right or damaged
 
@@ -116,6 +127,7 @@ module _ (base : Record) where
           used = omega (arith, g .fits);
           redo = length-padded (flat rs) (omega (arith, g .fits));
           ahead = omega (arith, g .fits);
+          marks = length-marks _;
         };
         limit = limit-fits (r .role) (r .received .caps) (r .user) (r .caps) (g .typed .caps) (g .typed .user);
       }

@@ -46,9 +46,9 @@ module _ (s : Session) (at : ℕ) (e : Edit) (held : Record) where
       → wellFormed (sessionMoved w s at e held) ≡ true
   unfolding sessionMoved renewed byWay other
   stores-formed Before ok fit less more =
-      formed-ok (sessionMoved Before s at e held) (record { record-ok = ok; worked-is = refl; both-fit = fit; journal = less; redo = more })
+      formed-ok (sessionMoved Before s at e held) (record { record-ok = ok; worked-is = refl; both-fit = fit; journal = less; marks-are = refl; redo = more })
   stores-formed After ok fit less more =
-      formed-ok (sessionMoved After s at e held) (record { record-ok = ok; worked-is = refl; both-fit = omega (arith, fit); journal = more; redo = less })
+      formed-ok (sessionMoved After s at e held) (record { record-ok = ok; worked-is = refl; both-fit = omega (arith, fit); journal = more; marks-are = refl; redo = less })
 
   stores-moved : (w : Way) → lessened w s at ≡ zeroedFrom at (usedOf w s) (storeOf w s) → grownTo w s e ≡ usedOf (other w) s + length (bytesOf (entryBack s e))
       → sessionMoved w s at e held ≡ movesTo w s held at (bytesOf (entryBack s e))

@@ -3,7 +3,7 @@ use Prim.Native.Nat.{ℕ, zero, suc, _+_, _/_, _%_, _^_, _≤_, _<_}
 use mathlib.Core.Bool.{Bool, true, false, cond, not, false≢true}
 use mathlib.Core.List.{List, [], _∷_}
 use mathlib.Core.Logic.{_↔_}
-use mathlib.Core.Path.{_≡_, refl, ap, _∙_}
+use mathlib.Core.Path.{_≡_, refl, sym, ap, _∙_}
 use lib.ListN.{take, drop}
 use Rattle.wire.specs.Conditions.{_and_}
 use Rattle.wire.specs.Wire.{allAre}
@@ -20,18 +20,19 @@ use Rattle.change.specs.declared.Tables.{Tables}
 use Rattle.formed.specs.Formed.{stateOk, flagOk, roleOk, capsOk, deadmanOk, pairOk, pairsOk, absentZero, throttlesOk, multipleOf128, inMemory, areaOk, areasOk, thermalRule, thermalOk, nextOk, reasonOk, unused, logOk, logsAbove, logsOk, clearedOk, madeOk, unresetOk, changeOk}
 use Rattle.formed.specs.laws.Thresholds.{order-exactly}
 use Rattle.formed.specs.laws.Formed.{sound, sound-ok}
-use Rattle.entries.specs.Entries.{Entry, between, written, scanFrom, scanBy, scan}
+use Rattle.entries.specs.Entries.{Entry, between, written, scanFrom, scanBy, entriesOf, scan}
+use Rattle.marks.specs.Marks.{marksOf}
 use Rattle.entries.specs.laws.Entries.{Proper, read-append, scan-written, scan-proper}
 use Rattle.journal.specs.Read.{foundFor, tablesIn, valuesOk, entryOk, allOk, scanOk, entriesOk}
 use Rattle.journal.specs.declared.Found.{Found}
 use Rattle.journal.specs.declared.Found.the-variants.{Good, Bad}
 use Rattle.journal.specs.declared.Way.{Way}
 use Rattle.journal.specs.declared.Way.the-variants.{Before, After}
-use Rattle.session.specs.Session.{wellFormed}
+use Rattle.session.specs.Session.{entriesIn, wellFormed}
 use Rattle.session.specs.laws.Session.{Store, formed, formed-ok}
 use Rattle.session.specs.declared.Session.{Session}
 use Rattle.promises.specs.WellFormed.{EachIs, StateHolds, RoleHolds, CapsHold, DeadmanHolds, PairsHold, ThrottlesHold, AreaHolds, ThermalHolds, Reason, Unused, LogsRise, ChangeHolds, SaysWell, EntriesHold, StoreHolds, WellFormed}
-use Rattle.promises.specs.laws.FormedStores.{reads}
+use Rattle.session.specs.laws.Reads.{reads}
 
 abbrev Holds : Bool → Type 0 → Type 0
 Holds b P = (b ≡ true) ↔ P
@@ -202,6 +203,15 @@ module _ (w : Way) where
         unused = each-exactly 0 (drop used j) .1 (h .unused);
       }
 
+  -- the entries that it holds are those read
+  same-entries : (j : List ℕ) (used : ℕ) (f : Store w j used) → entriesIn used j ≡ store-holds j used f .entries
+  unfolding entriesIn entriesOf store-holds
+  same-entries j used f = ap entriesOf (reads w (take used j) (f .reads) .scanned)
+
+  pub held-entries : (j : List ℕ) (used : ℕ) (h : StoreHolds w j used) → entriesIn used j ≡ h .entries
+  unfolding entriesIn entriesOf
+  held-entries j used h = ap (λ (l : List ℕ). entriesOf (scan l)) (h .reads) ∙ ap entriesOf (entries-read (h .entries) (h .hold) .0)
+
 -- ---- a session
 
 pub plainly-formed : (s : Session) → (wellFormed s ≡ true) ↔ WellFormed s
@@ -224,6 +234,7 @@ plainly-formed s = (
         logs = logs-exactly 0 _ _ .0 (r .logs);
         worked = f .worked-is;
         journal = store-holds Before _ _ (f .journal);
+        marks = f .marks-are ∙ ap marksOf (same-entries Before (s .journal) (s .used) (f .journal));
         redo = store-holds After _ _ (f .redo);
         both = f .both-fit;
       },
@@ -243,6 +254,7 @@ plainly-formed s = (
         worked-is = p .worked;
         both-fit = p .both;
         journal = holds-store Before _ _ (p .journal);
+        marks-are = p .marks ∙ ap marksOf (sym (held-entries Before (s .journal) (s .used) (p .journal)));
         redo = holds-store After _ _ (p .redo);
       }),
 )

@@ -38,7 +38,8 @@ use Rattle.undo_call.specs.Undo.{putAsks, editAsks, foundAsks, gotAsks, entryAs
 use Rattle.undo_call.specs.laws.NoneLeft.{none-zero}
 use Rattle.promises.specs.Demand1.{MoveAnswer, UndoAnswer, RedoAnswer}
 use Rattle.promises.specs.Demand2.{Newest, GoesIn, Movable, MoveAccepted, UndoAccepted, RedoAccepted}
-use Rattle.promises.specs.laws.FormedStores.{reads, all-parts, store-of}
+use Rattle.promises.specs.laws.FormedStores.{all-parts, store-of}
+use Rattle.session.specs.laws.Reads.{reads}
 
 -- ---- what can be put in
 

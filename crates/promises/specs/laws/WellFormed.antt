@@ -59,6 +59,7 @@ module _ (s : Session) (f : Formed s) (typed : TypedSession s) (e : Edit) (m : M
         worked-is = refl;
         both-fit = omega (arith, room, typed .journal);
         journal = one-more Before (s .journal) (s .used) (f .journal) b (l .back-writable) (l .entry-good) room;
+        marks-are = refl;
         redo = none-used After 2048;
       })
 

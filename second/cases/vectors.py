@@ -6,12 +6,13 @@
 The answers to all calls are spelled in full, none by its first bytes only; so are those to the other lines (`fresh`, `load`, `image`,
 `buffer`, and lines that are no call). Nothing here works an answer out: the hand gives the status, the session answer, the kind undone
 or redone, a poll's values or an image's fields, and the helpers put a frame, its sum and the doorbell bits that were asked for around
-them. `cargo test` in second/ holds the second program to vectors.out; second/store puts the lines among the stored cases, to which rt
+them. The number that an undo passes is counted from the answers given so far, and spelled by hand where marks come and go. `cargo test` in second/ holds the second program to vectors.out; second/store puts the lines among the stored cases, to which rt
 holds the proved program."""
 import os
 
 OUT = []          # lines for standin
 WANT = []         # their answers
+HELD = 0          # entries in the journal, as the answers by hand leave it
 
 
 def be(n, v):
@@ -38,6 +39,21 @@ def title(t):
 def put(line, want):
     OUT.append(line)
     WANT.append(want)
+    count(line.split(), want.split())
+
+
+def count(line, want):
+    """Every success but a poll's is an entry, and so is every redo; undo takes one away."""
+    global HELD
+    word = line[0]
+    if word == "fresh":
+        HELD = 0
+    elif want[0] == "0" and word in ("occ", "send"):
+        HELD += want[2] != "00" and want[3] == "00"
+    elif want[0] == "0" and word == "sbe":
+        HELD += want[1:5] == ["00"] * 4
+    elif want[0] == "0":
+        HELD += {"redo": 1, "undo": -1}.get(word, 0)
 
 
 def fresh():
@@ -97,7 +113,7 @@ def short(length, line, want):
 def undo(kind, note=None):
     if note:
         say(note)
-    put("undo", "0 %02X" % kind if kind else "6")
+    put("undo", "0 %02X %d" % (kind, (HELD - 1) % 32) if kind else "6")
 
 
 def redo(kind, note=None):
@@ -108,20 +124,36 @@ def redo(kind, note=None):
 
 def image(state=1, role=0, caps=(0, 0, 0), presence=0, sets=b"", user=0, thermal=b"\xff" * 9, received=(0, 0, 0, 0), logs=(), mask=0,
           deadman=(0, 0), ffdc=(0, 0), passing=(0, 0), limit=0, ready=(0, 0), wanted=3, next_id=1, journal=b"", redo=b"", used=None,
-          redo_used=None):
-    """A session's image, field by field; what is worked out is given by hand too. What isn't given is as fresh."""
+          redo_used=None, marks=()):
+    """A session's image, field by field; what is worked out is given by hand too, the marks as well. What isn't given is as fresh."""
     b = bytes([state, role]) + b"".join(be(2, c) for c in caps) + be(2, presence) + sets.ljust(160, b"\0") + be(2, user) + thermal
     b += bytes(received) + b"".join(bytes(log) for log in logs).ljust(8, b"\0") + be(4, mask) + be(1, deadman[0]) + be(8, deadman[1])
     b += be(8, ffdc[0]) + be(4, ffdc[1]) + be(8, passing[0]) + be(4, passing[1])
     b += be(2, limit) + bytes(ready) + bytes([wanted]) + be(2, next_id)
     b += be(2, len(journal) if used is None else used) + journal.ljust(2048, b"\0")
-    return b + be(2, len(redo) if redo_used is None else redo_used) + redo.ljust(2048, b"\0")
+    b += be(2, len(redo) if redo_used is None else redo_used) + redo.ljust(2048, b"\0")
+    return b + b"".join(be(2, m) for m in marks).ljust(64, b"\0")
+
+
+TWOS = [64 * k for k in range(32)]    # the marks of 1,023 or 1,024 entries of two bytes; the first 16 are those of 512
+LENGTHS = {1: 3, 2: 1, 3: 2, 4: 7, 5: 2, 6: 10, 7: 163, 8: 2, 9: 4, 10: 9, 11: 24}
+
+
+def entries(store):
+    """how many there are; a kind that is unknown ends them"""
+    at = number = 0
+    while at < len(store) and store[at] in LENGTHS:
+        at += 1 + LENGTHS[store[at]]
+        number += 1
+    return number
 
 
 def load(note=None, **fields):
+    global HELD
     if note:
         say(note)
     put("load " + image(**fields).hex().upper(), "ok")
+    HELD = entries(fields.get("journal", b""))
 
 
 def is_image(note=None, **fields):
@@ -933,11 +965,11 @@ role(0, "a role that sets equal values empties it too")
 redo(0, "answer 8")
 is_image("one entry, and an empty redo store", received=(1, 0, 0, 0), wanted=0x13, journal=hexes("030000"))
 load("a change that has no room (answer 5) keeps it: the journal has 2,046 bytes, the redo store 2",
-     journal=hexes("0201") * 1023, redo=hexes("0203"))
+     journal=hexes("0201") * 1023, redo=hexes("0203"), marks=TWOS)
 reset(0, None, "5")
 sbe(None, 0xD1, 0x03, 0x0300, (0, 0, 0), "5")
 redo(2)
-is_image("redo never lacks room: the journal is full", state=3, journal=hexes("0201") * 1024)
+is_image("redo never lacks room: the journal is full", state=3, journal=hexes("0201") * 1024, marks=TWOS)
 state(1, "answer 5", "5")
 redo(0)
 undo(2)
@@ -1122,18 +1154,18 @@ damaged("a body that goes on behind the used bytes", redo=hexes("0203 050100"), 
 damaged("the first unused byte isn't 0", redo=hexes("0203 01"), redo_used=2)
 damaged("the last byte isn't 0", redo=(hexes("0203") + bytes(2045) + b"\1"), redo_used=2)
 damaged("the first byte of an empty store isn't 0", redo=hexes("02"), redo_used=0)
-load("lengths together of exactly 2,048: 1,024 and 1,024", journal=hexes("0201") * 512, redo=hexes("0203") * 512)
+load("lengths together of exactly 2,048: 1,024 and 1,024", journal=hexes("0201") * 512, redo=hexes("0203") * 512, marks=TWOS[:16])
 redo(2)
 undo(2)
-load("2,048 and 0, and 0 and 2,048", journal=hexes("0201") * 1024)
+load("2,048 and 0, and 0 and 2,048", journal=hexes("0201") * 1024, marks=TWOS)
 redo(0)
 load(None, redo=hexes("0203") * 1024)
 redo(2)
 undo(2)
 undo(0)
-damaged("2,049: 1,024 and 1,025", journal=hexes("0201") * 512, redo=hexes("050000") + hexes("0203") * 511)
-damaged("2,050: 2,048 and 2", journal=hexes("0201") * 1024, redo=hexes("0203"))
-damaged("4,096", journal=hexes("0201") * 1024, redo=hexes("0203") * 1024)
+damaged("2,049: 1,024 and 1,025", journal=hexes("0201") * 512, redo=hexes("050000") + hexes("0203") * 511, marks=TWOS[:16])
+damaged("2,050: 2,048 and 2", journal=hexes("0201") * 1024, redo=hexes("0203"), marks=TWOS)
+damaged("4,096", journal=hexes("0201") * 1024, redo=hexes("0203") * 1024, marks=TWOS)
 for body, note in (
         ("01 04 05 01", "place 4"), ("01 00 00 01", "id 0"), ("01 00 05 00", "reason 0"), ("01 00 05 03", "reason 3"),
         ("02 00", "state 0"), ("02 04", "state 4"),
@@ -1161,7 +1193,7 @@ put("redo", "7")
 title("A chain of 1,024 undos and as many redos")
 say("the entry of number n, from 0, holds state 1 + n mod 3; the state is 3. State 2 and 3 without readiness are well formed.")
 CHAIN = b"".join(bytes([2, 1 + n % 3]) for n in range(1024))
-load(None, state=3, journal=CHAIN)
+load(None, state=3, journal=CHAIN, marks=TWOS)
 for n in range(1023, -1, -1):
     undo(2)
     if n in (1023, 1022, 1021, 512, 1, 0):
@@ -1176,7 +1208,7 @@ for n in range(1, 1024):
 redo(2)
 poll("state 3", 0, 3, 3)
 redo(0)
-is_image("as it was loaded", state=3, journal=CHAIN)
+is_image("as it was loaded", state=3, journal=CHAIN, marks=TWOS)
 say("back and forth: two undos and one redo, 20 times; then 20 redos")
 for n in range(20):
     undo(2)
@@ -1185,7 +1217,7 @@ for n in range(20):
 for n in range(20):
     redo(2)
 redo(0)
-is_image("as it was loaded", state=3, journal=CHAIN)
+is_image("as it was loaded", state=3, journal=CHAIN, marks=TWOS)
 fresh()
 
 title("Unset thresholds: DVFS at most ERROR where neither is FF")
@@ -1492,7 +1524,7 @@ for _ in range(4):
 role(3, None, 0x13)
 reset(1, "0x15", 0x15)
 why("0")
-load("answer 5: the journal is full", journal=hexes("0201") * 1024)
+load("answer 5: the journal is full", journal=hexes("0201") * 1024, marks=TWOS)
 role(3, None, 0x13)
 why("2 out of range")
 role(1, None, "5")
@@ -1502,6 +1534,142 @@ put("send 10 21 03 03", reply(0x03, 0x21, 0x13))
 why("2 out of range")
 put("send 10 00 10", polled(0, 3, 1, seq=0x04))
 why("0")
+fresh()
+
+title("Marks: one at every 32nd entry, the first counting as marked; undo tells how many entries it passed")
+fresh()
+state(1, "one entry: none is passed")
+put("undo", "0 02 0")
+say("31 entries of two bytes: the newest is number 30, counted from 0, and 30 are passed from the first mark")
+for _ in range(31):
+    state(1)
+is_image("the first mark is at 0, the others are unused", journal=hexes("0201") * 31)
+put("undo", "0 02 30")
+redo(2)
+state(1, "32 entries: 31 are passed, the most there can be")
+is_image("no second mark", journal=hexes("0201") * 32)
+put("undo", "0 02 31")
+redo(2)
+state(1, "33 entries: the newest is number 32, marked at 64; none is passed")
+is_image(None, journal=hexes("0201") * 33, marks=(0, 64))
+put("undo", "0 02 0")
+is_image("the mark goes with its entry", journal=hexes("0201") * 32, redo=hexes("0201"))
+put("undo", "0 02 31")
+put("undo", "0 02 30")
+redo(2)
+redo(2)
+is_image("redo brings the entries back, not yet the mark", journal=hexes("0201") * 32, redo=hexes("0201"))
+redo(2, "this one does")
+is_image(None, journal=hexes("0201") * 33, marks=(0, 64))
+redo(0)
+state(1, "34 entries: one is passed")
+put("undo", "0 02 1")
+redo(2)
+say("63 entries: 30 are passed from the second mark on")
+for _ in range(29):
+    state(1)
+is_image(None, journal=hexes("0201") * 63, marks=(0, 64))
+put("undo", "0 02 30")
+redo(2)
+state(1, "64 entries: 31 are passed")
+is_image(None, journal=hexes("0201") * 64, marks=(0, 64))
+put("undo", "0 02 31")
+redo(2)
+throttles([mem(7, 1)], "65 entries, the newest of 164 bytes, at 128: none is passed")
+is_image(None, presence=0x8000, sets=bytes(150) + mem(7, 1)[2:], received=(0, 0, 1, 0),
+         journal=hexes("0201") * 64 + hexes("07 00 0000") + bytes(160), marks=(0, 64, 128))
+put("undo", "0 07 0")
+put("undo", "0 02 31")
+is_image("63 entries", journal=hexes("0201") * 63, marks=(0, 64), redo=hexes("07 01 8000") + bytes(150) + mem(7, 1)[2:] + hexes("0201"))
+redo(2)
+redo(7)
+say("another change at the mark's place: one of 5 bytes takes the place of one of 164")
+undo(7)
+sbe(None, 0xD1, 0x03, 0x0000, (0x0000000100000000, 0, 0))
+is_image(None, mask=1, journal=hexes("0201") * 64 + hexes("09 00000000"), marks=(0, 64, 128))
+put("undo", "0 09 0")
+fresh()
+
+title("Marks: entries of other lengths")
+load("31 entries of 3 bytes, one of 10, one of 2: number 32 is at 103", user=5, journal=hexes("050005") * 31 + hexes("0A 00 0000000000000000 0201"),
+     marks=(0, 103))
+put("undo", "0 02 0")
+put("undo", "0 0A 31")
+put("undo", "0 05 30")
+is_image("30 of 3 bytes are left", user=5, journal=hexes("050005") * 30, redo=hexes("0201 0A 00 0000000000000000 050005"))
+redo(5)
+redo(10)
+redo(2)
+is_image("as it was loaded", user=5, journal=hexes("050005") * 31 + hexes("0A 00 0000000000000000 0201"), marks=(0, 103))
+T0 = hexes("07 00 0000") + bytes(160)
+load("twelve of 164 bytes and 40 of two, 2,048 in all: number 32 is at 2,008", journal=T0 * 12 + hexes("0201") * 40, marks=(0, 2008))
+state(1, "answer 5", "5")
+put("undo", "0 02 19")
+put("undo", "0 02 18")
+state(1)
+is_image(None, journal=T0 * 12 + hexes("0201") * 39, marks=(0, 2008))
+load("the other way round: number 32 is at 64", journal=hexes("0201") * 40 + T0 * 12, marks=(0, 64))
+put("undo", "0 07 19")
+load("1,024 entries of two bytes, 32 marks", journal=hexes("0201") * 1024, marks=TWOS)
+put("undo", "0 02 31")
+put("undo", "0 02 30")
+redo(2)
+redo(2)
+is_image(None, journal=hexes("0201") * 1024, marks=TWOS)
+load("993: number 992 has the last mark there can be", journal=hexes("0201") * 993, marks=TWOS)
+put("undo", "0 02 0")
+is_image(None, journal=hexes("0201") * 992, redo=hexes("0201"), marks=TWOS[:31])
+put("undo", "0 02 31")
+redo(2)
+redo(2)
+state(1)
+is_image(None, journal=hexes("0201") * 994, marks=TWOS)
+load("the redo store's entries have no marks", redo=hexes("0203") * 100)
+redo(2)
+is_image(None, state=3, journal=hexes("0201"), redo=hexes("0203") * 99)
+say("redo 39 times more: a mark comes with number 32")
+for _ in range(39):
+    redo(2)
+is_image(None, state=3, journal=hexes("0201") + hexes("0203") * 39, redo=hexes("0203") * 60, marks=(0, 64))
+put("undo", "0 02 7")
+load("a refused undo passes none and keeps the marks: 7 for a log made and none that pends", journal=hexes("0201") * 32 + hexes("080101"), marks=(0, 64))
+put("undo", "7")
+is_image(None, journal=hexes("0201") * 32 + hexes("080101"), marks=(0, 64))
+fresh()
+put("undo", "6")
+
+title("Marks: answer 1 for one that isn't at its entry, or is unused and not 0")
+LAST = [0] * 31
+damaged("an empty journal has none: the first is 1", marks=(1,))
+damaged("the second is 1", marks=(0, 1))
+damaged("the last is 1", marks=LAST + [1])
+damaged("the last is 65,535", marks=LAST + [65535])
+damaged("one entry: the first mark is 2", journal=hexes("0201"), marks=(2,))
+damaged("one entry: the second mark is 2", journal=hexes("0201"), marks=(0, 2))
+damaged("31 entries: the second mark is at the newest", journal=hexes("0201") * 31, marks=(0, 60))
+damaged("32 entries: the second mark is where the next entry will be", journal=hexes("0201") * 32, marks=(0, 64))
+damaged("32 entries: it is at the newest", journal=hexes("0201") * 32, marks=(0, 62))
+damaged("33 entries: the second mark is missing", journal=hexes("0201") * 33)
+for mark, note in ((63, "a byte too low"), (65, "a byte too high"), (62, "at the entry before"), (66, "behind the last entry"), (0x140, "256 too high"),
+                   (0x4000, "its bytes turned round")):
+    damaged("33 entries: the second mark is " + note, journal=hexes("0201") * 33, marks=(0, mark))
+damaged("33 entries: the first mark is at the second's entry", journal=hexes("0201") * 33, marks=(64, 64))
+damaged("34 entries: the second mark is at number 33", journal=hexes("0201") * 34, marks=(0, 66))
+damaged("65 entries: the third is missing", journal=hexes("0201") * 65, marks=(0, 64))
+damaged("65 entries: the second is missing", journal=hexes("0201") * 65, marks=(0, 0, 128))
+damaged("65 entries: the second and the third are turned round", journal=hexes("0201") * 65, marks=(0, 128, 64))
+damaged("65 entries: the third is the second's again", journal=hexes("0201") * 65, marks=(0, 64, 64))
+damaged("65 entries: there is a fourth", journal=hexes("0201") * 65, marks=(0, 64, 128, 130))
+damaged("65 entries: the first mark is missing, the others stand one too early", journal=hexes("0201") * 65, marks=(64, 128))
+damaged("65 entries: marks at every 31st", journal=hexes("0201") * 65, marks=(0, 62, 124))
+damaged("65 entries: marks at every 33rd", journal=hexes("0201") * 65, marks=(0, 66))
+damaged("65 entries: all marks as high as can be", journal=hexes("0201") * 65, marks=[65535] * 32)
+damaged("992 entries: the last mark isn't used yet", journal=hexes("0201") * 992, marks=TWOS)
+damaged("993 entries: it is missing", journal=hexes("0201") * 993, marks=TWOS[:31])
+damaged("1,024 entries: it is at number 993", journal=hexes("0201") * 1024, marks=TWOS[:31] + [1986])
+damaged("1,024 entries: it is at the newest", journal=hexes("0201") * 1024, marks=TWOS[:31] + [2046])
+damaged("1,024 entries: the 17th is 0", journal=hexes("0201") * 1024, marks=TWOS[:16] + [0] + TWOS[17:])
+damaged("marks of the redo store's entries", redo=hexes("0203") * 33, marks=(0, 64))
 fresh()
 
 here = os.path.dirname(os.path.abspath(__file__))

@@ -31,10 +31,6 @@ impl<'a> Reader<'a> {
     pub fn u64(&mut self) -> Option<u64> {
         self.array().map(u64::from_be_bytes)
     }
-
-    pub fn is_empty(&self) -> bool {
-        self.rest.is_empty()
-    }
 }
 
 /// Puts bytes one after the other into a buffer that has room for them.

@@ -1,6 +1,6 @@
 //! The functions of bjargolsk.h by this program: a session is lent as its image and updated in place, results are packed.
 
-use crate::calls::{OccAnswer, DONE, NOT_WELL_FORMED};
+use crate::calls::{OccAnswer, Undone, DONE, NOT_WELL_FORMED};
 use crate::image;
 use crate::session::Session;
 
@@ -19,6 +19,11 @@ pub fn with_fault(told: OccAnswer) -> u32 {
 
 pub fn with_bell((answer, bell): (u8, u16)) -> u32 {
     packed(answer, 0, bell)
+}
+
+/// The entries passed, and the kind.
+pub fn with_passed(told: Undone) -> u32 {
+    packed(told.answer, told.passed, u16::from(told.kind))
 }
 
 pub fn with_kind((answer, kind): (u8, u8)) -> u32 {
@@ -48,7 +53,7 @@ pub fn sbe(image: &mut [u8], request: &[u8], reply: &mut [u8]) -> u32 {
 }
 
 pub fn undo(image: &mut [u8]) -> u32 {
-    on(image, |session| with_kind(session.undo()))
+    on(image, |session| with_passed(session.undo()))
 }
 
 pub fn redo(image: &mut [u8]) -> u32 {

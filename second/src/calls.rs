@@ -1,8 +1,8 @@
 //! The calls on a session and their answers: OCC and SBE commands, undo and redo.
 
-use crate::journal::{Bytes, Holding};
+use crate::journal::{Bytes, Change, Holding};
 use crate::occ;
-use crate::record::record_fits;
+use crate::record::{record_fits, Record};
 use crate::sbe;
 use crate::session::Session;
 
@@ -34,6 +34,20 @@ pub struct OccAnswer {
 impl OccAnswer {
     fn refused(answer: u8) -> Self {
         OccAnswer { answer, length: 0, fault: None }
+    }
+}
+
+/// What an undo gives: the kind of the entry and how many were passed to find it, both 0 when refused.
+#[derive(Clone, Copy, PartialEq, Eq, Debug)]
+pub struct Undone {
+    pub answer: u8,
+    pub kind: u8,
+    pub passed: u8,
+}
+
+impl Undone {
+    fn refused(answer: u8) -> Self {
+        Undone { answer, kind: 0, passed: 0 }
     }
 }
 
@@ -85,41 +99,47 @@ impl<B: Bytes> Session<B> {
         (DONE, sbe::doorbell(request.flags))
     }
 
-    /// Takes the newest change back: the answer and its kind, 0 when refused. The next id is never wound back.
-    pub fn undo(&mut self) -> (u8, u8) {
-        self.take_newest(Holding::Before)
+    /// Takes the newest change back. The next id is never wound back.
+    pub fn undo(&mut self) -> Undone {
+        if !self.well_formed() {
+            return Undone::refused(NOT_WELL_FORMED);
+        }
+        let Some(newest) = self.newest() else {
+            return Undone::refused(NOTHING_TO_UNDO);
+        };
+        let Some((change, record)) = self.put_in(self.journal.read(newest.offset, Holding::Before)) else {
+            return Undone::refused(CANNOT_UNDO);
+        };
+        self.strike(newest);
+        let kept = self.redo.push(&change.opposite(&self.record));
+        assert!(kept, "both stores together hold at most what one has room for");
+        self.set_record(record);
+        Undone { answer: DONE, kind: change.kind(), passed: newest.passed as u8 }
     }
 
-    /// Puts the change last taken back in again: likewise. The next id doesn't move.
+    /// Puts the change last taken back in again: the answer and its kind, 0 when refused. The next id doesn't move.
     pub fn redo(&mut self) -> (u8, u8) {
-        self.take_newest(Holding::After)
-    }
-
-    /// The newest entry of the store that holds that goes into the record; what it finds there goes into the other store.
-    fn take_newest(&mut self, holding: Holding) -> (u8, u8) {
         let inspection = self.inspect();
         if !inspection.well_formed() {
             return (NOT_WELL_FORMED, 0);
         }
-        let newest = [inspection.journal.newest, inspection.redo.newest];
-        let (from, to, newest, nothing) = match holding {
-            Holding::Before => (&mut self.journal, &mut self.redo, newest[0], NOTHING_TO_UNDO),
-            Holding::After => (&mut self.redo, &mut self.journal, newest[1], NOTHING_TO_REDO),
+        let Some(newest) = inspection.redo.newest else {
+            return (NOTHING_TO_REDO, 0);
         };
-        let Some(newest) = newest else {
-            return (nothing, 0);
-        };
-        let change = from.read(newest, holding);
-        let record = change.and_then(|change| change.put(&self.record));
-        let (Some(change), Some(record)) =
-            (change, record.filter(|record| record_fits(record, self.next_id)))
-        else {
+        let Some((change, record)) = self.put_in(self.redo.read(newest, Holding::After)) else {
             return (CANNOT_UNDO, 0);
         };
-        from.cut(newest);
-        let moved = to.push(&change.opposite(&self.record));
-        assert!(moved, "both stores together hold at most what one has room for");
+        self.redo.cut(newest);
+        let entered = self.enter(&change.opposite(&self.record));
+        assert!(entered, "both stores together hold at most what one has room for");
         self.set_record(record);
         (DONE, change.kind())
+    }
+
+    /// The change with the record that it gives, if that is well formed.
+    fn put_in(&self, change: Option<Change>) -> Option<(Change, Record)> {
+        let change = change?;
+        let record = change.put(&self.record).filter(|record| record_fits(record, self.next_id))?;
+        Some((change, record))
     }
 }

@@ -9,6 +9,9 @@ use std::io::{BufReader, Read};
 
 type Counts = BTreeMap<String, u64>;
 
+/// Answer 0 as a line tells it.
+const DONE_WORD: &str = "0";
+
 fn add(counts: &mut Counts, what: String) {
     *counts.entry(what).or_default() += 1;
 }
@@ -89,6 +92,9 @@ fn count_order(counts: &mut Counts, program: &mut Program, order: Order) {
         Described::Undo(what) => {
             add(counts, "call undo".to_string());
             add(counts, format!("undo {what} answer {number}"));
+            if let (DONE_WORD, Some(passed)) = (number, words.get(2)) {
+                add(counts, format!("undo passed {passed:>2}"));
+            }
         }
         Described::Redo(what) => {
             add(counts, "call redo".to_string());
@@ -100,6 +106,7 @@ fn count_order(counts: &mut Counts, program: &mut Program, order: Order) {
     if !named.is_empty() {
         count_room(counts, &before, &program.session, number, &named);
         count_redo_store(counts, &before, &program.session, number);
+        count_marks(counts, &before, &program.session);
     }
     if loaded {
         count_rules(counts, &program.session);
@@ -232,6 +239,18 @@ fn count_redo_store(counts: &mut Counts, before: &Session, after: &Session, numb
     }
     if number == "0" && before.redo.used + before.journal.used == 2048 && had > 0 {
         add(counts, "call with both stores full together".to_string());
+    }
+}
+
+/// Marks that came or went with an entry, and how many there are now.
+fn count_marks(counts: &mut Counts, before: &Session, after: &Session) {
+    let used = |session: &Session| session.marks.iter().filter(|mark| **mark != 0).count();
+    let (had, has) = (used(before), used(after));
+    if has > had {
+        add(counts, format!("mark set, now {} or more beside the first", 1 << has.ilog2()));
+    }
+    if has < had {
+        add(counts, format!("mark taken away, was {} or more beside the first", 1 << had.ilog2()));
     }
 }
 

@@ -8,11 +8,15 @@ use crate::session::Session;
 /// All before the journal's bytes; the redo store's used length follows them.
 const HEAD_LENGTH: usize = 239;
 const REDO_AT: usize = HEAD_LENGTH + STORE_LENGTH;
-pub const IMAGE_LENGTH: usize = REDO_AT + 2 + STORE_LENGTH;
+const TAIL_AT: usize = REDO_AT + 2 + STORE_LENGTH;
+/// All behind the redo store's bytes: the marks.
+const TAIL_LENGTH: usize = 2 * MARKS;
+pub const IMAGE_LENGTH: usize = TAIL_AT + TAIL_LENGTH;
 
 pub fn write(session: &Session) -> Vec<u8> {
     let mut bytes = vec![0; IMAGE_LENGTH];
     write_head(&mut bytes[..HEAD_LENGTH], session);
+    write_tail(&mut bytes[TAIL_AT..], session);
     let mut rest = Writer::new(&mut bytes[HEAD_LENGTH..]);
     rest.put(&session.journal.bytes);
     rest.put(&session.redo.used.to_be_bytes());
@@ -28,6 +32,11 @@ fn write_head<B>(head: &mut [u8], session: &Session<B>) {
     head.put(&[worked.observation, worked.active, worked.wanted]);
     head.put(&session.next_id.to_be_bytes());
     head.put(&session.journal.used.to_be_bytes());
+}
+
+fn write_tail<B>(tail: &mut [u8], session: &Session<B>) {
+    let mut tail = Writer::new(tail);
+    session.marks.iter().for_each(|mark| tail.put(&mark.to_be_bytes()));
 }
 
 fn write_record(head: &mut Writer, record: &Record) {
@@ -50,12 +59,15 @@ fn write_record(head: &mut Writer, record: &Record) {
 
 /// `None` if the number of bytes isn't the image's.
 pub fn read(bytes: &[u8]) -> Option<Session> {
-    let (head, rest) = bytes.split_at_checked(HEAD_LENGTH)?;
+    if bytes.len() != IMAGE_LENGTH {
+        return None;
+    }
+    let (front, tail) = bytes.split_at(TAIL_AT);
+    let (head, rest) = front.split_at(HEAD_LENGTH);
     let mut rest = Reader::new(rest);
     let journal = rest.array()?;
     let redo = Store { used: rest.u16()?, bytes: rest.array()? };
-    rest.is_empty().then_some(())?;
-    read_head(head, journal, redo)
+    read_around(head, journal, redo, tail)
 }
 
 /// Makes a call on an image in place: the stores stay where they are, all else is written back. `None` as above.
@@ -63,19 +75,22 @@ pub fn call<R>(bytes: &mut [u8], make: impl FnOnce(&mut Session<&mut [u8]>) -> R
     if bytes.len() != IMAGE_LENGTH {
         return None;
     }
-    let (front, behind) = bytes.split_at_mut(REDO_AT);
+    let (front, tail) = bytes.split_at_mut(TAIL_AT);
+    let (front, behind) = front.split_at_mut(REDO_AT);
     let (head, journal) = front.split_at_mut(HEAD_LENGTH);
     let (redo_used, redo) = behind.split_first_chunk_mut::<2>()?;
     let redo = Store { used: u16::from_be_bytes(*redo_used), bytes: redo };
-    let mut session = read_head(head, journal, redo)?;
+    let mut session = read_around(head, journal, redo, tail)?;
     let result = make(&mut session);
     write_head(head, &session);
     *redo_used = session.redo.used.to_be_bytes();
+    write_tail(tail, &session);
     Some(result)
 }
 
-fn read_head<B>(head: &[u8], journal: B, redo: Store<B>) -> Option<Session<B>> {
-    let mut rest = Reader::new(head);
+/// What stands around the stores.
+fn read_around<B>(head: &[u8], journal: B, redo: Store<B>, tail: &[u8]) -> Option<Session<B>> {
+    let (mut rest, mut tail) = (Reader::new(head), Reader::new(tail));
     Some(Session {
         record: read_record(&mut rest)?,
         worked_out: WorkedOut {
@@ -87,7 +102,16 @@ fn read_head<B>(head: &[u8], journal: B, redo: Store<B>) -> Option<Session<B>> {
         next_id: rest.u16()?,
         journal: Store { used: rest.u16()?, bytes: journal },
         redo,
+        marks: read_marks(&mut tail)?,
     })
+}
+
+fn read_marks(tail: &mut Reader) -> Option<Marks> {
+    let mut marks = [0; MARKS];
+    for mark in &mut marks {
+        *mark = tail.u16()?;
+    }
+    Some(marks)
 }
 
 fn read_record(rest: &mut Reader) -> Option<Record> {

@@ -55,6 +55,30 @@ impl<'a> Iterator for Entries<'a> {
     }
 }
 
+/// A mark stands at every 32nd entry, the first counting as marked.
+pub const MARKED: usize = 32;
+pub const MARKS: usize = 32;
+
+/// The offset in the journal of each marked entry; 0 where there is none, and for the first one.
+pub type Marks = [u16; MARKS];
+
+/// The newest entry of a journal, found from a mark on: its offset behind the mark, and how many entries were passed to get there.
+#[derive(Clone, Copy, PartialEq, Eq, Debug)]
+pub struct Newest {
+    pub offset: usize,
+    pub passed: usize,
+}
+
+/// Sees the used journal from the last mark on and nothing before it; counts each entry as it passes it. `None` where none can be read.
+pub fn newest_from_mark(part: &[u8]) -> Option<Newest> {
+    let mut newest = None;
+    for entry in entries(part).map_while(Result::ok) {
+        let passed = newest.map_or(0, |before: Newest| before.passed + 1);
+        newest = Some(Newest { offset: entry.offset, passed });
+    }
+    newest
+}
+
 /// The lister: judges kinds and lengths, not values.
 pub fn list(bytes: &[u8]) -> String {
     if bytes.len() > STORE_LENGTH {
@@ -101,6 +125,30 @@ pub struct Survey {
     pub rest_not_zero: bool,
     /// The offset of the newest entry.
     pub newest: Option<usize>,
+    /// How many entries there are, and the marks that they ask for.
+    pub entries: usize,
+    pub marks: Marks,
+}
+
+impl Survey {
+    fn count(&mut self, entry: &Entry) {
+        if self.entries.is_multiple_of(MARKED) {
+            if let Some(mark) = self.marks.get_mut(self.entries / MARKED) {
+                *mark = entry.offset as u16;
+            }
+        }
+        self.entries += 1;
+        self.newest = Some(entry.offset);
+    }
+
+    pub fn reads(&self) -> bool {
+        !self.too_long && !self.damaged
+    }
+
+    /// How many marks its entries use.
+    pub fn used_marks(&self) -> usize {
+        self.entries.div_ceil(MARKED)
+    }
 }
 
 impl Store {
@@ -134,7 +182,7 @@ impl<B: Bytes> Store<B> {
             match entry {
                 Ok(entry) => {
                     found.wrong_body |= !body_fits(entry.kind, entry.body, holding);
-                    found.newest = Some(entry.offset);
+                    found.count(&entry);
                 }
                 Err(_) => found.damaged = true,
             }

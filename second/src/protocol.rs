@@ -1,7 +1,7 @@
 //! The line protocol: lines in, lines out.
 
 use crate::bytes::{hex, hex_spaced};
-use crate::calls::{OccAnswer, DONE, OCC_REPLY_LENGTH, SBE_REPLY_LENGTH};
+use crate::calls::{OccAnswer, Undone, DONE, OCC_REPLY_LENGTH, SBE_REPLY_LENGTH};
 use crate::image::{self, IMAGE_LENGTH};
 use crate::occ::{command_packet, Fault};
 use crate::session::Session;
@@ -14,13 +14,15 @@ pub const LONGEST_COMMAND: usize = 8192;
 pub const LONGEST_SENT: usize = LONGEST_COMMAND - 6;
 pub const LONGEST_BUFFER: u64 = 8192;
 
-const HELP: &str = "\
+fn help() -> String {
+    format!(
+        "\
 occ SS BYTES      an OCC command from sender SS (10 HTMGT, 20 BMC)
 sbe BYTES         an SBE mailbox request of 32 bytes
 undo              take the newest change back
 redo              put the change last taken back in again
 fresh             begin again with a fresh session
-image             the session as 4337 bytes
+image             the session as {IMAGE_LENGTH} bytes
 load BYTES        go on with the session of such an image
 send SS TT DATA   as occ: a packet of type TT, framed for you
 buffer N          reply buffers of N bytes; alone: whole ones again
@@ -29,7 +31,9 @@ show              the session for a person
 journal           the journal's entries
 help              these words
 .
-";
+"
+    )
+}
 
 /// A line that was understood.
 #[derive(Debug, PartialEq, Eq)]
@@ -154,7 +158,7 @@ fn command_over(column: usize) -> Complaint {
 }
 
 fn wrong_image(_column: usize) -> Complaint {
-    "? image must be 4337 bytes".to_string()
+    format!("? image must be {IMAGE_LENGTH} bytes")
 }
 
 /// `None` for a line that is skipped. The line comes without its end.
@@ -247,8 +251,8 @@ impl Program {
                 self.sequence = self.sequence.wrapping_add(1);
                 self.occ(sender, &command_packet(self.sequence, command_type, &data))
             }
-            Order::Undo => taken(self.session.undo()),
-            Order::Redo => taken(self.session.redo()),
+            Order::Undo => undone(self.session.undo()),
+            Order::Redo => redone(self.session.redo()),
             Order::Fresh => self.go_on_with(Some(Session::fresh())),
             Order::Load(bytes) => self.go_on_with(image::read(&bytes)),
             Order::Buffer(length) => {
@@ -262,7 +266,7 @@ impl Program {
             Order::Image => format!("image {}\n", hex(&image::write(&self.session))),
             Order::Show => show(&self.session),
             Order::Journal => journal_listing(&self.session) + ".\n",
-            Order::Help => HELP.to_string(),
+            Order::Help => help(),
         }
     }
 
@@ -296,8 +300,16 @@ impl Program {
     }
 }
 
-/// The answer of an undo or a redo, and the kind if it was done.
-fn taken((answer, kind): (u8, u8)) -> String {
+/// The answer of an undo; if it was done, the kind and the number passed.
+fn undone(told: Undone) -> String {
+    match told.answer {
+        DONE => format!("{DONE} {:02X} {}\n", told.kind, told.passed),
+        answer => format!("{answer}\n"),
+    }
+}
+
+/// The answer of a redo, and the kind if it was done.
+fn redone((answer, kind): (u8, u8)) -> String {
     match answer {
         DONE => format!("{DONE} {kind:02X}\n"),
         _ => format!("{answer}\n"),

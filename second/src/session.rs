@@ -1,6 +1,6 @@
 //! The session as a value: what it holds, when it is well formed, and a change put into it.
 
-use crate::journal::{Bytes, Change, Holding, Store, Survey, STORE_LENGTH};
+use crate::journal::*;
 use crate::record::*;
 
 /// The bytes of the two stores are the session's own, or parts of an image that was lent.
@@ -11,6 +11,8 @@ pub struct Session<B = [u8; STORE_LENGTH]> {
     pub next_id: u16,
     pub journal: Store<B>,
     pub redo: Store<B>,
+    /// Of the journal's entries.
+    pub marks: Marks,
 }
 
 /// What commands are judged by: the session without its stores.
@@ -33,6 +35,7 @@ pub struct Inspection<'a> {
     due: WorkedOut,
     pub journal: Survey,
     pub redo: Survey,
+    marks: &'a Marks,
 }
 
 /// A rule of well-formedness: its name and whether a session obeys it.
@@ -67,11 +70,18 @@ pub const RULES: &[Rule] = &[
     ("redo bodies", |s| !s.redo.wrong_body || s.redo.damaged),
     ("unused redo zero", |s| !s.redo.rest_not_zero),
     ("lengths together", |s| s.journal.too_long || s.redo.too_long || s.lengths() <= STORE_LENGTH),
+    // Where the journal can't be read to its end, no mark has an entry to be at.
+    ("marks at their entries", |s| !s.journal.reads() || s.marks_fit(0, s.journal.used_marks())),
+    ("unused marks zero", |s| !s.journal.reads() || s.marks_fit(s.journal.used_marks(), MARKS)),
 ];
 
 impl Inspection<'_> {
     fn lengths(&self) -> usize {
         usize::from(self.journal.used) + usize::from(self.redo.used)
+    }
+
+    fn marks_fit(&self, from: usize, to: usize) -> bool {
+        self.marks[from..to] == self.journal.marks[from..to]
     }
 
     pub fn well_formed(&self) -> bool {
@@ -83,7 +93,7 @@ impl Session {
     pub fn fresh() -> Self {
         let record = Record::fresh();
         let (journal, redo) = (Store::empty(), Store::empty());
-        Session { record, worked_out: record.work_out(), next_id: 1, journal, redo }
+        Session { record, worked_out: record.work_out(), next_id: 1, journal, redo, marks: [0; MARKS] }
     }
 }
 
@@ -98,7 +108,49 @@ impl<B: Bytes> Session<B> {
             due: self.record.work_out(),
             journal: self.journal.survey(Holding::Before),
             redo: self.redo.survey(Holding::After),
+            marks: &self.marks,
         }
+    }
+
+    /// The marks as the journal's entries ask for them, found by a walk over all of it.
+    pub fn mark_all(&mut self) {
+        self.marks = self.journal.survey(Holding::Before).marks;
+    }
+
+    /// The last mark that is used, of a well-formed session.
+    fn last_mark(&self) -> usize {
+        self.marks.iter().rposition(|mark| *mark != 0).unwrap_or(0)
+    }
+
+    /// The newest entry of a well-formed session's journal, with its number; nothing before the last mark is looked at.
+    pub fn newest(&self) -> Option<Newest> {
+        let mark = usize::from(self.marks[self.last_mark()]);
+        let found = newest_from_mark(self.journal.used_bytes()?.get(mark..)?)?;
+        Some(Newest { offset: mark + found.offset, ..found })
+    }
+
+    /// How many entries the journal of a well-formed session holds.
+    fn entries(&self) -> usize {
+        self.newest().map_or(0, |newest| self.last_mark() * MARKED + newest.passed + 1)
+    }
+
+    /// Adds an entry to the journal, with its mark if it is to have one; false, and nothing done, without room.
+    pub fn enter(&mut self, change: &Change) -> bool {
+        let (number, offset) = (self.entries(), self.journal.used);
+        let entered = self.journal.push(change);
+        if entered && number.is_multiple_of(MARKED) {
+            self.marks[number / MARKED] = offset;
+        }
+        entered
+    }
+
+    /// Zeroes the newest entry, and the mark that stood at it.
+    pub fn strike(&mut self, newest: Newest) {
+        let last = self.last_mark();
+        if newest.passed == 0 {
+            self.marks[last] = 0;
+        }
+        self.journal.cut(newest.offset);
     }
 
     pub fn well_formed(&self) -> bool {
@@ -119,7 +171,7 @@ impl<B: Bytes> Session<B> {
     /// Adds the entry, makes the change and empties the redo store; false, and nothing done, if the entry is longer than
     /// the journal's room.
     pub fn accept(&mut self, accepted: &Accepted) -> bool {
-        if !self.journal.push(&accepted.before) {
+        if !self.enter(&accepted.before) {
             return false;
         }
         self.set_record(accepted.record);

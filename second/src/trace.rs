@@ -58,7 +58,7 @@ pub fn play(session: &mut Session, kind: u8, body: &[u8]) -> String {
                 answer => answer.to_string(),
             }
         }
-        _ => session.undo().0.to_string(),
+        _ => session.undo().answer.to_string(),
     }
 }
 

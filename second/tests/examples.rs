@@ -41,7 +41,7 @@ fn example_3_user_cap_then_higher_minimum() {
     assert_eq!(program.session.worked_out.limit, 1000);
     told(&mut program, &["send 10 21 07 10 044C 05DC 0000"]);
     assert_eq!(program.session.worked_out.limit, 1100);
-    assert_eq!(told(&mut program, &["undo"]), "0 04\n");
+    assert_eq!(told(&mut program, &["undo"]), "0 04 3\n");
     assert_eq!(program.session.worked_out.limit, 1000);
 }
 
@@ -78,7 +78,7 @@ fn example_8_ids_are_not_wound_back() {
     let reset = "occ 10 07 25 00 02 00 01 00 2F";
     let (mut program, _) = after(&[reset]);
     assert_eq!(program.session.record.logs[0].id, 1);
-    assert_eq!(told(&mut program, &["undo"]), "0 08\n");
+    assert_eq!(told(&mut program, &["undo"]), "0 08 0\n");
     assert_eq!(program.session.record.pending(), 0);
     told(&mut program, &[reset]);
     assert_eq!(program.session.record.logs[0].id, 2);
@@ -127,7 +127,8 @@ fn images_are_read_back_as_they_were() {
         let session = image::read(&bytes).expect("an image");
         assert_eq!(image::write(&session), bytes);
     }
-    assert!(image::read(&[0; 4336]).is_none() && image::read(&[0; 4338]).is_none());
+    assert_eq!(image::IMAGE_LENGTH, 4401);
+    assert!(image::read(&[0; 4400]).is_none() && image::read(&[0; 4402]).is_none());
 }
 
 #[test]

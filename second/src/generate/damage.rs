@@ -3,7 +3,7 @@
 use super::random::Random;
 use super::scene;
 use crate::image::{self, IMAGE_LENGTH};
-use crate::journal::{body_length, Change, Holding, Store, STORE_LENGTH};
+use crate::journal::{body_length, entries, Change, Holding, Store, MARKS, STORE_LENGTH};
 use crate::record::*;
 use crate::session::Session;
 
@@ -91,6 +91,117 @@ const OTHER_DAMAGES: &[Damage] = &[
     |r, s| together(r, s, 4096),
 ];
 
+/// Each breaks one rule of the marks.
+const MARK_DAMAGES: &[Damage] = &[
+    // of an empty journal, or of one with entries but no second mark
+    |r, s| {
+        with_entries(r, s, 0);
+        s.marks[0] = r.pick(&[1, 2, 0x8000]);
+    },
+    |r, s| {
+        with_entries(r, s, 1);
+        s.marks[0] = r.pick(&[1, 2, 65535]);
+    },
+    |r, s| {
+        with_entries(r, s, 32);
+        s.marks[1] = s.journal.used;
+    },
+    |r, s| {
+        with_entries(r, s, 32);
+        s.marks[1] = offset_of(s, 31);
+    },
+    |r, s| {
+        with_entries(r, s, 31);
+        s.marks[r.between(1, 31)] = r.pick(&[1, 64, 65535]);
+    },
+    // a used one that is 0, off by a byte, at the entry before or behind
+    |r, s| {
+        with_entries(r, s, 33);
+        s.marks[1] = 0;
+    },
+    |r, s| {
+        with_entries(r, s, 33);
+        s.marks[1] -= 1;
+    },
+    |r, s| {
+        with_entries(r, s, 34);
+        s.marks[1] += 1;
+    },
+    |r, s| {
+        with_entries(r, s, 33);
+        s.marks[1] = offset_of(s, 31);
+    },
+    |r, s| {
+        with_entries(r, s, 34);
+        s.marks[1] = offset_of(s, 33);
+    },
+    |r, s| {
+        with_entries(r, s, 65);
+        s.marks.swap(1, 2);
+    },
+    |r, s| {
+        with_entries(r, s, 65);
+        s.marks[1] = s.marks[2];
+    },
+    |r, s| {
+        with_entries(r, s, 65);
+        s.marks[2] = s.marks[1];
+    },
+    |r, s| {
+        with_entries(r, s, 65);
+        s.marks[0] = s.marks[1];
+    },
+    |r, s| {
+        with_entries(r, s, 65);
+        s.marks[2] = 0x100 | s.marks[2] & 0xFF;
+    },
+    |r, s| {
+        with_entries(r, s, 1024);
+        s.marks[31] = 0;
+    },
+    |r, s| {
+        with_entries(r, s, 1024);
+        s.marks[r.between(1, 31)] ^= 2;
+    },
+    // one too many, with right ones before it
+    |r, s| {
+        with_entries(r, s, 64);
+        s.marks[2] = s.journal.used;
+    },
+    |r, s| {
+        with_entries(r, s, 65);
+        s.marks[31] = r.pick(&[1, s.marks[2]]);
+    },
+    |r, s| {
+        with_entries(r, s, 992);
+        s.marks[31] = r.pick(&[1, s.journal.used]);
+    },
+    // all of them
+    |r, s| {
+        with_entries(r, s, 200);
+        s.marks = [0; MARKS];
+    },
+    |r, s| {
+        with_entries(r, s, 200);
+        s.marks = [65535; MARKS];
+    },
+    |r, s| {
+        with_entries(r, s, 200);
+        s.marks.rotate_left(1);
+    },
+];
+
+/// Of the journal's entry of that number, from 0.
+fn offset_of(session: &Session, number: usize) -> u16 {
+    let used = session.journal.used_bytes().unwrap_or(&[]);
+    entries(used).flatten().nth(number).map_or(0, |entry| entry.offset as u16)
+}
+
+/// Another journal, of that many entries.
+fn with_entries(random: &mut Random, session: &mut Session, count: usize) {
+    *session = scene::session_with_entries(random, count);
+}
+
 /// Entries whose values no well-formed record could hold, for the journal or the redo store.
 const WRONG_CHANGES: &[fn(&mut Random) -> Change] = &[
     |_| Change::Clear { place: 4, log: Log { id: 1, reason: 1 } },
@@ -130,7 +241,11 @@ const WRONG_REDOS: &[fn(&mut Random) -> Change] = &[
 ];
 
 pub fn count() -> usize {
-    RECORD_DAMAGES.len() + OTHER_DAMAGES.len() + 2 * WRONG_CHANGES.len() + WRONG_REDOS.len()
+    RECORD_DAMAGES.len()
+        + OTHER_DAMAGES.len()
+        + MARK_DAMAGES.len()
+        + 2 * WRONG_CHANGES.len()
+        + WRONG_REDOS.len()
 }
 
 /// Breaks one rule of a well-formed session, the one of that number.
@@ -142,9 +257,14 @@ pub fn break_rule(random: &mut Random, session: &mut Session, number: usize) {
     }
     let number = number.saturating_sub(RECORD_DAMAGES.len());
     if let Some(damage) = OTHER_DAMAGES.get(number) {
-        return damage(random, session);
+        damage(random, session);
+        return session.mark_all();
     }
     let number = number.saturating_sub(OTHER_DAMAGES.len());
+    if let Some(damage) = MARK_DAMAGES.get(number) {
+        return damage(random, session);
+    }
+    let number = number.saturating_sub(MARK_DAMAGES.len());
     let holding = if number < WRONG_CHANGES.len() { Holding::Before } else { Holding::After };
     let wrong = [WRONG_CHANGES, WRONG_CHANGES, WRONG_REDOS].concat()[number](random);
     if holding == Holding::After && matches!(wrong, Change::Reset { .. }) {
@@ -176,6 +296,7 @@ fn insert_entry(
     if store.used + other.used > STORE_LENGTH as u16 {
         *other = Store::empty();
     }
+    session.mark_all();
 }
 
 /// Room in both stores, so that one byte more doesn't break the rule of their lengths.
@@ -358,6 +479,7 @@ pub fn hard_undo(random: &mut Random, session: &mut Session, number: usize) {
     session.next_id = random.pick(&[1, 2, 21, 46, 256]);
     set_logs(session, pending);
     session.journal.push(&newest);
+    session.mark_all();
 }
 
 const fn again(place: u8, id: u8) -> Change {
@@ -398,6 +520,7 @@ pub const HARD_REDOS: usize = HARD_REDO_CASES.len();
 pub fn hard_redo(random: &mut Random, session: &mut Session, number: usize) {
     if session.journal.room() < 10 {
         session.journal = Store::empty();
+        session.mark_all();
     }
     session.redo = Store::empty();
     if random.one_in(2) {
@@ -414,11 +537,12 @@ pub fn hard_redo(random: &mut Random, session: &mut Session, number: usize) {
     session.redo.push(&newest);
 }
 
-/// Where a changed byte tells most: head, marks, logs, areas, worked-out values, ids, the stores' edges.
+/// Where a changed byte tells most: head, received marks, logs, areas, worked-out values, ids, the stores' edges, the
+/// journal's marks.
 fn telling_place(random: &mut Random, image: &[u8]) -> usize {
     let used = usize::from(u16::from_be_bytes([image[237], image[238]])).min(STORE_LENGTH);
     let redo = usize::from(u16::from_be_bytes([image[2287], image[2288]])).min(STORE_LENGTH);
-    match random.below(15) {
+    match random.below(17) {
         0 | 1 => random.below(10),
         2 => 170 + random.below(15),
         3 | 4 => 185 + random.below(8),
@@ -431,6 +555,8 @@ fn telling_place(random: &mut Random, image: &[u8]) -> usize {
         11 => 2287 + random.below(2),
         12 => 2289 + random.below(redo.max(1)),
         13 => 2289 + redo.min(STORE_LENGTH - 1),
+        14 => 4337 + random.below(2 * MARKS),
+        15 => 4337 + random.below(6),
         _ => random.below(IMAGE_LENGTH),
     }
 }
@@ -451,7 +577,16 @@ pub fn change_bytes(random: &mut Random, session: &Session) -> Vec<u8> {
 /// Random bytes all over, or only in one part of a fresh image.
 pub fn random_bytes(random: &mut Random) -> Vec<u8> {
     let mut image = image::write(&Session::fresh());
-    let parts = [(0, IMAGE_LENGTH), (0, 239), (239, 2048), (185, 8), (206, 24), (2287, 2050), (2289, 2048)];
+    let parts = [
+        (0, IMAGE_LENGTH),
+        (0, 239),
+        (239, 2048),
+        (185, 8),
+        (206, 24),
+        (2287, 2050),
+        (2289, 2048),
+        (4337, 64),
+    ];
     let (start, length) = random.pick(&parts);
     let bytes = random.bytes(length);
     image[start..start + length].copy_from_slice(&bytes);
@@ -469,4 +604,5 @@ pub fn random_stores(random: &mut Random, session: &mut Session) {
             store.push_bytes(&entry);
         }
     }
+    session.mark_all();
 }

@@ -41,6 +41,7 @@ impl<B: Bench> Generator<B> {
             self.loaded_brim(number / 2, number % 2);
         }
         self.every_redo();
+        self.every_mark();
         self.every_fault();
         self.every_buffer();
         self.every_wrong_byte();
@@ -48,6 +49,30 @@ impl<B: Bench> Generator<B> {
             self.framed(0x10, 0xEE, &vec![0xFF; length]);
         }
         self.long_packets(if self.small { 4 } else { 20 });
+    }
+
+    /// Journals with about as many entries as a mark takes.
+    fn every_mark(&mut self) {
+        let counts = if self.small { &[32, 64, 1024][..] } else { &[1, 32, 64, 96, 992, 1024] };
+        for count in counts {
+            self.about_marks(*count);
+        }
+    }
+
+    /// Undos and redos across the last mark or two, and changes there.
+    fn about_marks(&mut self, count: usize) {
+        let session = scene::session_with_entries(&mut self.random, count);
+        self.load_session(&session);
+        self.framed(0x10, 0x20, &[0, 1, 0]);
+        self.undo();
+        self.redo();
+        let most = self.random.pick(&[2, 3, 4, 34, 66]);
+        self.undos(most);
+        self.give(Order::Image);
+        self.redos(most);
+        self.every_change();
+        self.back_and_forth(2);
+        self.look();
     }
 
     /// Each sort of command with each sort of fault that any command can have.
@@ -143,7 +168,7 @@ impl<B: Bench> Generator<B> {
     }
 
     pub fn episode(&mut self) {
-        let loads = if self.small { 34 } else { 128 };
+        let loads = if self.small { 34 } else { 136 };
         match self.random.below(loads) {
             0..=9 => self.bring_up(),
             10..=13 => self.walk_from_fresh(),
@@ -179,6 +204,10 @@ impl<B: Bench> Generator<B> {
             115 | 116 => self.random_stores(),
             117 | 118 => self.every_redo(),
             119..=126 => self.wrong_packets(),
+            127..=134 => {
+                let count = scene::entries_about_marks(&mut self.random);
+                self.about_marks(count);
+            }
             _ => self.bounds(),
         }
         if !self.small || self.random.one_in(4) {

@@ -197,10 +197,42 @@ pub fn session_with_room(random: &mut Random, room: usize) -> Session {
     session.set_record(Record { logs, ..record(random) });
     session.next_id = next_id;
     fill(random, &mut session.journal, room, Holding::Before);
+    session.mark_all();
     if random.one_in(2) {
         fill_redo(random, &mut session);
     }
     session
+}
+
+/// Numbers of entries at which marks come and go, and the most.
+const ABOUT_MARKS: [usize; 15] = [1, 31, 32, 33, 34, 63, 64, 65, 96, 97, 320, 992, 993, 1023, 1024];
+
+/// A session with that many entries in its journal, short ones where there are many; the redo store has what room is left, or less.
+pub fn session_with_entries(random: &mut Random, count: usize) -> Session {
+    let mut session = session_with_room(random, STORE_LENGTH);
+    (session.journal, session.redo) = (Store::empty(), Store::empty());
+    for left in (0..count).rev() {
+        let room = session.journal.room().saturating_sub(2 * left);
+        let fitting: Vec<u8> =
+            LENGTHS.iter().filter(|(_, length)| *length <= room.min(11)).map(|(kind, _)| *kind).collect();
+        let kind = if fitting.is_empty() { 0x02 } else { random.pick(&fitting) };
+        let entry = change(random, kind, Holding::Before);
+        session.journal.push(&entry);
+    }
+    session.mark_all();
+    if random.one_in(2) {
+        fill_redo(random, &mut session);
+    }
+    session
+}
+
+pub fn entries_about_marks(random: &mut Random) -> usize {
+    let any = random.between(0, 1024);
+    if random.one_in(5) {
+        any
+    } else {
+        random.pick(&ABOUT_MARKS)
+    }
 }
 
 /// As many bytes as the journal leaves free, a few less, or just an entry or two; the newest may fit the logs that pend.

@@ -44,7 +44,7 @@ fn on_value(session: &mut Session, call: &Call, reply: &mut [u8]) -> u32 {
     match call {
         Call::Occ(command) => c::with_fault(session.occ(HTMGT, command, reply)),
         Call::Sbe(request) => c::with_bell(session.sbe(request, &mut reply[..32])),
-        Call::Undo => c::with_kind(session.undo()),
+        Call::Undo => c::with_passed(session.undo()),
         Call::Redo => c::with_kind(session.redo()),
     }
 }
@@ -127,7 +127,7 @@ fn works() -> Vec<Work> {
     let up = brought_up();
     let throttled = after(&up, 0x21, &throttle_sets());
     let (half, full) = (with_entries(500), with_entries(1000));
-    vec![
+    let mut works = vec![
         work("poll", &up, poll()),
         work("user cap and undo", &up, vec![occ(0x22, &[0x03, 0xE8]), Call::Undo]),
         work("16-pair throttle packet and undo", &up, vec![occ(0x21, &throttle_sets()), Call::Undo]),
@@ -140,7 +140,18 @@ fn works() -> Vec<Work> {
         work("poll, 1,000 entries", &full, poll()),
         work("set state and undo, 1,000 entries", &full, state()),
         work("undo and redo, 1,000 entries", &full, back()),
-    ]
+    ];
+    // What undo takes to find the newest entry, beside the test for answer 1, which a poll makes too.
+    for (polled, taken_back, entries) in [
+        ("poll, 1 entry", "undo and redo, 1 entry", 1),
+        ("poll, 32 entries", "undo and redo, 32 entries", 32),
+        ("poll, 33 entries", "undo and redo, 33 entries", 33),
+    ] {
+        let start = with_entries(entries);
+        works.push(work(polled, &start, poll()));
+        works.push(work(taken_back, &start, back()));
+    }
+    works
 }
 
 /// The calls are made once before: a change that is undone stays in the redo store until the next one empties it.

@@ -41,10 +41,10 @@ extern "C" {
 #endif
 
 /* Goes up with every change of a function, a constant or the image's bytes. */
-#define BJARGOLSK_VERSION 1
+#define BJARGOLSK_VERSION 2
 
 enum {
-    BJARGOLSK_SESSION = 4337, /* the image's length */
+    BJARGOLSK_SESSION = 4401, /* the image's length */
     BJARGOLSK_OCC_REPLY = 4096,
     BJARGOLSK_SBE_REPLY = 32,
     BJARGOLSK_HTMGT = 0x10,
@@ -67,6 +67,9 @@ enum {
     BJARGOLSK_NOT_PENDING = 6
 };
 
+/* Of an undo: how many entries of the journal were passed to find the newest, 0 to 31; 0 if none was taken back. */
+#define BJARGOLSK_PASSED(result) (((result) >> 8) & 0xFFu)
+
 /* Makes the session the fresh one. Answers 0 and 1; the bytes need not be a session before. */
 uint32_t bjargolsk_fresh(uint8_t *session, size_t session_length);
 
@@ -83,7 +86,9 @@ uint32_t bjargolsk_occ(uint8_t *session, size_t session_length, uint8_t sender, 
 uint32_t bjargolsk_sbe(uint8_t *session, size_t session_length, const uint8_t *request, size_t request_length, uint8_t *reply,
                        size_t reply_length);
 
-/* Takes the newest change back. Answers 0, 1, 6 and 7; the high 16 bits are the kind of the entry that was taken back, 0 if none was. */
+/* Takes the newest change back. Answers 0, 1, 6 and 7; the high 16 bits are the kind of the entry that was taken back, 0 if none was. Bits 8 to 15
+ * are the number of entries passed on the way to it from the last mark (docs/IMAGE.md): those held, less one, less the greatest multiple of 32
+ * not above that. */
 uint32_t bjargolsk_undo(uint8_t *session, size_t session_length);
 
 /* Puts the change that was last taken back in again; an accepted command that makes a change leaves none to put in. Answers 0, 1, 7 and 8;

@@ -2,10 +2,10 @@
 
 /// As in bjargolsk.h: goes up with every change of a function, a constant or the image's bytes.
 #[allow(dead_code)]
-pub const BJARGOLSK_VERSION: u32 = 1;
+pub const BJARGOLSK_VERSION: u32 = 2;
 /// The image's length.
 #[allow(dead_code)]
-pub const BJARGOLSK_SESSION: usize = 4337;
+pub const BJARGOLSK_SESSION: usize = 4401;
 
 extern "C" {
     pub fn bjargolsk_fresh(session: *mut u8, session_length: usize) -> u32;

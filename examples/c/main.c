@@ -39,19 +39,17 @@ static void sbe(const char *name, const uint8_t *request, size_t length)
     show(BJARGOLSK_ANSWER(result) == 0 ? BJARGOLSK_SBE_REPLY : 0);
 }
 
-static void show_kind(const char *name, uint32_t result)
-{
-    printf("%s: answer %u kind %02X\n", name, (unsigned)BJARGOLSK_ANSWER(result), (unsigned)BJARGOLSK_HIGH(result));
-}
-
 static void undo(void)
 {
-    show_kind("undo", bjargolsk_undo(session, sizeof session));
+    uint32_t result = bjargolsk_undo(session, sizeof session);
+    printf("undo: answer %u kind %02X", (unsigned)BJARGOLSK_ANSWER(result), (unsigned)BJARGOLSK_HIGH(result));
+    printf(" passed %u\n", (unsigned)BJARGOLSK_PASSED(result));
 }
 
 static void redo(void)
 {
-    show_kind("redo", bjargolsk_redo(session, sizeof session));
+    uint32_t result = bjargolsk_redo(session, sizeof session);
+    printf("redo: answer %u kind %02X\n", (unsigned)BJARGOLSK_ANSWER(result), (unsigned)BJARGOLSK_HIGH(result));
 }
 
 int main(void)

@@ -6,7 +6,7 @@ import ctypes
 import sys
 
 HTMGT, BMC = 0x10, 0x20
-SESSION = 4337  # BJARGOLSK_SESSION of bjargolsk.h
+SESSION = 4401  # BJARGOLSK_SESSION of bjargolsk.h
 
 
 def load(path):
@@ -54,14 +54,12 @@ class Bench:
         print("%s: answer %d bell %04X%s" % (name, answer, result >> 16, self.shown(answer, 32)))
 
     def undo(self):
-        show_kind("undo", self.lib.bjargolsk_undo(self.session, SESSION))
+        result = self.lib.bjargolsk_undo(self.session, SESSION)
+        print("undo: answer %d kind %02X passed %d" % (result & 0xFF, result >> 16, result >> 8 & 0xFF))
 
     def redo(self):
-        show_kind("redo", self.lib.bjargolsk_redo(self.session, SESSION))
-
-
-def show_kind(name, result):
-    print("%s: answer %d kind %02X" % (name, result & 0xFF, result >> 16))
+        result = self.lib.bjargolsk_redo(self.session, SESSION)
+        print("redo: answer %d kind %02X" % (result & 0xFF, result >> 16))
 
 
 def main():

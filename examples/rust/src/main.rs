@@ -87,20 +87,15 @@ impl Bench {
     }
 
     fn undo(&mut self) {
-        show_kind("undo", unsafe {
-            ffi::bjargolsk_undo(self.session.as_mut_ptr(), self.session.len())
-        });
+        let result = unsafe { ffi::bjargolsk_undo(self.session.as_mut_ptr(), self.session.len()) };
+        let (answer, passed, kind) = (result & 0xFF, result >> 8 & 0xFF, result >> 16);
+        println!("undo: answer {answer} kind {kind:02X} passed {passed}");
     }
 
     fn redo(&mut self) {
-        show_kind("redo", unsafe {
-            ffi::bjargolsk_redo(self.session.as_mut_ptr(), self.session.len())
-        });
+        let result = unsafe { ffi::bjargolsk_redo(self.session.as_mut_ptr(), self.session.len()) };
+        println!("redo: answer {} kind {:02X}", result & 0xFF, result >> 16);
     }
-}
-
-fn show_kind(name: &str, result: u32) {
-    println!("{name}: answer {} kind {:02X}", result & 0xFF, result >> 16);
 }
 
 fn main() {

@@ -59,9 +59,13 @@ bellText bell = ascii " bell " ∷ hexes (toBE 2 bell)
 unfoldable pub rungText : ℕ → List ℕ → ℕ → List (List ℕ)
 rungText answer response bell = callText answer (spaced response ++ bellText bell)
 
--- undo and redo: "a blank and the kind, two hex digits"
+-- redo: "a blank and the kind, two hex digits"
 unfoldable pub kindText : ℕ → ℕ → List (List ℕ)
 kindText answer kind = callText answer (ascii " " ∷ hexOf kind ∷ [])
+
+-- undo: the same, "a blank and the number passed" (document 02, i)
+unfoldable pub passedText : ℕ → ℕ → ℕ → List (List ℕ)
+passedText answer kind passed = callText answer (ascii " " ∷ hexOf kind ∷ ascii " " ∷ decimal passed ∷ [])
 
 -- ---- views
 

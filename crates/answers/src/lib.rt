@@ -5,7 +5,7 @@ ghost use Rattle.io.specs.Counts.{Counts};
 ghost use Rattle.text.specs.Text.{sheet, ascii, putOn, putAll, fromFront, lineEnd};
 ghost use Rattle.places.specs.Reasons.{wordsFor};
 ghost use Rattle.answers.specs.Words.{placeOf};
-ghost use Rattle.answers.specs.Answers.{lineText, columnText, imageComplaint, complaintText, replyLength, replyText, bellText, rungText, kindText, whyText, imageText, listText, journalText, helpText};
+ghost use Rattle.answers.specs.Answers.{lineText, columnText, imageComplaint, complaintText, replyLength, replyText, bellText, rungText, kindText, passedText, whyText, imageText, listText, journalText, helpText};
 use orders::Wrong;
 
 fn put_end(out: &mut [u8], at: usize) -> usize
@@ -131,7 +131,7 @@ pub fn rung(out: &mut [u8], answer: u8, response: &[u8], bell: u16) -> usize
     put_end(out, end)
 }
 
-// The session answer of an undo or redo, and after 0 the kind.
+// The session answer of a redo, and after 0 the kind.
 pub fn with_kind(out: &mut [u8], answer: u8, kind: u8) -> usize
     ensures { λ r. ⌜ Counts r (now (out .exit)) ⌝ }
     ensures { λ r. ⌜ sheet (now (out .exit)) r ≡ fromFront (now (out .entry)) (kindText answer kind) ⌝ }
@@ -142,6 +142,22 @@ pub fn with_kind(out: &mut [u8], answer: u8, kind: u8) -> usize
     }
     let blank = text::put(out, at, b" ");
     let end = text::put_hex(out, blank, kind);
+    put_end(out, end)
+}
+
+// The session answer of an undo, and after 0 the kind and how many entries were passed.
+pub fn with_passed(out: &mut [u8], answer: u8, kind: u8, passed: u8) -> usize
+    ensures { λ r. ⌜ Counts r (now (out .exit)) ⌝ }
+    ensures { λ r. ⌜ sheet (now (out .exit)) r ≡ fromFront (now (out .entry)) (passedText answer kind passed) ⌝ }
+{
+    let at = text::put_decimal(out, 0, answer as u64);
+    if answer != 0 {
+        return put_end(out, at);
+    }
+    let blank = text::put(out, at, b" ");
+    let name = text::put_hex(out, blank, kind);
+    let number = text::put(out, name, b" ");
+    let end = text::put_decimal(out, number, passed as u64);
     put_end(out, end)
 }
 

@@ -75,6 +75,7 @@ enum Form {
     Reply,
     Response,
     Kind,
+    Passed,
     Ok,
 }
 
@@ -84,7 +85,7 @@ fn form_of(call: Call) -> Form {
         Call::Send => Form::Reply,
         Call::Sbe => Form::Response,
         Call::Load => Form::Ok,
-        Call::Undo => Form::Kind,
+        Call::Undo => Form::Passed,
         Call::Redo => Form::Kind,
         Call::Fresh => Form::Ok,
     }
@@ -113,6 +114,7 @@ fn put_told(call: Call, told: Told, reply: &[u8], out: &mut [u8]) -> usize
         Form::Reply => answers::reply(out, told.answer, reply),
         Form::Response => answers::rung(out, told.answer, &reply[..n], told.beside),
         Form::Kind => answers::with_kind(out, told.answer, kind_of(told.beside)),
+        Form::Passed => { answers::with_passed(out, told.answer, kind_of(told.beside), told.small) }
         Form::Ok => answers::line(out, b"ok"),
     }
 }

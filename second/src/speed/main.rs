@@ -261,7 +261,7 @@ fn stacks() {
     ] {
         let used = |make: fn(&mut [u8], &Call, &mut [u8]) -> u32| {
             let (mut image, mut reply) = (image::write(&start), [0; 4096]);
-            assert_eq!(make(&mut image.clone(), &call, &mut reply) & 0xFFFF, 0, "{name}: refused");
+            assert_eq!(make(&mut image.clone(), &call, &mut reply) & 0xFF, 0, "{name}: refused");
             stack::used_by(|| {
                 black_box(make(black_box(&mut image), black_box(&call), black_box(&mut reply)));
             })

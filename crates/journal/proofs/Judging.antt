@@ -1,5 +1,5 @@
 -- What each turn of `all_ok` keeps, and what it finds where it stops. Assumes nothing.
-use Prim.Native.Nat.{ℕ, zero, suc, _+_, _-_, _*_, _≤_, _<_}
+use Prim.Native.Nat.{ℕ, zero, suc, _+_, _-_, _*_, _%_, _≤_, _<_}
 use mathlib.Core.Bool.{Bool, true, false, cond, not}
 use mathlib.Core.Path.{_≡_, refl, sym, ap, subst, _∙_}
 use mathlib.Core.List.{List, [], _∷_, _++_}
@@ -8,7 +8,7 @@ use native.Mathlib.Nat.{add-sub-cancel-left}
 use native.Mathlib.Omega.{arith}
 use borrow.Author.Tests.{not-true, not-false}
 use lib.ListN.{length, getD, take, drop, take-append-drop}
-use Rattle.wire.specs.laws.Cases.{if-b, else-b, cond-elim}
+use Rattle.wire.specs.laws.Cases.{if-b, else-b, else-eq, cond-elim}
 use Rattle.wire.specs.Wire.{Bytes}
 use Rattle.wire.specs.laws.Wire.{bytes-of}
 use Rattle.entries.specs.Entries.{Entry, bodyLen, written, journalTable, Scan, between, within, unknown, opened, eat, scanFrom, entriesOf, scan}
@@ -131,6 +131,11 @@ pub record Judged (w : Way) (m j : List ℕ) (at count : ℕ) : Type 0 where
   pub wide : length m ≡ 64
   pub bytes : Bytes m
   pub short : length j ≤ 2048
+
+pub not-marked : (w : Way) (m : List ℕ) (n at : ℕ) → (n % 32 ≡ 0 → ⊥) → true ≡ byWay w (standsAt m n at) true
+unfolding byWay standsAt
+not-marked Before m n at z = else-eq _ _ {m = n % 32} {n = 0} z refl
+not-marked After m n at z = refl
 
 none-stand : (w : Way) (m : List ℕ) → stood w m [] ≡ true
 unfolding stood byWay allStand

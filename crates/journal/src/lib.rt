@@ -355,11 +355,14 @@ fn body_ok(way: Way, kind: u8, b: &[u8]) -> bool
     }
 }
 
-// Document 02, i: only the journal is marked.
+// Document 02, i: only the journal is marked. Most entries aren't, in either store: that is looked at first.
 fn mark_stands(way: Way, m: &[u8], n: usize, at: usize) -> bool
     requires { ⌜ (length (now m) ≡ 64) × (n < 1024) ⌝ }
     ensures { λ r. ⌜ r ≡ byWay way (standsAt (now (m .entry)) n at) true ⌝ }
 {
+    if n % 32 != 0 {
+        return true;
+    }
     match way {
         Way::Before => marks::stands(m, n, at),
         Way::After => true,

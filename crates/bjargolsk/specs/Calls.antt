@@ -14,6 +14,7 @@ use Rattle.inplace.specs.InPlace.{Left, noImage}
 use Rattle.occ_call.specs.Occ.{occOn}
 use Rattle.sbe_call.specs.Sbe.{sbeOn}
 use Rattle.undo_call.specs.Undo.{undoOn, redoOn}
+use Rattle.forget_call.specs.Forget.{forgetOn}
 
 -- the answer in bits 0 to 7, the small number in bits 8 to 15, the other in bits 16 to 31
 unfoldable pub packed : Told → ℕ
@@ -45,3 +46,6 @@ UndoReturns b result image = (result ≡ packed (undoOn b .told)) and (image ≡
 
 abbrev pub RedoReturns : List ℕ → ℕ → List ℕ → Type 0
 RedoReturns b result image = (result ≡ packed (redoOn b .told)) and (image ≡ redoOn b .image)
+
+abbrev pub ForgetReturns : List ℕ → ℕ → ℕ → List ℕ → Type 0
+ForgetReturns b n result image = (result ≡ packed (forgetOn n b .told)) and (image ≡ forgetOn n b .image)

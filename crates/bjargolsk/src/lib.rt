@@ -1,7 +1,7 @@
-// The calls for C: those of `occ_call`, `sbe_call` and `undo_call` under C names. A result has the answer in bits 0 to 7, a small number beside
+// The calls for C: those of `occ_call`, `sbe_call`, `undo_call` and `forget_call` under C names. A result has the answer in bits 0 to 7, a small number beside
 // it in bits 8 to 15, and one of 16 bits above.
 ghost use mathlib.Core.Path.{_≡_};
-ghost use Rattle.bjargolsk.specs.Calls.{packed, FreshReturns, OccReturns, SbeReturns, UndoReturns, RedoReturns};
+ghost use Rattle.bjargolsk.specs.Calls.{packed, FreshReturns, OccReturns, SbeReturns, UndoReturns, RedoReturns, ForgetReturns};
 use inplace::Told;
 
 fn pack(t: Told) -> u32
@@ -57,4 +57,12 @@ pub extern "C" fn bjargolsk_redo(lent: &mut [u8]) -> u32
     ensures { λ x. ⌜ RedoReturns (now (lent .entry)) x (now (lent .exit)) ⌝ }
 {
     pack(undo_call::redo(lent))
+}
+
+// The oldest `n` changes forgotten.
+#[no_mangle]
+pub extern "C" fn bjargolsk_forget(lent: &mut [u8], n: u32) -> u32
+    ensures { λ x. ⌜ ForgetReturns (now (lent .entry)) n x (now (lent .exit)) ⌝ }
+{
+    pack(forget_call::forget(lent, n))
 }

@@ -1,17 +1,19 @@
 -- One road for every call. A call is what it asks of the session, by tests of its own, and what comes of that, which is said here once for all of them.
-use Prim.Native.Nat.{ℕ, _+_}
+use Prim.Native.Nat.{ℕ, _+_, _-_}
 use mathlib.Core.Bool.{cond, not}
-use mathlib.Core.List.{List}
+use mathlib.Core.List.{List, _++_}
+use lib.ListN.{length, drop, replicate}
 use lib.Dec.{eqb}
 use Rattle.wire.specs.Wire.{pasted}
 use Rattle.record.specs.declared.Record.{Record}
 use Rattle.change.specs.Change.{kindOf, putOf, inverseOf}
 use Rattle.change.specs.declared.Edit.{Edit}
+use Rattle.entries.specs.Entries.{Entry, written}
 use Rattle.journal.specs.Ways.{byWay, other}
 use Rattle.journal.specs.Bytes.{entryBytes}
 use Rattle.journal.specs.Add.{entryLen, cutFrom}
 use Rattle.journal.specs.declared.Way.{Way}
-use Rattle.session.specs.Session.{renewed, Carried, carriedOf}
+use Rattle.session.specs.Session.{entriesIn, renewed, Carried, carriedOf}
 use Rattle.session.specs.declared.Session.{Session}
 
 -- ---- what a call asks
@@ -25,6 +27,8 @@ pub data Asks : Type 0 where
   makes : Edit → ℕ → List ℕ → Asks
   -- the newest entry of a store, which begins at a place and says this change, is put into the record and goes over to the other store
   moves : Way → ℕ → Edit → Asks
+  -- so many of the oldest changes are forgotten
+  forgets : ℕ → Asks
 
 -- a number that is due comes before anything else
 unfoldable pub due : ℕ → Asks → Asks
@@ -56,6 +60,31 @@ unfoldable pub sessionMoved : Way → Session → ℕ → Edit → Record → Se
 sessionMoved w s at e held =
     renewed s held (s .next) (byWay w (lessened w s at) (grown w s e)) (byWay w at (grownTo w s e)) (byWay w (grown w s e) (lessened w s at)) (byWay w (grownTo w s e) at)
 
+-- ---- document 02, j: "forgets the n oldest changes and moves the rest down, so that their room is used again"
+
+-- how many changes the journal holds
+unfoldable pub heldIn : Session → ℕ
+heldIn s = length (entriesIn (s .used) (s .journal))
+
+-- entries stand newest first
+unfoldable pub oldest : ℕ → List Entry → List Entry
+oldest n es = drop (length es - n) es
+
+-- how many bytes the n oldest take
+unfoldable pub freedBy : ℕ → Session → ℕ
+freedBy n s = length (written (oldest n (entriesIn (s .used) (s .journal))))
+
+-- the bytes from a place on go to the front, and what they leave is zero
+unfoldable pub movedDown : ℕ → List ℕ → List ℕ
+movedDown at j = drop at j ++ replicate at 0
+
+-- without the first `at` bytes of the journal: the record, the next id and the redo store stay
+unfoldable pub sessionFreed : ℕ → Session → Session
+sessionFreed at s = renewed s (s .held) (s .next) (movedDown at (s .journal)) (s .used - at) (s .redo) (s .ahead)
+
+unfoldable pub forgotten : ℕ → Session → Session
+forgotten n s = sessionFreed (freedBy n s) s
+
 -- ---- what comes of it
 
 -- the session answer, the session, doorbell and kind (0 where a call has none), and the reply buffer as it is left
@@ -84,3 +113,4 @@ settled s d (refuses n) = kept n s d
 settled s d (tells bell y) = done s bell 0 y
 settled s d (makes e bell y) = carriedSays (carriedOf s e) s bell y d
 settled s d (moves w at e) = done (sessionMoved w s at e (putOf (s .held) e .after)) 0 (kindOf (e .change)) d
+settled s d (forgets n) = done (forgotten n s) 0 0 d

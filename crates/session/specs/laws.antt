@@ -1,3 +1,4 @@
 pub mod Reads
 pub mod Session
 pub mod Road
+pub mod Forgotten

@@ -22,6 +22,7 @@ use Rattle.inplace.specs.declared.Told.{Told}
 use Rattle.occ_call.specs.Occ.{occAsks, occCall, occWhy, occLeft, occOn}
 use Rattle.occ_call.specs.laws.Why.{answer-beside}
 use Rattle.sbe_call.specs.Sbe.{sbeAsks, sbeCall, sbeLeft, sbeOn}
+use Rattle.forget_call.specs.Forget.{forgetAsks, forgetCall, forgetLeft, forgetOn}
 use Rattle.undo_call.specs.Undo.{moveAsks, moveCall, passedBy, movedLeft, moveOn, undoOn, redoOn}
 use Rattle.bjargolsk.specs.Calls.{packed, answerIn}
 
@@ -61,6 +62,11 @@ module _ (b : List ℕ) (bytes : Bytes b) where
   unfolding moveOn movedLeft moveCall
   move-refused w =
       refused (λ (s : Session). movedLeft (passedBy w s) (moveCall w s)) [] (λ h. let k = refusal-keeps (sessionOf b) [] (moveAsks w (sessionOf b)) h in (_, (k .0, refl, k .1)))
+
+  pub forget-refused : (n : ℕ) → Kept (forgetOn n b) []
+  unfolding forgetOn forgetLeft forgetCall
+  forget-refused n =
+      refused (λ (s : Session). forgetLeft (forgetCall n s)) [] (λ h. let k = refusal-keeps (sessionOf b) [] (forgetAsks n (sessionOf b)) h in (_, (k .0, refl, k .1)))
 
   pub undo-refused : Kept (undoOn b) []
   undo-refused = move-refused Before

@@ -7,13 +7,15 @@ use Rattle.session.specs.declared.Session.{Session}
 use Rattle.occ_call.specs.Occ.{occAsks}
 use Rattle.sbe_call.specs.Sbe.{sbeAsks}
 use Rattle.undo_call.specs.Undo.{moveAsks}
+use Rattle.forget_call.specs.Forget.{forgetAsks}
 
--- sender, command and reply buffer; request and reply buffer; undo; redo
+-- sender, command and reply buffer; request and reply buffer; undo; redo; forget so many
 pub data Call : Type 0 where
   occ : ℕ → List ℕ → List ℕ → Call
   sbe : List ℕ → List ℕ → Call
   undo : Call
   redo : Call
+  forget : ℕ → Call
 
 -- the reply buffer that it lends
 unfoldable pub bufferOf : Call → List ℕ
@@ -21,6 +23,7 @@ bufferOf (occ sender c d) = d
 bufferOf (sbe r d) = d
 bufferOf undo = []
 bufferOf redo = []
+bufferOf (forget n) = []
 
 -- what it asks of a session
 unfoldable pub asks : Session → Call → Asks
@@ -28,7 +31,8 @@ asks s (occ sender c d) = occAsks s sender c d
 asks s (sbe r d) = sbeAsks s r d
 asks s undo = moveAsks Before s
 asks s redo = moveAsks After s
+asks s (forget n) = forgetAsks n s
 
--- what it says and leaves: `occCall`, `sbeCall`, `undoCall` and `redoCall` in one
+-- what it says and leaves: `occCall`, `sbeCall`, `undoCall`, `redoCall` and `forgetCall` in one
 unfoldable pub said : Session → Call → Said
 said s c = settled s (bufferOf c) (asks s c)

@@ -18,7 +18,7 @@ use Rattle.sbe.specs.Conditions.{Accepted}
 use Rattle.sbe.specs.Statuses.{Status}
 use Rattle.session.specs.Session.{wellFormed}
 use Rattle.session.specs.declared.Session.{Session}
-use Rattle.session.specs.Road.{usedOf, Said, done}
+use Rattle.session.specs.Road.{usedOf, heldIn, Said, done}
 use Rattle.promises.specs.Demand2.{atFront, entryLength, KnownSender, WellAsked, occKind, NotPoll, sbeKind, Newest, Movable}
 
 -- ---- session answers
@@ -59,6 +59,10 @@ UndoAnswer s = MoveAnswer Before 6 s
 -- document 02, d: "8, nothing to redo, tested where 6 is; 7 covers redo alike"
 abbrev pub RedoAnswer : Session → ℕ → Type 0
 RedoAnswer s = MoveAnswer After 8 s
+
+-- forget: "Refusals: 9, n greater than the changes held, after 1"
+unfoldable pub ForgetAnswer : ℕ → Session → ℕ → Type 0
+ForgetAnswer n s = row 1 (wellFormed s ≡ true → ⊥) (row 9 (heldIn s < n) (is 0))
 
 -- ---- statuses, where none of answers 1 to 4 is due
 

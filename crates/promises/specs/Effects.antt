@@ -4,7 +4,7 @@ use Prim.Native.Nat.{ℕ, _+_, _-_, _%_, _≤_, _<_}
 use mathlib.Core.Bool.{cond}
 use mathlib.Core.Logic.{_⊎_}
 use mathlib.Core.Path.{_≡_}
-use mathlib.Core.List.{List, [], _∷_}
+use mathlib.Core.List.{List, [], _∷_, _++_}
 use lib.Dec.{eqb}
 use lib.ListN.{length, getD, take, drop, replicate}
 use Rattle.wire.specs.Wire.{beNat, toBE, pasted}
@@ -29,6 +29,7 @@ use Rattle.session.specs.Session.{renewed}
 use Rattle.session.specs.Road.{Said}
 use Rattle.session.specs.declared.Session.{Session}
 use Rattle.promises.specs.Demand2.{Newest}
+use Rattle.promises.specs.WellFormed.{EntriesHold}
 
 -- the session with this record, what is worked out of it, this next id, and one entry more after the used journal; d: "Any accepted change empties the
 -- store", the redo store
@@ -141,3 +142,15 @@ UndoEffect s q = MoveEffect Before s q
 
 abbrev pub RedoEffect : Session → Said → Type 0
 RedoEffect s q = MoveEffect After s q
+
+-- ---- forget
+
+-- n changes forgotten: the oldest entries go, the rest stands at the front of the journal, zeros behind it; record, worked-out values, next id and redo store are as
+-- before. The entries stand newest first, as the journal's do elsewhere
+pub record ForgetEffect (n : ℕ) (s : Session) (q : Said) : Type 0 where
+  pub forgotten : List Entry
+  pub kept : List Entry
+  pub held : take (s .used) (s .journal) ≡ written (kept ++ forgotten)
+  pub hold : EntriesHold Before (kept ++ forgotten)
+  pub so-many : length forgotten ≡ n
+  pub session-is : q .session ≡ renewed s (s .held) (s .next) (written kept ++ replicate (2048 - length (written kept)) 0) (length (written kept)) (s .redo) (s .ahead)

@@ -1,40 +1,45 @@
 -- Demand 3, as a statement over any calls, each session handed on unchanged: the changes made, those struck out, and what the others give.
-use Prim.Native.Nat.{ℕ, suc}
+use Prim.Native.Nat.{ℕ, suc, _+_, _-_}
 use mathlib.Core.Bool.{cond}
 use mathlib.Core.Path.{_≡_}
 use mathlib.Core.List.{List, [], _∷_}
+use lib.Dec.{ltb}
+use lib.ListN.{length, take, drop}
 use Rattle.wire.specs.Wire.{Bytes}
 use Rattle.record.specs.Record.{workedOf}
 use Rattle.record.specs.declared.Record.{Record}
 use Rattle.change.specs.Change.{putOf}
 use Rattle.change.specs.declared.Edit.{Edit}
 use Rattle.journal.specs.Ways.{byWay}
-use Rattle.session.specs.Road.{Asks, refuses, tells, makes, moves}
+use Rattle.session.specs.Road.{Asks, refuses, tells, makes, moves, forgets}
 use Rattle.session.specs.Session.{carriedOf}
 use Rattle.session.specs.declared.Session.{Session}
 use Rattle.undo_call.specs.Undo.{undoCall, redoCall}
-use Rattle.promises.specs.Calls.{Call, occ, sbe, undo, redo, asks, said}
+use Rattle.forget_call.specs.Forget.{forgetCall}
+use Rattle.promises.specs.Calls.{Call, occ, sbe, undo, redo, forget, asks, said}
 use Rattle.promises.specs.Marks.{Mark, strike, latest, unstrike, left, logsMade, undoAnswer, redoAnswer}
 
 -- ---- the change that a call makes
 
--- a call keeps the record, adds a change (with the id that its log drew), strikes the newest one out, or unstrikes the one last struck
+-- a call keeps the record, adds a change (with the id that its log drew), strikes the newest one out, unstrikes the one last struck, or forgets the oldest ones
 pub data Deed : Type 0 where
   keeps : Deed
   adds : Edit → Deed
   strikes : Deed
   unstrikes : Deed
+  drops : ℕ → Deed
 
 -- a change that has room in the journal is made
 unfoldable pub adding : Session → Edit → Deed
 adding s e = cond (carriedOf s e .full) keeps (adds e)
 
--- by what the call asks: the accepted calls that make an entry, and the accepted undos and redos
+-- by what the call asks: the accepted calls that make an entry, the accepted undos and redos, and forgetting
 unfoldable pub deedBy : Session → Asks → Deed
 deedBy s (refuses n) = keeps
 deedBy s (tells bell reply) = keeps
 deedBy s (makes e bell reply) = adding s e
 deedBy s (moves w at e) = byWay w strikes unstrikes
+deedBy s (forgets n) = drops n
 
 unfoldable pub deed : Session → Call → Deed
 deed s c = deedBy s (asks s c)
@@ -46,12 +51,14 @@ marked undos ms keeps = ms
 marked undos ms (adds e) = record { edit = e; stroke = 0 } ∷ ms
 marked undos ms strikes = strike (suc undos) ms
 marked undos ms unstrikes = unstrike (latest ms) ms
+marked undos ms (drops n) = ms
 
 unfoldable pub undosAfter : ℕ → Deed → ℕ
 undosAfter undos keeps = undos
 undosAfter undos (adds e) = undos
 undosAfter undos strikes = suc undos
 undosAfter undos unstrikes = undos
+undosAfter undos (drops n) = undos
 
 -- the undos accepted before the last accepted change
 unfoldable pub sinceAfter : ℕ → ℕ → Deed → ℕ
@@ -59,23 +66,40 @@ sinceAfter undos since keeps = since
 sinceAfter undos since (adds e) = undos
 sinceAfter undos since strikes = since
 sinceAfter undos since unstrikes = since
+sinceAfter undos since (drops n) = since
+
+-- j: how many of the changes left, the oldest, are forgotten
+unfoldable pub goneAfter : ℕ → Deed → ℕ
+goneAfter gone keeps = gone
+goneAfter gone (adds e) = gone
+goneAfter gone strikes = gone
+goneAfter gone unstrikes = gone
+goneAfter gone (drops n) = gone + n
 
 -- "The record equals what the remaining changes give, applied in order" to a starting record
 unfoldable pub applied : Record → List Edit → Record
 applied r [] = r
 applied r (e ∷ es) = putOf (applied r es) e .after
 
+-- of the changes left, which stand newest first, the oldest ones, and the others
+abbrev pub oldestOf : ℕ → List Edit → List Edit
+oldestOf gone es = drop (length es - gone) es
+
+abbrev pub newerThan : ℕ → List Edit → List Edit
+newerThan gone es = take (length es - gone) es
+
 -- ---- any calls, one after the other
 
--- the session, the changes ever made, the undos accepted so far, and those before the last change
+-- the session, the changes ever made, the undos accepted so far, those before the last change, and how many changes are forgotten
 pub record Run : Type 0 where
   pub session : Session
   pub marks : List Mark
   pub undos : ℕ
   pub since : ℕ
+  pub gone : ℕ
 
 unfoldable pub did : Run → Session → Deed → Run
-did p s d = record { session = s; marks = marked (p .undos) (p .marks) d; undos = undosAfter (p .undos) d; since = sinceAfter (p .undos) (p .since) d }
+did p s d = record { session = s; marks = marked (p .undos) (p .marks) d; undos = undosAfter (p .undos) d; since = sinceAfter (p .undos) (p .since) d; gone = goneAfter (p .gone) d }
 
 unfoldable pub next-run : Run → Call → Run
 next-run p c = did p (said (p .session) c .session) (deed (p .session) c)
@@ -85,7 +109,7 @@ run p [] = p
 run p (c ∷ cs) = run (next-run p c) cs
 
 unfoldable pub start : Session → Run
-start s = record { session = s; marks = []; undos = 0; since = 0 }
+start s = record { session = s; marks = []; undos = 0; since = 0; gone = 0 }
 
 -- what is handed in is bytes
 abbrev pub OfBytes : Call → Type 0
@@ -93,10 +117,22 @@ OfBytes (occ sender c d) = Bytes c
 OfBytes (sbe r d) = Bytes r
 OfBytes undo = Unit {0}
 OfBytes redo = Unit {0}
+OfBytes (forget n) = Unit {0}
 
 abbrev pub AllOfBytes : List Call → Type 0
 AllOfBytes [] = Unit {0}
 AllOfBytes (c ∷ cs) = OfBytes c × AllOfBytes cs
+
+-- what is kept of the changes left, and the record as it stood after the forgotten ones
+abbrev pub keptOf : Run → List Edit
+keptOf p = newerThan (p .gone) (left (p .marks))
+
+abbrev pub startOf : Record → Run → Record
+startOf base p = applied base (oldestOf (p .gone) (left (p .marks)))
+
+-- "9, n greater than the changes held"
+unfoldable pub forgetAnswer : ℕ → List Edit → ℕ
+forgetAnswer n es = cond (ltb (length es) n) 9 0
 
 -- ---- the demand, after calls that started from the record base
 
@@ -104,6 +140,9 @@ pub record Demand3 (base : Record) (p : Run) : Type 0 where
   pub record-is : p .session .held ≡ applied base (left (p .marks))
   pub worked-is : p .session .worked ≡ workedOf (applied base (left (p .marks)))
   pub next-is : p .session .next ≡ suc (logsMade (p .marks))
-  pub undo-is : undoCall (p .session) .answer ≡ undoAnswer (left (p .marks))
+  -- j: "Demand 3 then starts from the record as it stood after the forgotten changes"
+  pub starts-from : p .session .held ≡ applied (startOf base p) (keptOf p)
+  pub undo-is : undoCall (p .session) .answer ≡ undoAnswer (keptOf p)
   pub redo-is : redoCall (p .session) .answer ≡ redoAnswer (p .since) (p .marks)
+  pub forget-is : (n : ℕ) → forgetCall n (p .session) .answer ≡ forgetAnswer n (keptOf p)
   pub never : (c : Call) → OfBytes c → (said (p .session) c .answer ≡ 1 → ⊥) × (said (p .session) c .answer ≡ 7 → ⊥)

@@ -11,7 +11,7 @@ use Rattle.journal.specs.Bytes.{entryBytes}
 use Rattle.session.specs.Session.{freshSession, madeOf, renewed}
 use Rattle.session.specs.Road.{Said}
 use Rattle.session.specs.declared.Session.{Session}
-use Rattle.promises.specs.Calls.{Call, occ, sbe, undo, redo, said}
+use Rattle.promises.specs.Calls.{Call, occ, sbe, undo, redo, forget, said}
 use Rattle.promises.specs.Lent.{told}
 use Rattle.promises.specs.History.{keeps, deed, Run, run, next-run, start, OfBytes}
 
@@ -47,6 +47,7 @@ ButRedo (occ sender c d) = Unit {0}
 ButRedo (sbe r d) = Unit {0}
 ButRedo undo = Unit {0}
 ButRedo redo = ⊥
+ButRedo (forget n) = Unit {0}
 
 -- what a call tells and writes
 pub record SameSaid (a b : Said) : Type 0 where

@@ -12,7 +12,7 @@ use Rattle.record.specs.Record.{freshRecord, workedOf}
 use Rattle.wire.specs.Conditions.{_and_}
 use Rattle.change.specs.Change.{putOf}
 use Rattle.change.specs.declared.Edit.{Edit}
-use Rattle.entries.specs.Entries.{Entry, bytesOf, between, entriesOf, readingOf}
+use Rattle.entries.specs.Entries.{Entry, bytesOf, written, between, entriesOf, readingOf}
 use Rattle.journal.specs.Ways.{other}
 use Rattle.journal.specs.declared.Way.{Way}
 use Rattle.journal.specs.declared.Way.the-variants.{Before, After}
@@ -32,6 +32,8 @@ use Rattle.occ_call.specs.laws.Speaks.{occ-speaks}
 use Rattle.sbe_call.specs.Sbe.{sbeAsks, sbeCall, SbeAllows}
 use Rattle.sbe_call.specs.laws.Speaks.{sbe-speaks}
 use Rattle.undo_call.specs.Undo.{moveAsks, moveCall, undoCall, redoCall, UndoAllows, RedoAllows}
+use Rattle.forget_call.specs.Forget.{forgetAsks, forgetCall, ForgetAllows}
+use Rattle.sbe.specs.Conditions.{Accepted}
 use Rattle.trace.specs.Trace.{traceScan}
 use Rattle.text.specs.Text.{Sheet, sheet, putAll}
 use Rattle.entries.specs.declared.Reading.{Reading}
@@ -51,9 +53,10 @@ use Rattle.formed.specs.Formed.{inOrder}
 use Rattle.formed.specs.laws.Thresholds.{out-of-order}
 use Rattle.promises.specs.WellFormed.{WellFormed}
 use Rattle.promises.specs.laws.Plainly.{plainly-formed}
-use Rattle.promises.specs.Demand1.{OccAnswer, SbeAnswer, UndoAnswer, RedoAnswer, OccDue, SbeDue, OccStatus, occError, sbeError}
-use Rattle.promises.specs.Demand2.{atFront, NotPoll, successReply, OccSucceeds, OccAccepted, SbeSucceeds, SbeAccepted, Newest, UndoAccepted, RedoAccepted}
-use Rattle.promises.specs.Effects.{OccEffect, SbeEffect, entryBack, UndoEffect, RedoEffect}
+use Rattle.promises.specs.Demand1.{OccAnswer, SbeAnswer, UndoAnswer, RedoAnswer, ForgetAnswer, OccDue, SbeDue, OccStatus, occError, sbeError}
+use Rattle.promises.specs.Demand2.{KnownSender, entryLength, WellAsked, occKind, sbeKind, atFront, NotPoll, successReply, OccSucceeds, OccAccepted, SbeSucceeds, SbeAccepted, Newest, UndoAccepted, RedoAccepted}
+use Rattle.promises.specs.Effects.{OccEffect, SbeEffect, entryBack, UndoEffect, RedoEffect, ForgetEffect}
+use Rattle.promises.specs.laws.ForgetDemands.{forget-answers, forget-effect, occ-fits-freed, sbe-fits-freed}
 use Rattle.promises.specs.laws.OccDemands.{occ-answers, occ-statuses, occ-reply, occ-accepted}
 use Rattle.promises.specs.laws.Why.{byte-told, byte-least}
 use Rattle.promises.specs.laws.SbeDemands.{sbe-answers, sbe-statuses, sbe-reply, sbe-accepted}
@@ -66,10 +69,10 @@ use Rattle.promises.specs.History.{keeps, adds, deed, did, next-run, run
 use Rattle.promises.specs.Ids.{idsMade, countdown}
 use Rattle.promises.specs.Outcomes.{OneOutcome}
 use Rattle.promises.specs.laws.Outcomes.{one-value, one-pair, one-triple}
-use Rattle.promises.specs.laws.Fresh.{fresh-start, fresh-still}
-use Rattle.promises.specs.laws.Demand3.{demand3, ids-in-order, invariant, next-is}
+use Rattle.promises.specs.laws.Fresh.{fresh-start}
+use Rattle.promises.specs.laws.Demand3.{demand3, ids-in-order, invariant}
 use Rattle.links.specs.Typed.{TypedSession}
-use Rattle.promises.specs.laws.WellFormed.{occ-formed, sbe-formed, undo-formed, redo-formed}
+use Rattle.promises.specs.laws.WellFormed.{occ-formed, sbe-formed, undo-formed, redo-formed, forget-formed}
 use Rattle.promises.specs.Later.{Wish, AsIf}
 use Rattle.promises.specs.laws.NoTrace.{trace-free, later-as-before, later-alike, redo-brings-back, redo-undone}
 use Rattle.promises.specs.NoTrace.{leaves, after, tried, triedAndLooked, AllKeep, AllButRedo, AsBefore}
@@ -77,7 +80,7 @@ use Rattle.promises.specs.laws.Kept.{kept-session, handed-same}
 use Rattle.image.specs.Image.{imageOf, sessionOf}
 use Rattle.image.specs.laws.Typed.{typed-image}
 use Rattle.layout.specs.Layout.{imageLength}
-use Rattle.bjargolsk.specs.Calls.{answerIn, freshOn, FreshReturns, OccReturns, SbeReturns, UndoReturns, RedoReturns}
+use Rattle.bjargolsk.specs.Calls.{answerIn, freshOn, FreshReturns, OccReturns, SbeReturns, UndoReturns, RedoReturns, ForgetReturns}
 use Rattle.promises.specs.laws.Lent.{every-image, every-byte, no-session, fresh-image, lent-run, lent-next}
 use Rattle.promises.specs.Lent.{lent, told as told-beside, carriedOver, lentRun}
 use Rattle.promises.specs.Passed.{MarksStand, PassedAsHeld}
@@ -103,6 +106,10 @@ answer-of-undo = undo-answers
 
 pub answer-of-redo : (s : Session) (n : ℕ) → (redoCall s .answer ≡ n) ↔ RedoAnswer s n
 answer-of-redo = redo-answers
+
+-- document 02, j
+pub answer-of-forget : (n : ℕ) (s : Session) (k : ℕ) → (forgetCall n s .answer ≡ k) ↔ ForgetAnswer n s k
+answer-of-forget = forget-answers
 
 -- well formed: document 01's sentences as plain conditions (WellFormed.antt) are what is tested
 pub well-formed-exactly-when : (s : Session) → (wellFormed s ≡ true) ↔ WellFormed s
@@ -164,6 +171,10 @@ pub refusal-of-redo-keeps : (s : Session) → (redoCall s .answer ≡ 0 → ⊥)
 unfolding moveCall
 refusal-of-redo-keeps s h = let k = refusal-keeps s [] (moveAsks After s) h in (k .0, k .3)
 
+pub refusal-of-forget-keeps : (n : ℕ) (s : Session) → (forgetCall n s .answer ≡ 0 → ⊥) → forgetCall n s .session ≡ s
+unfolding forgetCall
+refusal-of-forget-keeps n s h = refusal-keeps s [] (forgetAsks n s) h .0
+
 -- a session that isn't the one handed in comes with the reply of success, so every error reply returns it as it was
 pub error-of-occ-keeps : (s : Session) (sender : ℕ) (c d : List ℕ)
     → (occCall s sender c d .session ≡ s) ⊎ (occCall s sender c d .reply ≡ replied (getD c 0 0) (getD c 1 0) 0x00 [] d)
@@ -199,6 +210,9 @@ one-outcome-of-undo b = one-pair _ _
 pub one-outcome-of-redo : (b : List ℕ) → OneOutcome (λ (o : Told × List ℕ). RedoAllows b (o .0) (o .1))
 one-outcome-of-redo b = one-pair _ _
 
+pub one-outcome-of-forget : (n : ℕ) (b : List ℕ) → OneOutcome (λ (o : Told × List ℕ). ForgetAllows n b (o .0) (o .1))
+one-outcome-of-forget n b = one-pair _ _
+
 pub one-outcome-of-fresh-for-c : (b : List ℕ) → OneOutcome (λ (o : ℕ × List ℕ). FreshReturns b (o .0) (o .1))
 one-outcome-of-fresh-for-c b = one-pair _ _
 
@@ -213,6 +227,9 @@ one-outcome-of-undo-for-c b = one-pair _ _
 
 pub one-outcome-of-redo-for-c : (b : List ℕ) → OneOutcome (λ (o : ℕ × List ℕ). RedoReturns b (o .0) (o .1))
 one-outcome-of-redo-for-c b = one-pair _ _
+
+pub one-outcome-of-forget-for-c : (b : List ℕ) (n : ℕ) → OneOutcome (λ (o : ℕ × List ℕ). ForgetReturns b n (o .0) (o .1))
+one-outcome-of-forget-for-c b n = one-pair _ _
 
 pub one-outcome-of-step : (b : List ℕ) (number : ℕ) (e d : List ℕ) → OneOutcome (λ (o : ℕ × List ℕ × List ℕ). StepAllows b number e d (o .0) (o .1) (o .2))
 one-outcome-of-step b number e d = one-triple _ _ _
@@ -266,6 +283,13 @@ pub worked-out-after-redo : (s : Session) → wellFormed s ≡ true → redoCall
 unfolding moveCall
 worked-out-after-redo s w = worked-after s [] w (moveAsks After s)
 
+pub forget-stays-well-formed : (s : Session) → TypedSession s → wellFormed s ≡ true → (n : ℕ) → wellFormed (forgetCall n s .session) ≡ true
+forget-stays-well-formed = forget-formed
+
+pub worked-out-after-forget : (n : ℕ) (s : Session) → wellFormed s ≡ true → forgetCall n s .session .worked ≡ workedOf (forgetCall n s .session .held)
+unfolding forgetCall
+worked-out-after-forget n s w = worked-after s [] w (forgetAsks n s)
+
 -- ---- demand 2: accepted exactly when (the conditions: Demand2.antt), and what is then done (Effects.antt)
 
 pub occ-accepted-exactly-when : (s : Session) → TypedSession s → (sender : ℕ) (c d : List ℕ) → wellFormed s ≡ true
@@ -293,6 +317,19 @@ effect-of-undo = move-effect Before
 
 pub effect-of-redo : (s : Session) → TypedSession s → redoCall s .answer ≡ 0 → RedoEffect s (redoCall s)
 effect-of-redo = move-effect After
+
+-- document 02, j: the oldest entries go, the rest moves down, what is freed is zero; "the next change that fits the freed room is accepted"
+pub effect-of-forget : (n : ℕ) (s : Session) → TypedSession s → forgetCall n s .answer ≡ 0 → ForgetEffect n s (forgetCall n s)
+effect-of-forget = forget-effect
+
+pub next-occ-change-fits-freed-room : (n : ℕ) (s : Session) → TypedSession s → forgetCall n s .answer ≡ 0 → (e : ForgetEffect n s (forgetCall n s)) (sender : ℕ) (c d : List ℕ)
+    → KnownSender sender → 4096 ≤ length d → 4 ≤ length c → WellAsked s sender c → s .used + entryLength (occKind c) ≤ 2048 + length (written (e .forgotten))
+    → OccSucceeds (forgetCall n s .session) sender c d
+next-occ-change-fits-freed-room = occ-fits-freed
+
+pub next-sbe-change-fits-freed-room : (n : ℕ) (s : Session) → TypedSession s → forgetCall n s .answer ≡ 0 → (e : ForgetEffect n s (forgetCall n s)) (r d : List ℕ)
+    → 32 ≤ length d → 32 ≤ length r → Accepted r → s .used + entryLength (sbeKind r) ≤ 2048 + length (written (e .forgotten)) → SbeSucceeds (forgetCall n s .session) r d
+next-sbe-change-fits-freed-room = sbe-fits-freed
 
 -- document 02, i (Passed.antt): the marks of every well-formed session, so that of each call's session too, stand at every 32nd entry of its journal, counting
 -- the first, and the unused ones are 0
@@ -326,7 +363,7 @@ counted-of-sbe = sbe-deed
 pub counted-is-shown : (s : Session) → TypedSession s → (e : Edit) (c : Call) → deed s c ≡ adds e → said s c .session .held ≡ putOf (s .held) e .after
 counted-is-shown s typed e c = deed-shown s e c
 
--- ---- demand 3: start fresh, and hand each session on unchanged through any calls
+-- ---- demand 3: start fresh, and hand each session on unchanged through any calls, forgetting among them
 
 pub undo-over-any-calls : (cs : List Call) → AllOfBytes cs → Demand3 freshRecord (run (start freshSession) cs)
 undo-over-any-calls cs b = demand3 freshRecord cs (start freshSession) b fresh-start
@@ -353,8 +390,7 @@ no-trace-without-log cs b c bc e = later-as-before freshRecord (after cs) (invar
 pub no-trace-later : (cs : List Call) → AllOfBytes cs → (c : Call) → OfBytes c → (e : Edit) → deed (after cs .session) c ≡ adds e → madeOf (e .change) ≡ 1
     → (ws : List (Wish (after cs .session .next))) → AsIf (after cs .session .next) (after cs .session) (tried cs c) ws
 no-trace-later cs b c bc e d =
-    let v = invariant freshRecord cs (start freshSession) b fresh-start in
-    later-alike freshRecord (after cs) v c bc e d (fresh-still (after cs .session .next) (omega (arith, next-is freshRecord (after cs) v)))
+    later-alike freshRecord (after cs) (invariant freshRecord cs (start freshSession) b fresh-start) c bc e d
 
 -- what a redo then gives: the change again, and the session that it had made, all of it
 pub redo-brings-the-try-back : (cs : List Call) → AllOfBytes cs → (c : Call) → OfBytes c → (e : Edit) → deed (after cs .session) c ≡ adds e

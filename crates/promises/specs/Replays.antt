@@ -13,7 +13,7 @@ use Rattle.image.specs.Image.{imageOf}
 use Rattle.playing.specs.Playing.{Heard, ifWritten, line, imageAfter, piecesOf}
 use Rattle.playing.specs.Steps.{oldestFirst}
 use Rattle.session.specs.Road.{Said}
-use Rattle.promises.specs.Calls.{Call, occ, sbe, undo, redo, said}
+use Rattle.promises.specs.Calls.{Call, occ, sbe, undo, redo, forget, said}
 use Rattle.promises.specs.History.{Run, next-run, run, start}
 
 -- "01 is sender and 64 command bytes, 02 sender and 4,096 command bytes, 03 the 32 request bytes, 04 undo with no body"
@@ -41,6 +41,7 @@ statusOf (occ sender c d) reply = take 1 (drop 2 reply)
 statusOf (sbe r d) reply = take 4 reply
 statusOf undo reply = []
 statusOf redo reply = []
+statusOf (forget n) reply = []
 
 unfoldable pub heardOf : Call → Said → Heard
 heardOf c x = record { answer = x .answer; image = imageOf (x .session); status = ifWritten (x .answer) (statusOf c (x .reply)) }

@@ -1,6 +1,7 @@
 pub mod Stores
 pub mod ByHistory
 pub mod Steps
+pub mod Forgetting
 pub mod Asked
 pub mod Ids
 pub mod Struck
@@ -38,6 +39,7 @@ pub mod OccDemands
 pub mod Why
 pub mod SbeDemands
 pub mod UndoDemands
+pub mod ForgetDemands
 pub mod Moved
 pub mod Moves
 pub mod Effects

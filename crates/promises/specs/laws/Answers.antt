@@ -13,9 +13,11 @@ use Rattle.session.specs.declared.Session.{Session}
 use Rattle.links.specs.Typed.{TypedSession}
 use Rattle.occ_call.specs.Occ.{occCall}
 use Rattle.sbe_call.specs.Sbe.{sbeCall}
+use Rattle.forget_call.specs.Forget.{forgetCall}
+use Rattle.promises.specs.laws.ForgetDemands.{forget-answers}
 use Rattle.undo_call.specs.Undo.{moveCall}
-use Rattle.promises.specs.Calls.{Call, occ, sbe, undo, redo, bufferOf, asks, said}
-use Rattle.promises.specs.Demand1.{OccAnswer, SbeAnswer, MoveAnswer}
+use Rattle.promises.specs.Calls.{Call, occ, sbe, undo, redo, forget, bufferOf, asks, said}
+use Rattle.promises.specs.Demand1.{OccAnswer, SbeAnswer, MoveAnswer, ForgetAnswer}
 use Rattle.promises.specs.laws.OccDemands.{occ-answers}
 use Rattle.promises.specs.laws.SbeDemands.{sbe-answers}
 use Rattle.promises.specs.laws.UndoDemands.{undo-answers, redo-answers}
@@ -49,9 +51,16 @@ module _ (s : Session) (typed : TypedSession s) where
   move-one w empty z (later _ (later _ (here h e))) = absurd (omega (arith, e))
   move-one w empty z (later _ (later _ (later _ e))) = absurd (omega (arith, e))
 
+  forget-one : (n : ℕ) → ForgetAnswer n s 1 → IllFormed
+  unfolding ForgetAnswer
+  forget-one n (here h e) = h
+  forget-one n (later _ (here h e)) = absurd (omega (arith, e))
+  forget-one n (later _ (later _ e)) = absurd (omega (arith, e))
+
   pub one-exactly : (c : Call) → (said s c .answer ≡ 1) ↔ IllFormed
-  unfolding said asks bufferOf occCall sbeCall moveCall OccAnswer SbeAnswer MoveAnswer
+  unfolding said asks bufferOf occCall sbeCall moveCall forgetCall OccAnswer SbeAnswer MoveAnswer ForgetAnswer
   one-exactly (occ sender c d) = Iff·trans (occ-answers s typed sender c d 1) (occ-one sender c d, λ h. here h refl)
   one-exactly (sbe r d) = Iff·trans (sbe-answers s typed r d 1) (sbe-one r d, λ h. here h refl)
   one-exactly undo = Iff·trans (undo-answers s 1) (move-one Before 6 (λ z. omega (arith, z)), λ h. here h refl)
+  one-exactly (forget n) = Iff·trans (forget-answers n s 1) (forget-one n, λ h. here h refl)
   one-exactly redo = Iff·trans (redo-answers s 1) (move-one After 8 (λ z. omega (arith, z)), λ h. here h refl)

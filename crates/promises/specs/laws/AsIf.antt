@@ -1,11 +1,13 @@
 -- Two histories side by side: both worlds stay alike through any calls, as long as ids last. Assumes nothing.
-use Prim.Native.Nat.{ℕ, suc, _+_, _≤_}
+use Prim.Native.Nat.{ℕ, suc, _+_, _-_, _≤_}
 use mathlib.Core.Logic.{_⊎_, inl, inr, ⊎-elim}
 use mathlib.Core.Path.{_≡_, refl, sym, ap, ap₂, subst, _∙_}
-use mathlib.Core.List.{List, [], _∷_, map}
+use mathlib.Core.List.{List, [], _∷_, _++_, map}
 use native.Mathlib.Nat.{suc-add}
 use native.Mathlib.Omega.{arith}
-use lib.ListN.{length, length-append, length-map}
+use lib.ListN.{length, take, drop, length-append, length-drop, length-map}
+use lib.Seq.{take-at, drop-at, take-nil, drop-nil}
+use Rattle.wire.specs.laws.Cases.{cond-elim}
 use Rattle.record.specs.Record.{workedOf}
 use Rattle.record.specs.declared.Record.{Record}
 use Rattle.change.specs.With.{withLogs}
@@ -15,22 +17,28 @@ use Rattle.entries.specs.Entries.{bodyLen}
 use Rattle.journal.specs.Bytes.{entryBytes}
 use Rattle.journal.specs.laws.Ends.{length-entry}
 use Rattle.session.specs.Session.{madeOf, carriedOf}
-use Rattle.session.specs.Road.{Asks}
+use Rattle.session.specs.Road.{Asks, refuses, tells, makes, moves, forgets}
+use Rattle.session.specs.laws.Road.{Speaks}
+use Rattle.occ_call.specs.laws.Speaks.{occ-speaks}
+use Rattle.sbe_call.specs.laws.Speaks.{sbe-speaks}
+use Rattle.journal.specs.Ways.{byWay}
 use Rattle.session.specs.declared.Session.{Session}
 use Rattle.journal.specs.declared.Way.the-variants.{Before}
 use Rattle.marks.specs.Marks.{passedOf}
 use Rattle.undo_call.specs.Undo.{moveAsks, passedBy}
-use Rattle.promises.specs.Calls.{Call, said}
+use Rattle.promises.specs.Calls.{Call, asks, said}
 use Rattle.promises.specs.Marks.{left, logsMade}
-use Rattle.promises.specs.History.{Deed, keeps, adds, strikes, unstrikes, deed, applied, Run, did, next-run, OfBytes}
+use Rattle.promises.specs.History.{Deed, keeps, adds, strikes, unstrikes, drops, adding, deedBy, deed, goneAfter, applied, oldestOf, newerThan, keptOf, startOf, Run, did, next-run, OfBytes}
 use Rattle.promises.specs.Lent.{told}
 use Rattle.promises.specs.NoTrace.{ButRedo}
 use Rattle.promises.specs.laws.Stores.{length-padded, flat}
 use Rattle.promises.specs.laws.ByHistory.{backs, journalOf, byHistory, Kept, Sane, passed-history}
 use Rattle.promises.specs.laws.Steps.{undo-asks, undo-nothing}
+use Rattle.promises.specs.laws.Forgetting.{newer-count, newer-more, oldest-more, applied-append, whole-record}
+use Rattle.promises.specs.laws.UndoDemands.{Called, ill-formed, empty, barred, goes, called}
 use Rattle.promises.specs.laws.Marks.{tail}
 use Rattle.promises.specs.laws.Demand3.{redoable, Inv, next-inv, formed, held-is, next-is, worked-is, journal-is, used-is}
-use Rattle.promises.specs.laws.Aside.{not-redo, leftAfter, madeAfter, left-after, made-after}
+use Rattle.promises.specs.laws.Aside.{NotRedo, not-redo, leftAfter, madeAfter, left-after, made-after}
 use Rattle.promises.specs.laws.Shifted.{shiftedEdit, kind-shifted, applied-shifted, logs-shifted}
 use Rattle.promises.specs.Shifted.{shiftedRecord}
 use Rattle.promises.specs.laws.Heard.{shiftedDeed, AlikeAsks, both-refuse, both-move, heard}
@@ -40,37 +48,62 @@ use Rattle.promises.specs.Later.{SameWish, occ-same, occ-clears, sbe-sam
 both-asked : {k : ℕ} (u : Session) {a a′ b b′ : Asks} → a ≡ a′ → b ≡ b′ → AlikeAsks k u a′ b′ → AlikeAsks k u a b
 both-asked {k} u {b = b} p q h = subst (λ (x : Asks). AlikeAsks k u x b) (sym p) (subst (AlikeAsks k u _) (sym q) h)
 
-module _ (base : Record) (k : ℕ) (low : 1 ≤ k) (still : shiftedRecord k base ≡ base) where
+-- a call that forgets nothing
+abbrev NoDrop : Deed → Type 0
+NoDrop keeps = Unit {0}
+NoDrop (adds e) = Unit {0}
+NoDrop strikes = Unit {0}
+NoDrop unstrikes = Unit {0}
+NoDrop (drops n) = ⊥
+
+spoken-drops : (s : Session) (d : List ℕ) (bell : ℕ) (y : List ℕ) (a : Asks) → Speaks s d bell y a → NoDrop (deedBy s a)
+unfolding deedBy adding
+spoken-drops s d bell y (refuses n) h = tt
+spoken-drops s d bell y (tells b z) h = tt
+spoken-drops s d bell y (makes e b z) h = cond-elim NoDrop (carriedOf s e .full) tt tt
+spoken-drops s d bell y (moves w at e) h = absurd h
+spoken-drops s d bell y (forgets n) h = absurd h
+
+undo-drops : (s : Session) (a : Asks) → Called Before s a → NoDrop (deedBy s a)
+unfolding deedBy byWay
+undo-drops s a (ill-formed h) = tt
+undo-drops s a (empty x z) = tt
+undo-drops s a (barred x e n bar) = tt
+undo-drops s a (goes x e n u) = tt
+
+module _ (base : Record) (k : ℕ) (low : 1 ≤ k) where
   abbrev there-edits : List Edit → List Edit
   there-edits = map (shiftedEdit k)
 
-  -- the same changes but for ids, one log more ever made, and none of the later logs has an id below k
+  -- the same changes but for ids, the forgotten ones the same, one log more ever made, and none of the later logs has an id below k
   pub record Beside (p q : Run) : Type 0 where
     pub inv : Inv base p
     pub inv′ : Inv base q
-    pub left-is : left (q .marks) ≡ there-edits (left (p .marks))
+    pub still : shiftedRecord k (startOf base p) ≡ startOf base p
+    pub left-is : left (q .marks) ≡ there-edits (keptOf p) ++ oldestOf (p .gone) (left (p .marks))
+    pub gone-is : q .gone ≡ p .gone
     pub made-is : logsMade (q .marks) ≡ suc (logsMade (p .marks))
     pub from-k : k ≤ suc (logsMade (p .marks))
 
-  used-shifted : (hi hi′ : ℕ) (es : List Edit) → Kept base hi es → Kept base hi′ (there-edits es) → length (journalOf base (there-edits es)) ≡ length (journalOf base es)
+  used-shifted : (from : Record) (hi hi′ : ℕ) (es : List Edit) → Kept from hi es → Kept from hi′ (there-edits es) → length (journalOf from (there-edits es)) ≡ length (journalOf from es)
   unfolding backs flat shiftedEdit inverseOf
-  used-shifted hi hi′ [] w w′ = refl
-  used-shifted hi hi′ (e ∷ es) w w′ =
-      let b = inverseOf (applied base es) e in
-      let b′ = inverseOf (applied base (there-edits es)) (shiftedEdit k e) in
+  used-shifted from hi hi′ [] w w′ = refl
+  used-shifted from hi hi′ (e ∷ es) w w′ =
+      let b = inverseOf (applied from es) e in
+      let b′ = inverseOf (applied from (there-edits es)) (shiftedEdit k e) in
       let kinds : kindOf (b′ .change) ≡ kindOf (b .change) = w′ .0 .links .kind-back ∙ kind-shifted k (e .change) ∙ sym (w .0 .links .kind-back) in
-      length-append (journalOf base (there-edits es)) (entryBytes b′)
-      ∙ ap₂ _+_ (used-shifted hi hi′ es (w .1) (w′ .1)) (length-entry Before b′ (w′ .0 .links .back-writable) ∙ ap (λ (i : ℕ). bodyLen i + 1) kinds ∙ sym (length-entry Before b (w .0 .links .back-writable)))
-      ∙ sym (length-append (journalOf base es) (entryBytes b))
+      length-append (journalOf from (there-edits es)) (entryBytes b′)
+      ∙ ap₂ _+_ (used-shifted from hi hi′ es (w .1) (w′ .1)) (length-entry Before b′ (w′ .0 .links .back-writable) ∙ ap (λ (i : ℕ). bodyLen i + 1) kinds ∙ sym (length-entry Before b (w .0 .links .back-writable)))
+      ∙ sym (length-append (journalOf from es) (entryBytes b))
 
   -- rs, rs′: what can be redone, which doesn't matter here
-  undo-shifted : (s u t : Session) (es : List Edit) (next : ℕ) (rs rs′ : List Edit) → Sane base es next rs → Sane base (there-edits es) (suc next) rs′
-      → AlikeAsks k u (moveAsks Before (byHistory base s es next rs)) (moveAsks Before (byHistory base t (there-edits es) (suc next) rs′))
+  undo-shifted : (from : Record) (s u t : Session) (es : List Edit) (next : ℕ) (rs rs′ : List Edit) → Sane from es next rs → Sane from (there-edits es) (suc next) rs′
+      → AlikeAsks k u (moveAsks Before (byHistory from s es next rs)) (moveAsks Before (byHistory from t (there-edits es) (suc next) rs′))
   unfolding shiftedEdit inverseOf
-  undo-shifted s u t [] next rs rs′ g g′ =
-      both-asked u (undo-nothing base s next rs g) (undo-nothing base t (suc next) rs′ g′) (both-refuse 6)
-  undo-shifted s u t (e ∷ es) next rs rs′ g g′ =
-      both-asked u (undo-asks base s e es next rs g) (undo-asks base t (shiftedEdit k e) (there-edits es) (suc next) rs′ g′)
+  undo-shifted from s u t [] next rs rs′ g g′ =
+      both-asked u (undo-nothing from s next rs g) (undo-nothing from t (suc next) rs′ g′) (both-refuse 6)
+  undo-shifted from s u t (e ∷ es) next rs rs′ g g′ =
+      both-asked u (undo-asks from s e es next rs g) (undo-asks from t (shiftedEdit k e) (there-edits es) (suc next) rs′ g′)
       (both-move Before _ _ _ _ (g′ .kept .0 .links .kind-back ∙ kind-shifted k (e .change) ∙ sym (g .kept .0 .links .kind-back)))
 
   worked-shifted : (r : Record) → workedOf (shiftedRecord k r) ≡ workedOf r
@@ -78,8 +111,11 @@ module _ (base : Record) (k : ℕ) (low : 1 ≤ k) (still : shiftedRecord k base
   worked-shifted r = refl
 
   module _ (p q : Run) (b : Beside p q) where
+    abbrev from : Record
+    from = startOf base p
+
     abbrev es : List Edit
-    es = left (p .marks)
+    es = keptOf p
 
     abbrev n : ℕ
     n = logsMade (p .marks)
@@ -90,33 +126,51 @@ module _ (base : Record) (k : ℕ) (low : 1 ≤ k) (still : shiftedRecord k base
     abbrev rs′ : List Edit
     rs′ = redoable base q
 
-    there-is : q .session ≡ byHistory base (q .session) (there-edits es) (suc (suc n)) rs′
-    there-is = b .inv′ .is ∙ (λ i. byHistory base (q .session) (b .left-is i) (suc (b .made-is i)) rs′)
+    abbrev old : List Edit
+    old = oldestOf (p .gone) (left (p .marks))
 
-    sane′ : Sane base (there-edits es) (suc (suc n)) rs′
-    sane′ = subst (λ (x : List Edit). Sane base x (suc (suc n)) rs′) (b .left-is) (subst (λ (m : ℕ). Sane base (left (q .marks)) (suc m) rs′) (b .made-is) (b .inv′ .sane))
+    -- as many are kept there
+    count-there : length (left (q .marks)) - q .gone ≡ length (there-edits es)
+    count-there =
+        let m = length-drop (length (left (p .marks)) - p .gone) (left (p .marks)) in
+        omega (arith, ap length (b .left-is), length-append (there-edits es) old, length-map es (shiftedEdit k), m, b .gone-is, b .inv .low, newer-count (p .gone) (left (p .marks)))
 
-    record-there : applied base (left (q .marks)) ≡ shiftedRecord k (applied base es)
-    record-there = ap (applied base) (b .left-is) ∙ applied-shifted k low base still es
+    kept-there : keptOf q ≡ there-edits es
+    kept-there = ap (take (length (left (q .marks)) - q .gone)) (b .left-is) ∙ take-at (there-edits es) old (length (left (q .marks)) - q .gone) (sym count-there)
+
+    start-there : startOf base q ≡ from
+    start-there =
+        ap (applied base) (ap (drop (length (left (q .marks)) - q .gone)) (b .left-is) ∙ drop-at (there-edits es) old (length (left (q .marks)) - q .gone) (sym count-there))
+
+    there-is : q .session ≡ byHistory from (q .session) (there-edits es) (suc (suc n)) rs′
+    there-is = b .inv′ .is ∙ (λ i. byHistory (start-there i) (q .session) (kept-there i) (suc (b .made-is i)) rs′)
+
+    sane′ : Sane from (there-edits es) (suc (suc n)) rs′
+    sane′ = subst (λ (T : Type 0). T) (λ i. Sane (start-there i) (kept-there i) (suc (b .made-is i)) rs′) (b .inv′ .sane)
+
+    record-there : applied base (left (q .marks)) ≡ shiftedRecord k (applied base (left (p .marks)))
+    record-there =
+        ap (applied base) (b .left-is) ∙ applied-append base (there-edits es) old ∙ applied-shifted k low from (b .still) es
+        ∙ ap (shiftedRecord k) (whole-record base (p .gone) (left (p .marks)))
 
     used-there : q .session .used ≡ p .session .used
     used-there =
         used-is base q (b .inv′)
-        ∙ ap (λ (l : List Edit). length (journalOf base l)) (b .left-is)
-        ∙ used-shifted (suc n) (suc (suc n)) es (b .inv .sane .kept) (sane′ .kept)
+        ∙ (λ i. length (journalOf (start-there i) (kept-there i)))
+        ∙ used-shifted from (suc n) (suc (suc n)) es (b .inv .sane .kept) (sane′ .kept)
         ∙ sym (used-is base p (b .inv))
 
     pub twins : Twins k (p .session) (q .session)
     twins = record {
       held-is = held-is base q (b .inv′) ∙ record-there ∙ ap (shiftedRecord k) (sym (held-is base p (b .inv)));
-      worked-is = worked-is base q (b .inv′) ∙ ap workedOf record-there ∙ worked-shifted (applied base es) ∙ sym (worked-is base p (b .inv));
+      worked-is = worked-is base q (b .inv′) ∙ ap workedOf record-there ∙ worked-shifted (applied base (left (p .marks))) ∙ sym (worked-is base p (b .inv));
       next-is = next-is base q (b .inv′) ∙ ap suc (b .made-is) ∙ ap suc (sym (next-is base p (b .inv)));
       used-is = used-there;
     }
 
     -- both journals are as long
     journal-long : (r : Run) (v : Inv base r) → length (r .session .journal) ≡ 2048
-    journal-long r v = ap length (journal-is base r v) ∙ length-padded (journalOf base (left (r .marks))) (omega (arith, v .sane .fits))
+    journal-long r v = ap length (journal-is base r v) ∙ length-padded (journalOf (startOf base r) (keptOf r)) (omega (arith, v .sane .fits))
 
     full-is : (e : Edit) → carriedOf (q .session) (shiftedEdit k e) .full ≡ carriedOf (p .session) e .full
     unfolding shiftedEdit
@@ -131,13 +185,13 @@ module _ (base : Record) (k : ℕ) (low : 1 ≤ k) (still : shiftedRecord k base
     undo-both : AlikeAsks k (p .session) (moveAsks Before (p .session)) (moveAsks Before (q .session))
     undo-both =
         both-asked (p .session) (ap (moveAsks Before) (b .inv .is)) (ap (moveAsks Before) there-is)
-        (undo-shifted (p .session) (p .session) (q .session) es (suc n) rs rs′ (b .inv .sane) sane′)
+        (undo-shifted from (p .session) (p .session) (q .session) es (suc n) rs rs′ (b .inv .sane) sane′)
 
     passed-both : passedBy Before (q .session) ≡ passedBy Before (p .session)
     passed-both =
-        ap (passedBy Before) there-is ∙ passed-history base (q .session) (there-edits es) (suc (suc n)) rs′ sane′
+        ap (passedBy Before) there-is ∙ passed-history from (q .session) (there-edits es) (suc (suc n)) rs′ sane′
         ∙ ap passedOf (length-map es (shiftedEdit k))
-        ∙ sym (ap (passedBy Before) (b .inv .is) ∙ passed-history base (p .session) es (suc n) rs (b .inv .sane))
+        ∙ sym (ap (passedBy Before) (b .inv .is) ∙ passed-history from (p .session) es (suc n) rs (b .inv .sane))
 
     -- one call
     both-hear : (c c′ : Call) → SameWish k c c′ → OfBytes c
@@ -146,16 +200,43 @@ module _ (base : Record) (k : ℕ) (low : 1 ≤ k) (still : shiftedRecord k base
 
   -- ---- the marks after it
 
-  tail-shifted : (es : List Edit) → tail (there-edits es) ≡ there-edits (tail es)
-  tail-shifted [] = refl
-  tail-shifted (e ∷ es) = refl
+  -- the changes there, by those here: the kept ones with other ids, the forgotten ones the same
+  abbrev there-left : ℕ → List Edit → List Edit
+  there-left g l = there-edits (newerThan g l) ++ oldestOf g l
 
-  left-shifted : (es : List Edit) (d : Deed) → leftAfter (there-edits es) (shiftedDeed k d) ≡ there-edits (leftAfter es d)
+  abbrev Goes : ℕ → List Edit → Deed → Type 0
+  Goes g l d = (leftAfter (there-left g l) (shiftedDeed k d) ≡ there-left g (leftAfter l d)) × (oldestOf g (leftAfter l d) ≡ oldestOf g l)
+
+  goes-on : (g : ℕ) (l : List Edit) (d : Deed) → NotRedo d → NoDrop d → g ≤ length l → g ≤ length (leftAfter l d) → Goes g l d
   unfolding leftAfter shiftedDeed
-  left-shifted es keeps = refl
-  left-shifted es (adds e) = refl
-  left-shifted es strikes = tail-shifted es
-  left-shifted es unstrikes = refl
+  goes-on g l keeps h z low low′ = (refl, refl)
+  goes-on g l (adds e) h z low low′ =
+      let m = newer-more g e l low in
+      let o = oldest-more g e l low in
+      (sym (λ i. there-edits (m i) ++ o i), o)
+  goes-on g [] strikes h z low low′ = (ap₂ (λ (x y : List Edit). tail (there-edits x ++ y)) (take-nil (0 - g)) (drop-nil (0 - g)) ∙ sym (ap₂ (λ (x y : List Edit). there-edits x ++ y) (take-nil (0 - g)) (drop-nil (0 - g))), refl)
+  goes-on g (e ∷ l) strikes h z low low′ =
+      let m = newer-more g e l low′ in
+      let o = oldest-more g e l low′ in
+      (ap₂ (λ (x y : List Edit). tail (there-edits x ++ y)) m o, sym o)
+  goes-on g l unstrikes h z low low′ = absurd h
+  goes-on g l (drops n) h z low low′ = absurd z
+
+  gone-shifted : (g : ℕ) (d : Deed) → goneAfter g (shiftedDeed k d) ≡ goneAfter g d
+  unfolding goneAfter shiftedDeed
+  gone-shifted g keeps = refl
+  gone-shifted g (adds e) = refl
+  gone-shifted g strikes = refl
+  gone-shifted g unstrikes = refl
+  gone-shifted g (drops n) = refl
+
+  none-gone : (g : ℕ) (d : Deed) → NoDrop d → goneAfter g d ≡ g
+  unfolding goneAfter
+  none-gone g keeps z = refl
+  none-gone g (adds e) z = refl
+  none-gone g strikes z = refl
+  none-gone g unstrikes z = refl
+  none-gone g (drops n) z = absurd z
 
   made-shifted : (n : ℕ) (d : Deed) → madeAfter (suc n) (shiftedDeed k d) ≡ suc (madeAfter n d)
   unfolding madeAfter shiftedDeed shiftedEdit
@@ -163,6 +244,7 @@ module _ (base : Record) (k : ℕ) (low : 1 ≤ k) (still : shiftedRecord k base
   made-shifted n (adds e) = ap (λ (m : ℕ). suc n + m) (logs-shifted k low (e .change)) ∙ suc-add n (madeOf (e .change))
   made-shifted n strikes = refl
   made-shifted n unstrikes = refl
+  made-shifted n (drops m) = refl
 
   made-grows : (n : ℕ) (d : Deed) → n ≤ madeAfter n d
   unfolding madeAfter
@@ -170,6 +252,7 @@ module _ (base : Record) (k : ℕ) (low : 1 ≤ k) (still : shiftedRecord k base
   made-grows n (adds e) = omega arith
   made-grows n strikes = omega arith
   made-grows n unstrikes = omega arith
+  made-grows n (drops m) = omega arith
 
   -- nobody redoes
   wish-not : (c c′ : Call) → SameWish k c c′ → ButRedo c × ButRedo c′
@@ -177,6 +260,14 @@ module _ (base : Record) (k : ℕ) (low : 1 ≤ k) (still : shiftedRecord k base
   wish-not c c′ (occ-clears sender x x′ d h) = (tt, tt)
   wish-not c c′ (sbe-same r d) = (tt, tt)
   wish-not c c′ undo-same = (tt, tt)
+
+  -- nor forgets
+  wish-drops : (s : Session) (c c′ : Call) → SameWish k c c′ → NoDrop (deed s c)
+  unfolding deed asks
+  wish-drops s c c′ (occ-same sender x d h) = spoken-drops s d _ _ _ (occ-speaks s sender x d)
+  wish-drops s c c′ (occ-clears sender x x′ d h) = spoken-drops s d _ _ _ (occ-speaks s sender x d)
+  wish-drops s c c′ (sbe-same r d) = spoken-drops s d _ _ _ (sbe-speaks s r d)
+  wish-drops s c c′ undo-same = undo-drops s (moveAsks Before s) (called Before s)
 
   -- ---- any calls
 
@@ -186,14 +277,23 @@ module _ (base : Record) (k : ℕ) (low : 1 ≤ k) (still : shiftedRecord k base
       let here = not-redo (p .session) c (wish-not c c′ same .0) in
       let there = not-redo (q .session) c′ (wish-not c c′ same .1) in
       let made = made-after (p .undos) (p .marks) (deed (p .session) c) here in
+      let none = wish-drops (p .session) c c′ same in
+      let v = next-inv base p (b .inv) c bytes in
+      let left-here = left-after (p .undos) (p .marks) (deed (p .session) c) here in
+      let gone-here = none-gone (p .gone) (deed (p .session) c) none in
+      let low′ : p .gone ≤ length (leftAfter (left (p .marks)) (deed (p .session) c)) = omega (arith, v .low, gone-here, ap length left-here) in
+      let on = goes-on (p .gone) (left (p .marks)) (deed (p .session) c) here none (b .inv .low) low′ in
+      let start-stays : startOf base (next-run p c) ≡ startOf base p = (λ i. applied base (oldestOf (gone-here i) (left-here i))) ∙ ap (applied base) (on .1) in
       record {
         inv = next-inv base p (b .inv) c bytes;
         inv′ = next-inv base q (b .inv′) c′ bytes′;
+        still = ap (shiftedRecord k) start-stays ∙ b .still ∙ sym start-stays;
         left-is =
             left-after (q .undos) (q .marks) (deed (q .session) c′) there
             ∙ ap₂ leftAfter (b .left-is) d
-            ∙ left-shifted (left (p .marks)) (deed (p .session) c)
-            ∙ ap there-edits (sym (left-after (p .undos) (p .marks) (deed (p .session) c) here));
+            ∙ on .0
+            ∙ sym (λ i. there-left (gone-here i) (left-here i));
+        gone-is = ap₂ goneAfter (b .gone-is) d ∙ gone-shifted (p .gone) (deed (p .session) c);
         made-is =
             made-after (q .undos) (q .marks) (deed (q .session) c′) there
             ∙ ap₂ madeAfter (b .made-is) d

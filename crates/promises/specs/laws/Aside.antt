@@ -4,7 +4,7 @@ use mathlib.Core.Bool.{cond, not}
 use mathlib.Core.Path.{_≡_, refl, sym, ap, ap₂, subst, _∙_}
 use mathlib.Core.List.{List, [], _∷_}
 use native.Mathlib.Omega.{arith}
-use lib.Dec.{eqb}
+use lib.Dec.{eqb, ltb}
 use lib.ListN.{length, getD}
 use Rattle.wire.specs.laws.Cases.{cond-elim}
 use Rattle.record.specs.Record.{workedOf}
@@ -14,7 +14,7 @@ use Rattle.change.specs.declared.Edit.{Edit}
 use Rattle.journal.specs.Ways.{byWay}
 use Rattle.journal.specs.declared.Way.the-variants.{Before}
 use Rattle.session.specs.Session.{wellFormed, carriedOf, madeOf}
-use Rattle.session.specs.Road.{Asks, refuses, tells, makes, moves, due, settled}
+use Rattle.session.specs.Road.{Asks, refuses, tells, makes, moves, forgets, heldIn, due, settled}
 use Rattle.session.specs.laws.Road.{Speaks}
 use Rattle.session.specs.declared.Session.{Session}
 use Rattle.packet.specs.Packet.{dataOf}
@@ -25,9 +25,11 @@ use Rattle.sbe_call.specs.Sbe as sbes
 use Rattle.sbe_call.specs.laws.Speaks.{sbe-speaks}
 use Rattle.inplace.specs.declared.Told.{Told}
 use Rattle.undo_call.specs.Undo.{moveAsks, passedBy}
-use Rattle.promises.specs.Calls.{Call, occ, sbe, undo, redo, bufferOf, asks, said}
+use Rattle.forget_call.specs.Forget.{oldestAsks, forgetAsks}
+use Rattle.promises.specs.laws.Forgetting.{forget-asks}
+use Rattle.promises.specs.Calls.{Call, occ, sbe, undo, redo, forget, bufferOf, asks, said}
 use Rattle.promises.specs.Marks.{Mark, left, logsMade}
-use Rattle.promises.specs.History.{Deed, keeps, adds, strikes, unstrikes, adding, deedBy, deed, marked, applied, Run, did, next-run, OfBytes}
+use Rattle.promises.specs.History.{Deed, keeps, adds, strikes, unstrikes, drops, adding, deedBy, deed, marked, goneAfter, applied, oldestOf, newerThan, keptOf, startOf, Run, did, next-run, OfBytes}
 use Rattle.promises.specs.Lent.{told}
 use Rattle.promises.specs.NoTrace.{ButRedo, SameSaid, AsBefore, AllButRedo}
 use Rattle.promises.specs.laws.Marks.{tail, left-change, left-strike, logs-strike}
@@ -49,6 +51,7 @@ NotRedo keeps = Unit {0}
 NotRedo (adds e) = Unit {0}
 NotRedo strikes = Unit {0}
 NotRedo unstrikes = ⊥
+NotRedo (drops n) = Unit {0}
 
 deed-not : (s : Session) (d : List ℕ) (bell : ℕ) (y : List ℕ) (a : Asks) → Speaks s d bell y a → NotRedo (deedBy s a)
 unfolding deedBy adding
@@ -56,6 +59,7 @@ deed-not s d bell y (refuses n) h = tt
 deed-not s d bell y (tells b z) h = tt
 deed-not s d bell y (makes e b z) h = cond-elim NotRedo (carriedOf s e .full) tt tt
 deed-not s d bell y (moves w at e) h = absurd h
+deed-not s d bell y (forgets n) h = tt
 
 undo-not : (s : Session) (a : Asks) → Called Before s a → NotRedo (deedBy s a)
 unfolding deedBy byWay
@@ -64,12 +68,18 @@ undo-not s a (empty x z) = tt
 undo-not s a (barred x e n bar) = tt
 undo-not s a (goes x e n u) = tt
 
+forget-not : (s : Session) (n : ℕ) → NotRedo (deedBy s (forgetAsks n s))
+unfolding deedBy forgetAsks oldestAsks
+forget-not s n =
+    cond-elim (λ (a : Asks). NotRedo (deedBy s a)) (not (wellFormed s)) tt (cond-elim (λ (a : Asks). NotRedo (deedBy s a)) (ltb (heldIn s) n) tt tt)
+
 pub not-redo : (s : Session) (c : Call) → ButRedo c → NotRedo (deed s c)
 unfolding deed asks
 not-redo s (occ sender c d) h = deed-not s d _ _ _ (occ-speaks s sender c d)
 not-redo s (sbe r d) h = deed-not s d _ _ _ (sbe-speaks s r d)
 not-redo s undo h = undo-not s (moveAsks Before s) (called Before s)
 not-redo s redo h = absurd h
+not-redo s (forget n) h = forget-not s n
 
 -- ---- what is left and the logs made after it go by what was left and made
 
@@ -78,12 +88,14 @@ leftAfter es keeps = es
 leftAfter es (adds e) = e ∷ es
 leftAfter es strikes = tail es
 leftAfter es unstrikes = es
+leftAfter es (drops n) = es
 
 unfoldable pub madeAfter : ℕ → Deed → ℕ
 madeAfter n keeps = n
 madeAfter n (adds e) = n + madeOf (e .change)
 madeAfter n strikes = n
 madeAfter n unstrikes = n
+madeAfter n (drops m) = n
 
 pub left-after : (undos : ℕ) (ms : List Mark) (d : Deed) → NotRedo d → left (marked undos ms d) ≡ leftAfter (left ms) d
 unfolding marked leftAfter
@@ -91,6 +103,7 @@ left-after undos ms keeps h = refl
 left-after undos ms (adds e) h = left-change e ms
 left-after undos ms strikes h = left-strike (suc undos) (omega arith) ms
 left-after undos ms unstrikes h = absurd h
+left-after undos ms (drops n) h = refl
 
 pub made-after : (undos : ℕ) (ms : List Mark) (d : Deed) → NotRedo d → logsMade (marked undos ms d) ≡ madeAfter (logsMade ms) d
 unfolding marked madeAfter logsMade
@@ -98,6 +111,7 @@ made-after undos ms keeps h = refl
 made-after undos ms (adds e) h = refl
 made-after undos ms strikes h = logs-strike (suc undos) ms
 made-after undos ms unstrikes h = absurd h
+made-after undos ms (drops n) h = refl
 
 -- ---- two runs with the same changes left and as many logs made: any calls but redo
 
@@ -107,27 +121,36 @@ module _ (base : Record) where
     pub inv′ : Inv base q
     pub left-is : left (q .marks) ≡ left (p .marks)
     pub made-is : logsMade (q .marks) ≡ logsMade (p .marks)
+    pub gone-is : q .gone ≡ p .gone
 
   -- undo asks the same, whatever can be redone
-  undo-same : (s t : Session) (es : List Edit) (next : ℕ) (rs rs′ : List Edit) → Sane base es next rs → Sane base es next rs′
-      → moveAsks Before (byHistory base t es next rs′) ≡ moveAsks Before (byHistory base s es next rs)
-  undo-same s t [] next rs rs′ g g′ = undo-nothing base t next rs′ g′ ∙ sym (undo-nothing base s next rs g)
-  undo-same s t (e ∷ es) next rs rs′ g g′ = undo-asks base t e es next rs′ g′ ∙ sym (undo-asks base s e es next rs g)
+  undo-same : (from : Record) (s t : Session) (es : List Edit) (next : ℕ) (rs rs′ : List Edit) → Sane from es next rs → Sane from es next rs′
+      → moveAsks Before (byHistory from t es next rs′) ≡ moveAsks Before (byHistory from s es next rs)
+  undo-same from s t [] next rs rs′ g g′ = undo-nothing from t next rs′ g′ ∙ sym (undo-nothing from s next rs g)
+  undo-same from s t (e ∷ es) next rs rs′ g g′ = undo-asks from t e es next rs′ g′ ∙ sym (undo-asks from s e es next rs g)
 
   module _ (p q : Run) (b : Aside p q) where
+    abbrev from : Record
+    from = startOf base p
+
     abbrev es : List Edit
-    es = left (p .marks)
+    es = keptOf p
+
+    -- what is forgotten and what is kept is the same
+    start-is : startOf base q ≡ from
+    start-is = λ i. applied base (oldestOf (b .gone-is i) (b .left-is i))
+
+    kept-is : keptOf q ≡ es
+    kept-is = λ i. newerThan (b .gone-is i) (b .left-is i)
 
     abbrev next : ℕ
     next = suc (logsMade (p .marks))
 
-    there-is : q .session ≡ byHistory base (q .session) es next (redoable base q)
-    there-is = b .inv′ .is ∙ (λ i. byHistory base (q .session) (b .left-is i) (suc (b .made-is i)) (redoable base q))
+    there-is : q .session ≡ byHistory from (q .session) es next (redoable base q)
+    there-is = b .inv′ .is ∙ (λ i. byHistory (start-is i) (q .session) (kept-is i) (suc (b .made-is i)) (redoable base q))
 
-    sane′ : Sane base es next (redoable base q)
-    sane′ =
-        subst (λ (x : List Edit). Sane base x next (redoable base q)) (b .left-is)
-        (subst (λ (m : ℕ). Sane base (left (q .marks)) (suc m) (redoable base q)) (b .made-is) (b .inv′ .sane))
+    sane′ : Sane from es next (redoable base q)
+    sane′ = subst (λ (T : Type 0). T) (λ i. Sane (start-is i) (kept-is i) (suc (b .made-is i)) (redoable base q)) (b .inv′ .sane)
 
     -- the second session differs from the first in what can be redone
     held-same : q .session .held ≡ p .session .held
@@ -146,8 +169,8 @@ module _ (base : Record) where
     full-same e =
         full-by-kind (q .session) e
         ∙ (λ i.
-        noRoom (length ((journal-is base q (b .inv′) ∙ ap (λ (l : List Edit). padded (journalOf base l)) (b .left-is) ∙ sym (journal-is base p (b .inv))) i))
-        ((used-is base q (b .inv′) ∙ ap (λ (l : List Edit). length (journalOf base l)) (b .left-is) ∙ sym (used-is base p (b .inv))) i) (kindOf (e .change)))
+        noRoom (length ((journal-is base q (b .inv′) ∙ (λ j. padded (journalOf (start-is j) (kept-is j))) ∙ sym (journal-is base p (b .inv))) i))
+        ((used-is base q (b .inv′) ∙ (λ j. length (journalOf (start-is j) (kept-is j))) ∙ sym (used-is base p (b .inv))) i) (kindOf (e .change)))
         ∙ sym (full-by-kind (p .session) e)
 
     -- so the same is asked of both
@@ -157,8 +180,11 @@ module _ (base : Record) where
         due (occs.refusalOf (formed-same i) sender (length c) (length d)) (occs.occRead (held-same i) (worked-same i) (next-same i) sender c d)
     same-asks (sbe r d) h = λ i. due (sbes.refusalOf (formed-same i) (length r) (length d)) (sbes.sbeRead r d)
     same-asks undo h =
-        ap (moveAsks Before) there-is ∙ undo-same (p .session) (q .session) es next (redoable base p) (redoable base q) (b .inv .sane) sane′ ∙ ap (moveAsks Before) (sym (b .inv .is))
+        ap (moveAsks Before) there-is ∙ undo-same from (p .session) (q .session) es next (redoable base p) (redoable base q) (b .inv .sane) sane′ ∙ ap (moveAsks Before) (sym (b .inv .is))
     same-asks redo h = absurd h
+    same-asks (forget n) h =
+        ap (forgetAsks n) there-is ∙ forget-asks from (q .session) es next (redoable base q) sane′ n
+        ∙ sym (ap (forgetAsks n) (b .inv .is) ∙ forget-asks from (p .session) es next (redoable base p) (b .inv .sane) n)
 
     aside-said : (c : Call) → ButRedo c → SameSaid (said (p .session) c) (said (q .session) c) × (deed (q .session) c ≡ deed (p .session) c)
     unfolding said deed
@@ -176,8 +202,8 @@ module _ (base : Record) where
     -- as many entries are passed
     passed-same : passedBy Before (q .session) ≡ passedBy Before (p .session)
     passed-same =
-        ap (passedBy Before) there-is ∙ passed-history base (q .session) es next (redoable base q) sane′
-        ∙ sym (ap (passedBy Before) (b .inv .is) ∙ passed-history base (p .session) es next (redoable base p) (b .inv .sane))
+        ap (passedBy Before) there-is ∙ passed-history from (q .session) es next (redoable base q) sane′
+        ∙ sym (ap (passedBy Before) (b .inv .is) ∙ passed-history from (p .session) es next (redoable base p) (b .inv .sane))
 
     aside-told : (c : Call) → ButRedo c → told (q .session) c ≡ told (p .session) c
     unfolding told
@@ -185,6 +211,7 @@ module _ (base : Record) where
     aside-told (sbe r d) h = λ i. record { answer = aside-said (sbe r d) h .0 .answer i; small = 0; beside = aside-said (sbe r d) h .0 .bell i }
     aside-told undo h = λ i. told-moved (aside-said undo h .0 .answer i) (passed-same i) (aside-said undo h .0 .kind i)
     aside-told redo h = absurd h
+    aside-told (forget n) h = λ i. record { answer = aside-said (forget n) h .0 .answer i; small = 0; beside = 0 }
 
     next-aside : (c : Call) → ButRedo c → OfBytes c → Aside (next-run p c) (next-run q c)
     unfolding next-run did
@@ -197,6 +224,7 @@ module _ (base : Record) where
           inv′ = next-inv base q (b .inv′) c bytes;
           left-is = left-after (q .undos) (q .marks) (deed (q .session) c) there ∙ ap₂ leftAfter (b .left-is) d ∙ sym (left-after (p .undos) (p .marks) (deed (p .session) c) here);
           made-is = made-after (q .undos) (q .marks) (deed (q .session) c) there ∙ ap₂ madeAfter (b .made-is) d ∙ sym (made-after (p .undos) (p .marks) (deed (p .session) c) here);
+          gone-is = ap₂ goneAfter (b .gone-is) d;
         }
 
   pub as-before : (cs : List Call) → AllButRedo cs → (p q : Run) → Aside p q → AsBefore (p .session) (q .session) cs

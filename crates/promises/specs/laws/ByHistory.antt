@@ -20,7 +20,7 @@ use Rattle.journal.specs.declared.End.the-variants.{At, Full}
 use Rattle.journal.specs.Add.{endOf}
 use Rattle.undo_call.specs.Undo.{passedBy}
 use Rattle.session.specs.Session.{entriesIn, wellFormed, renewed, madeOf, carriedTo, carriedOf}
-use Rattle.session.specs.Road.{Asks, refuses, tells, makes, moves, kept, done, carriedSays, settled, sessionMoved}
+use Rattle.session.specs.Road.{Asks, refuses, tells, makes, moves, forgets, kept, done, carriedSays, settled, sessionMoved, sessionFreed, forgotten}
 use Rattle.session.specs.laws.Session.{formed-ok}
 use Rattle.session.specs.declared.Session.{Session}
 use Rattle.links.specs.Typed.{TypedRecord}
@@ -64,11 +64,12 @@ module _ (base : Record) where
   own-carried s e (At used) bell y d es next rs = refl
 
   pub own-settled : (s : Session) (d : List ℕ) (a : Asks) (es : List Edit) (next : ℕ) (rs : List Edit) → byHistory (settled s d a .session) es next rs ≡ byHistory s es next rs
-  unfolding byHistory standing renewed settled kept done sessionMoved carriedOf
+  unfolding byHistory standing renewed settled kept done sessionMoved forgotten sessionFreed carriedOf
   own-settled s d (refuses n) es next rs = refl
   own-settled s d (tells bell y) es next rs = refl
   own-settled s d (makes e bell y) es next rs = own-carried s e (endOf (length (s .journal)) (s .used) (inverseOf (s .held) e)) bell y d es next rs
   own-settled s d (moves w at e) es next rs = refl
+  own-settled s d (forgets n) es next rs = refl
 
   -- each change that is left is undone by its entry, and the record before it is well formed at the next id hi
   pub record Step (hi : ℕ) (e : Edit) (es : List Edit) : Type 0 where
@@ -113,7 +114,7 @@ module _ (base : Record) where
   again-stored hi es (r ∷ rs) k = let l = k .0 .links in (record { writable = l .here-writable; good = l .redo-good; reads = l .redo-reads }, again-stored hi (r ∷ es) rs (k .1))
 
   -- the journal holds as many entries as changes are left, so that many decide the number passed
-  backs-count : (es : List Edit) → length (pile (backs es)) ≡ length es
+  pub backs-count : (es : List Edit) → length (pile (backs es)) ≡ length es
   unfolding pile backs
   backs-count [] = refl
   backs-count (e ∷ es) = ap suc (backs-count es)

@@ -1,13 +1,14 @@
 -- Demand 3 over any calls: at every moment the session is the one of the changes that are left. Assumes nothing.
-use Prim.Native.Nat.{ℕ, suc, _+_}
+use Prim.Native.Nat.{ℕ, suc, _+_, _≤_}
 use mathlib.Core.Bool.{Bool, true, false, cond, not}
 use mathlib.Core.Path.{_≡_, refl, sym, ap, subst, _∙_}
 use mathlib.Core.List.{List, [], _∷_}
 use native.Mathlib.Nat.{suc-add}
 use native.Mathlib.Omega.{arith}
+use borrow.Author.Tests.{ltb-false}
 use lib.Dec.{ltb}
 use lib.ListN.{length}
-use Rattle.wire.specs.laws.Cases.{cond-elim, by-both}
+use Rattle.wire.specs.laws.Cases.{cond-elim, cond-cases, by-both}
 use Rattle.record.specs.Record.{workedOf}
 use Rattle.record.specs.declared.Record.{Record}
 use Rattle.change.specs.declared.Tables.{Tables}
@@ -21,7 +22,7 @@ use Rattle.occ.specs.declared.Verdict.the-variants.{Refuse, Poll, Make}
 use Rattle.sbe.specs.declared.Ruling.{Ruling}
 use Rattle.sbe.specs.declared.Ruling.the-variants.{Decline, Grant}
 use Rattle.session.specs.Session.{wellFormed, madeOf, renewed, carriedOf}
-use Rattle.session.specs.Road.{Asks, refuses, tells, makes, moves, Said, kept, done, carriedSays, settled}
+use Rattle.session.specs.Road.{Asks, refuses, tells, makes, moves, forgets, forgotten, Said, kept, done, carriedSays, settled}
 use Rattle.session.specs.laws.Road.{due-cases, Speaks}
 use Rattle.session.specs.declared.Session.{Session}
 use Rattle.occ_call.specs.Occ as occs
@@ -29,12 +30,14 @@ use Rattle.occ_call.specs.laws.Speaks.{occ-speaks}
 use Rattle.sbe_call.specs.Sbe as sbes
 use Rattle.sbe_call.specs.laws.Speaks.{sbe-speaks}
 use Rattle.undo_call.specs.Undo.{moveAsks, moveCall, undoCall, redoCall}
-use Rattle.promises.specs.Calls.{Call, occ, sbe, undo, redo, bufferOf, asks, said}
-use Rattle.promises.specs.History.{Deed, adds, strikes, unstrikes, adding, deedBy, deed, marked, undosAfter, sinceAfter, applied, Run, did, next-run, run, OfBytes, AllOfBytes, Demand3}
+use Rattle.forget_call.specs.Forget.{forgetAsks, forgetCall}
+use Rattle.promises.specs.Calls.{Call, occ, sbe, undo, redo, forget, bufferOf, asks, said}
+use Rattle.promises.specs.History.{Deed, adds, strikes, unstrikes, drops, adding, deedBy, deed, marked, undosAfter, sinceAfter, goneAfter, applied, oldestOf, newerThan, keptOf, startOf, forgetAnswer, Run, did, next-run, run, OfBytes, AllOfBytes, Demand3}
 use Rattle.promises.specs.laws.Sound.{Sound, occ-sound, sbe-sound}
 use Rattle.promises.specs.laws.ByHistory.{standing, journalOf, byHistory, own-history, Sane, history-formed}
 use Rattle.promises.specs.laws.Stores.{padded}
 use Rattle.promises.specs.laws.Steps.{carried-history, carried-sane, undo-asks, undo-history, undone-sane, redo-asks, redo-history, redone-sane, undo-nothing, redo-nothing}
+use Rattle.promises.specs.laws.Forgetting.{newer-count, newer-more, oldest-more, Newest-kept, newest-kept, whole-record, newer-twice, start-twice, forget-sane, forget-history, forget-asks}
 use Rattle.links.specs.Typed.{TypedRecord}
 use Rattle.links.specs.laws.Made.{Made}
 use Rattle.promises.specs.Marks.{latest, left, logsMade, undoAnswer}
@@ -54,6 +57,7 @@ Fairly (refuses n) = Fair n
 Fairly (tells bell y) = Unit {0}
 Fairly (makes e bell y) = Unit {0}
 Fairly (moves w at e) = Unit {0}
+Fairly (forgets n) = Unit {0}
 
 module _ (s : Session) where
   settled-fair : (d : List ℕ) (a : Asks) → Fairly a → Fair (settled s d a .answer)
@@ -63,6 +67,7 @@ module _ (s : Session) where
   settled-fair d (makes e bell y) h =
       cond-elim (λ (q : Said). Fair (q .answer)) (carriedOf s e .full) ((λ z. omega (arith, z)), (λ z. omega (arith, z))) ((λ z. omega (arith, z)), (λ z. omega (arith, z)))
   settled-fair d (moves w at e) h = ((λ z. omega (arith, z)), (λ z. omega (arith, z)))
+  settled-fair d (forgets n) h = ((λ z. omega (arith, z)), (λ z. omega (arith, z)))
 
   module _ (formed : wellFormed s ≡ true) where
     -- a refusal is not 1
@@ -114,32 +119,44 @@ redo-fair : (l : List Edit) → Fair (answerOf l)
 redo-fair [] = ((λ z. omega (arith, z)), (λ z. omega (arith, z)))
 redo-fair (e ∷ l) = ((λ z. omega (arith, z)), (λ z. omega (arith, z)))
 
+forget-fair : (n : ℕ) (l : List Edit) → Fair (forgetAnswer n l)
+unfolding forgetAnswer
+forget-fair n l = cond-elim Fair (ltb (length l) n) ((λ z. omega (arith, z)), (λ z. omega (arith, z))) ((λ z. omega (arith, z)), (λ z. omega (arith, z)))
+
 module _ (base : Record) where
-  -- es are left, n logs were made, rs can be redone
+  -- what can be redone
   abbrev pub redoable : Run → List Edit
   redoable p = off (p .since) (p .marks) []
 
+  -- the session is that of the changes kept, from the record that the forgotten ones gave
   pub record Inv (p : Run) : Type 0 where
-    pub is : p .session ≡ byHistory base (p .session) (left (p .marks)) (suc (logsMade (p .marks))) (redoable p)
-    pub sane : Sane base (left (p .marks)) (suc (logsMade (p .marks))) (redoable p)
+    pub is : p .session ≡ byHistory (startOf base p) (p .session) (keptOf p) (suc (logsMade (p .marks))) (redoable p)
+    pub sane : Sane (startOf base p) (keptOf p) (suc (logsMade (p .marks))) (redoable p)
+    pub low : p .gone ≤ length (left (p .marks))
     pub ids : idsMade (p .marks) ≡ countdown (logsMade (p .marks))
     pub strokes : Strokes (p .undos) (p .since) (p .marks)
 
+  -- where a run starts from, and what it keeps
+  abbrev pub Starts : Run → Record → List Edit → Type 0
+  Starts p from es = (startOf base p ≡ from) × (keptOf p ≡ es) × (p .gone ≤ length (left (p .marks)))
+
   -- a run whose marks say this, by what they say
-  inv-by : (p : Run) (es : List Edit) (n : ℕ) (rs : List Edit) → left (p .marks) ≡ es → logsMade (p .marks) ≡ n → redoable p ≡ rs
-      → (s : Session) → p .session ≡ byHistory base s es (suc n) rs → Sane base es (suc n) rs → idsMade (p .marks) ≡ countdown n → Strokes (p .undos) (p .since) (p .marks) → Inv p
-  inv-by p es n rs l k a s is sane ids strokes = record {
-    is = own-history base s (p .session) es (suc n) rs is ∙ sym (λ i. byHistory base (p .session) (l i) (suc (k i)) (a i));
-    sane =
-        subst (λ (x : List Edit). Sane base x (suc (logsMade (p .marks))) (redoable p)) (sym l)
-        (subst (λ (x : ℕ). Sane base es (suc x) (redoable p)) (sym k) (subst (Sane base es (suc n)) (sym a) sane));
+  inv-by : (p : Run) (from : Record) (es : List Edit) (n : ℕ) (rs : List Edit) → Starts p from es → logsMade (p .marks) ≡ n → redoable p ≡ rs
+      → (s : Session) → p .session ≡ byHistory from s es (suc n) rs → Sane from es (suc n) rs → idsMade (p .marks) ≡ countdown n → Strokes (p .undos) (p .since) (p .marks) → Inv p
+  inv-by p from es n rs l k a s is sane ids strokes = record {
+    is = own-history from s (p .session) es (suc n) rs is ∙ sym (λ i. byHistory (l .0 i) (p .session) (l .1 i) (suc (k i)) (a i));
+    sane = subst (λ (T : Type 0). T) (sym (λ i. Sane (l .0 i) (l .1 i) (suc (k i)) (a i))) sane;
+    low = l .2;
     ids = ids ∙ ap countdown (sym k);
     strokes = strokes;
   }
 
   module _ (p : Run) (v : Inv p) where
+    abbrev from : Record
+    from = startOf base p
+
     abbrev es : List Edit
-    es = left (p .marks)
+    es = keptOf p
 
     abbrev n : ℕ
     n = logsMade (p .marks)
@@ -151,33 +168,57 @@ module _ (base : Record) where
     next = suc n
 
     pub formed : wellFormed (p .session) ≡ true
-    formed = ap wellFormed (v .is) ∙ history-formed base (p .session) es next rs (v .sane)
+    formed = ap wellFormed (v .is) ∙ history-formed from (p .session) es next rs (v .sane)
 
-    pub held-is : p .session .held ≡ applied base es
+    pub held-kept : p .session .held ≡ applied from es
     unfolding byHistory standing renewed
-    held-is = ap (λ (s : Session). s .held) (v .is)
+    held-kept = ap (λ (s : Session). s .held) (v .is)
+
+    pub held-is : p .session .held ≡ applied base (left (p .marks))
+    held-is = held-kept ∙ whole-record base (p .gone) (left (p .marks))
 
     pub next-is : p .session .next ≡ suc n
     unfolding byHistory standing renewed
     next-is = ap (λ (s : Session). s .next) (v .is)
 
-    pub worked-is : p .session .worked ≡ workedOf (applied base es)
+    pub worked-is : p .session .worked ≡ workedOf (applied base (left (p .marks)))
     unfolding byHistory standing renewed
-    worked-is = ap (λ (s : Session). s .worked) (v .is)
+    worked-is = ap (λ (s : Session). s .worked) (v .is) ∙ ap workedOf (whole-record base (p .gone) (left (p .marks)))
 
-    pub journal-is : p .session .journal ≡ padded (journalOf base es)
+    pub journal-is : p .session .journal ≡ padded (journalOf from es)
     unfolding byHistory standing byWay renewed
     journal-is = ap (λ (s : Session). s .journal) (v .is)
 
-    pub used-is : p .session .used ≡ length (journalOf base es)
+    pub used-is : p .session .used ≡ length (journalOf from es)
     unfolding byHistory standing byWay renewed
     used-is = ap (λ (s : Session). s .used) (v .is)
 
     ok : recordOk (p .session .held) (p .session .next) ≡ true
-    ok = subst (λ (r : Record). recordOk r (p .session .next) ≡ true) (sym held-is) (subst (λ (k : ℕ). recordOk (applied base es) k ≡ true) (sym next-is) (v .sane .ok))
+    ok = subst (λ (r : Record). recordOk r (p .session .next) ≡ true) (sym held-kept) (subst (λ (k : ℕ). recordOk (applied from es) k ≡ true) (sym next-is) (v .sane .ok))
 
     typed : TypedRecord (p .session .held)
-    typed = subst TypedRecord (sym held-is) (v .sane .typed)
+    typed = subst TypedRecord (sym held-kept) (v .sane .typed)
+
+    -- ---- where a run that goes on starts from
+
+    started : (q : Run) (l : List Edit) → q .gone ≡ p .gone → left (q .marks) ≡ l → (from′ : Record) (ks : List Edit) → applied base (oldestOf (p .gone) l) ≡ from′
+        → newerThan (p .gone) l ≡ ks → p .gone ≤ length l → Starts q from′ ks
+    started q l g is from′ ks a b c = (
+      (λ i. applied base (oldestOf (g i) (is i))) ∙ a,
+      (λ i. newerThan (g i) (is i)) ∙ b,
+      subst (λ (k : ℕ). k ≤ length (left (q .marks))) (sym g) (subst (λ (x : List Edit). p .gone ≤ length x) (sym is) c),
+    )
+
+    -- with one change more, or the newest less
+    pub starts-more : (q : Run) (e : Edit) → q .gone ≡ p .gone → left (q .marks) ≡ e ∷ left (p .marks) → Starts q from (e ∷ es)
+    starts-more q e g is =
+        started q (e ∷ left (p .marks)) g is from (e ∷ es) (ap (applied base) (oldest-more (p .gone) e (left (p .marks)) (v .low)))
+        (newer-more (p .gone) e (left (p .marks)) (v .low)) (omega (arith, v .low))
+
+    starts-less : (q : Run) (e : Edit) (x : List Edit) (k : Newest-kept (p .gone) (left (p .marks)) e x) → q .gone ≡ p .gone → left (q .marks) ≡ k .older → Starts q from x
+    starts-less q e x k g is =
+        started q (k .older) g is from x
+        (ap (applied base) (sym (ap (oldestOf (p .gone)) (k .are) ∙ oldest-more (p .gone) e (k .older) (k .low)))) (k .kept) (k .low)
 
     -- ---- an exchange: refused, replied to, or a change more
 
@@ -186,25 +227,26 @@ module _ (base : Record) where
 
     changed : (e : Edit) → Made (p .session .held) (p .session .next) (e .tables) (e .change) → carriedOf (p .session) e .full ≡ false
         → Inv (did p (carriedOf (p .session) e .session) (adds e))
-    unfolding did marked undosAfter sinceAfter logsMade
+    unfolding did marked undosAfter sinceAfter goneAfter logsMade
     changed e m f =
-        let made : Made (applied base es) next (e .tables) (e .change) =
-        subst (λ (k : ℕ). Made (applied base es) k (e .tables) (e .change)) next-is (subst (λ (r : Record). Made r (p .session .next) (e .tables) (e .change)) held-is m) in
-        let fits : carriedOf (byHistory base (p .session) es next rs) e .full ≡ false = ap (λ (s : Session). carriedOf s e .full) (sym (v .is)) ∙ f in
+        let made : Made (applied from es) next (e .tables) (e .change) =
+        subst (λ (k : ℕ). Made (applied from es) k (e .tables) (e .change)) next-is (subst (λ (r : Record). Made r (p .session .next) (e .tables) (e .change)) held-kept m) in
+        let fits : carriedOf (byHistory from (p .session) es next rs) e .full ≡ false = ap (λ (s : Session). carriedOf s e .full) (sym (v .is)) ∙ f in
         let up : next + madeOf (e .change) ≡ suc (n + madeOf (e .change)) = suc-add n (madeOf (e .change)) in
-        inv-by (did p (carriedOf (p .session) e .session) (adds e)) (e ∷ es) (n + madeOf (e .change)) [] (left-change e (p .marks)) refl (off-change (v .strokes) e)
+        inv-by (did p (carriedOf (p .session) e .session) (adds e)) from (e ∷ es) (n + madeOf (e .change)) [] (starts-more (did p (carriedOf (p .session) e .session) (adds e)) e refl (left-change e (p .marks))) refl (off-change (v .strokes) e)
         (p .session)
-        (ap (λ (s : Session). carriedOf s e .session) (v .is) ∙ carried-history base (p .session) e es next rs (v .sane) made fits ∙ ap (λ (k : ℕ). byHistory base (p .session) (e ∷ es) k []) up)
-        (subst (λ (k : ℕ). Sane base (e ∷ es) k []) up (carried-sane base (p .session) e es next rs (v .sane) made fits))
-        (ids-add (record { edit = e; stroke = 0 }) (p .marks) (drew (applied base es) next (e .tables) (e .change) made) (v .ids))
+        (ap (λ (s : Session). carriedOf s e .session) (v .is) ∙ carried-history from (p .session) e es next rs (v .sane) made fits ∙ ap (λ (k : ℕ). byHistory from (p .session) (e ∷ es) k []) up)
+        (subst (λ (k : ℕ). Sane from (e ∷ es) k []) up (carried-sane from (p .session) e es next rs (v .sane) made fits))
+        (ids-add (record { edit = e; stroke = 0 }) (p .marks) (drew (applied from es) next (e .tables) (e .change) made) (v .ids))
         (strokes-change (v .strokes) e)
 
     follow : (d : List ℕ) (bell : ℕ) (y : List ℕ) (a : Asks) → Sound (p .session) a → Speaks (p .session) d bell y a → Follows (settled (p .session) d a) (deedBy (p .session) a)
-    unfolding settled deedBy carriedSays adding kept done did marked undosAfter sinceAfter
+    unfolding settled deedBy carriedSays adding kept done did marked undosAfter sinceAfter goneAfter
     follow d bell y (refuses m) h k = v
     follow d bell y (tells b z) h k = v
     follow d bell y (makes e b z) h k = by-both Follows (carriedOf (p .session) e .full) (λ f. v) (λ f. changed e h f)
     follow d bell y (moves w at e) h k = absurd k
+    follow d bell y (forgets m) h k = absurd k
 
     -- ---- undo and redo, by what they ask
 
@@ -213,7 +255,7 @@ module _ (base : Record) where
 
     -- nothing to move
     none-moved : (w : Way) (m : ℕ) → Moves w (refuses m)
-    unfolding settled deedBy kept did marked undosAfter sinceAfter
+    unfolding settled deedBy kept did marked undosAfter sinceAfter goneAfter
     none-moved w m = v
 
     -- the call gives this session, and counts as this deed
@@ -229,22 +271,23 @@ module _ (base : Record) where
       pub after : Moves Before (moveAsks Before (p .session))
 
     undo-gives : (x : List Edit) → es ≡ x → UndoGives x
-    unfolding undoAnswer moveCall settled kept done did marked undosAfter sinceAfter byWay
+    unfolding undoAnswer moveCall settled kept done did marked undosAfter sinceAfter goneAfter byWay
     undo-gives [] q =
-        let sane = subst (λ (l : List Edit). Sane base l next rs) q (v .sane) in
-        let asked = ap (moveAsks Before) (v .is ∙ ap (λ (l : List Edit). byHistory base (p .session) l next rs) q) ∙ undo-nothing base (p .session) next rs sane in
+        let sane = subst (λ (l : List Edit). Sane from l next rs) q (v .sane) in
+        let asked = ap (moveAsks Before) (v .is ∙ ap (λ (l : List Edit). byHistory from (p .session) l next rs) q) ∙ undo-nothing from (p .session) next rs sane in
         record { answer = ap (λ (a : Asks). settled (p .session) [] a .answer) asked; after = subst (Moves Before) (sym asked) (none-moved Before 6) }
     undo-gives (e ∷ x) q =
-        let sane = subst (λ (l : List Edit). Sane base l next rs) q (v .sane) in
-        let is = v .is ∙ ap (λ (l : List Edit). byHistory base (p .session) l next rs) q in
-        let gives = ap (moveCall Before) is ∙ undo-history base (p .session) e x next rs sane in
-        let t = byHistory base (p .session) x next (e ∷ rs) in
+        let sane = subst (λ (l : List Edit). Sane from l next rs) q (v .sane) in
+        let is = v .is ∙ ap (λ (l : List Edit). byHistory from (p .session) l next rs) q in
+        let gives = ap (moveCall Before) is ∙ undo-history from (p .session) e x next rs sane in
+        let t = byHistory from (p .session) x next (e ∷ rs) in
+        let k = newest-kept (p .gone) (left (p .marks)) e x (v .low) q in
         record {
           answer = ap (λ (m : Said). m .answer) gives;
           after =
-              moved-to Before _ _ t _ (ap (moveAsks Before) is ∙ undo-asks base (p .session) e x next rs sane) gives
-              (inv-by (did p t strikes) x n (e ∷ rs) (left-undo (v .strokes) q) (logs-strike (suc (p .undos)) (p .marks)) (off-undo (v .strokes) q) (p .session) refl
-              (undone-sane base (p .session) e x next rs sane) (ids-strike (suc (p .undos)) (p .marks) ∙ v .ids) (strokes-undo (v .strokes) q));
+              moved-to Before _ _ t _ (ap (moveAsks Before) is ∙ undo-asks from (p .session) e x next rs sane) gives
+              (inv-by (did p t strikes) from x n (e ∷ rs) (starts-less (did p t strikes) e x k refl (left-undo (v .strokes) (k .are))) (logs-strike (suc (p .undos)) (p .marks)) (off-undo (v .strokes) (k .are)) (p .session) refl
+              (undone-sane from (p .session) e x next rs sane) (ids-strike (suc (p .undos)) (p .marks) ∙ v .ids) (strokes-undo (v .strokes) (k .are)));
         }
 
     pub undo-answer : undoCall (p .session) .answer ≡ undoAnswer es
@@ -255,26 +298,51 @@ module _ (base : Record) where
       pub after : Moves After (moveAsks After (p .session))
 
     redo-gives : (x : List Edit) → rs ≡ x → RedoGives x
-    unfolding moveCall settled kept done did marked undosAfter sinceAfter byWay
+    unfolding moveCall settled kept done did marked undosAfter sinceAfter goneAfter byWay
     redo-gives [] q =
-        let sane = subst (Sane base es next) q (v .sane) in
-        let asked = ap (moveAsks After) (v .is ∙ ap (byHistory base (p .session) es next) q) ∙ redo-nothing base (p .session) es next sane in
+        let sane = subst (Sane from es next) q (v .sane) in
+        let asked = ap (moveAsks After) (v .is ∙ ap (byHistory from (p .session) es next) q) ∙ redo-nothing from (p .session) es next sane in
         record { answer = ap (λ (a : Asks). settled (p .session) [] a .answer) asked; after = subst (Moves After) (sym asked) (none-moved After 8) }
     redo-gives (e ∷ x) q =
-        let sane = subst (Sane base es next) q (v .sane) in
-        let is = v .is ∙ ap (byHistory base (p .session) es next) q in
-        let gives = ap (moveCall After) is ∙ redo-history base (p .session) e es next x sane in
-        let t = byHistory base (p .session) (e ∷ es) next x in
+        let sane = subst (Sane from es next) q (v .sane) in
+        let is = v .is ∙ ap (byHistory from (p .session) es next) q in
+        let gives = ap (moveCall After) is ∙ redo-history from (p .session) e es next x sane in
+        let t = byHistory from (p .session) (e ∷ es) next x in
         record {
           answer = ap (λ (m : Said). m .answer) gives;
           after =
-              moved-to After _ _ t _ (ap (moveAsks After) is ∙ redo-asks base (p .session) e es next x sane) gives
-              (inv-by (did p t unstrikes) (e ∷ es) n x (left-redo (v .strokes) q) (logs-unstrike (latest (p .marks)) (p .marks)) (off-redo (v .strokes) q) (p .session) refl
-              (redone-sane base (p .session) e es next x sane) (ids-unstrike (latest (p .marks)) (p .marks) ∙ v .ids) (strokes-redo (v .strokes) q));
+              moved-to After _ _ t _ (ap (moveAsks After) is ∙ redo-asks from (p .session) e es next x sane) gives
+              (inv-by (did p t unstrikes) from (e ∷ es) n x (starts-more (did p t unstrikes) e refl (left-redo (v .strokes) q)) (logs-unstrike (latest (p .marks)) (p .marks)) (off-redo (v .strokes) q) (p .session) refl
+              (redone-sane from (p .session) e es next x sane) (ids-unstrike (latest (p .marks)) (p .marks) ∙ v .ids) (strokes-redo (v .strokes) q));
         }
 
     pub redo-answer-is : redoCall (p .session) .answer ≡ answerOf rs
     redo-answer-is = redo-gives rs refl .answer
+
+    -- ---- forgetting
+
+    forget-asked : (m : ℕ) → forgetAsks m (p .session) ≡ cond (ltb (length es) m) (refuses 9) (forgets m)
+    forget-asked m = ap (forgetAsks m) (v .is) ∙ forget-asks from (p .session) es next rs (v .sane) m
+
+    dropped : (m : ℕ) → m ≤ length es → Inv (did p (forgotten m (p .session)) (drops m))
+    unfolding did marked undosAfter sinceAfter goneAfter
+    dropped m few =
+        let l = left (p .marks) in
+        inv-by (did p (forgotten m (p .session)) (drops m)) (applied from (oldestOf m es)) (newerThan m es) n rs
+        (start-twice (p .gone) m l (v .low) few base, newer-twice (p .gone) m l (v .low) few, omega (arith, v .low, few, newer-count (p .gone) l)) refl refl (p .session)
+        (ap (forgotten m) (v .is) ∙ forget-history from (p .session) es next rs (v .sane) m few) (forget-sane from (p .session) es next rs (v .sane) m few) (v .ids) (v .strokes)
+
+    forget-gives : (m : ℕ) → Follows (settled (p .session) [] (forgetAsks m (p .session))) (deedBy (p .session) (forgetAsks m (p .session)))
+    unfolding settled deedBy kept done did marked undosAfter sinceAfter goneAfter
+    forget-gives m =
+        subst (λ (a : Asks). Follows (settled (p .session) [] a) (deedBy (p .session) a)) (sym (forget-asked m))
+        (cond-cases (λ (a : Asks). Follows (settled (p .session) [] a) (deedBy (p .session) a)) (ltb (length es) m) (λ t. v) (λ t. dropped m (ltb-false (length es) m t)))
+
+    pub forget-answer : (m : ℕ) → forgetCall m (p .session) .answer ≡ forgetAnswer m es
+    unfolding forgetCall forgetAnswer settled kept done
+    forget-answer m =
+        ap (λ (a : Asks). settled (p .session) [] a .answer) (forget-asked m)
+        ∙ by-both (λ (a : Asks) (k : ℕ). settled (p .session) [] a .answer ≡ k) (ltb (length es) m) (λ t. refl) (λ t. refl)
 
     -- ---- any call
 
@@ -284,17 +352,28 @@ module _ (base : Record) where
     next-inv (sbe r d) b = follow d _ _ (sbes.sbeAsks (p .session) r d) (sbe-sound (p .session) r d b) (sbe-speaks (p .session) r d)
     next-inv undo b = undo-gives es refl .after
     next-inv redo b = redo-gives rs refl .after
+    next-inv (forget m) b = forget-gives m
 
     -- answers 1 and 7 never come
     never : (c : Call) → OfBytes c → (said (p .session) c .answer ≡ 1 → ⊥) × (said (p .session) c .answer ≡ 7 → ⊥)
-    unfolding said asks bufferOf moveCall
+    unfolding said asks bufferOf moveCall forgetCall
     never (occ sender c d) b = settled-fair (p .session) d _ (occ-fair (p .session) formed sender c d)
     never (sbe r d) b = settled-fair (p .session) d _ (sbe-fair (p .session) formed r d)
     never undo b = subst Fair (sym undo-answer) (undo-fair es)
     never redo b = subst Fair (sym redo-answer-is) (redo-fair rs)
+    never (forget m) b = subst Fair (sym (forget-answer m)) (forget-fair m es)
 
     demand : Demand3 base p
-    demand = record { record-is = held-is; worked-is = worked-is; next-is = next-is; undo-is = undo-answer; redo-is = redo-answer-is ∙ sym (redo-answer (v .strokes)); never = never }
+    demand = record {
+      record-is = held-is;
+      worked-is = worked-is;
+      next-is = next-is;
+      starts-from = held-kept;
+      undo-is = undo-answer;
+      redo-is = redo-answer-is ∙ sym (redo-answer (v .strokes));
+      forget-is = forget-answer;
+      never = never;
+    }
 
   -- ---- any calls
 

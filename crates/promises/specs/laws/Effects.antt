@@ -32,7 +32,7 @@ use Rattle.occ.specs.declared.Verdict.the-variants.{Make}
 use Rattle.occ.specs.laws.Exactly.{found-there}
 use Rattle.sbe.specs.Mailbox.{responseBytes}
 use Rattle.session.specs.Session.{renewed, madeOf, carriedTo, carriedOf}
-use Rattle.session.specs.Road.{Asks, refuses, tells, makes, moves, Said, kept, done, carriedSays, settled}
+use Rattle.session.specs.Road.{Asks, refuses, tells, makes, moves, forgets, Said, kept, done, carriedSays, settled}
 use Rattle.session.specs.laws.Session.{Formed, formed}
 use Rattle.session.specs.declared.Session.{Session}
 use Rattle.occ_call.specs.Occ as occs
@@ -40,7 +40,7 @@ use Rattle.sbe_call.specs.Sbe as sbes
 use Rattle.links.specs.Typed.{TypedSession}
 use Rattle.links.specs.laws.Made.{Made}
 use Rattle.promises.specs.Calls.{Call, occ, sbe, bufferOf, asks, said}
-use Rattle.promises.specs.History.{Deed, keeps, adds, strikes, unstrikes, adding, deedBy, deed}
+use Rattle.promises.specs.History.{Deed, keeps, adds, strikes, unstrikes, drops, adding, deedBy, deed}
 use Rattle.promises.specs.Demand1.{OccDue}
 use Rattle.promises.specs.Demand2.{atFront, NotPoll, successReply, OccSucceeds, SbeSucceeds}
 use Rattle.promises.specs.Effects.{becomes, OccEffect, poll, clear-log, set-state, set-role, set-caps, set-throttles, set-thermal, set-user, reset, reset-logged, SbeEffect, start-deadman, stop-deadman, set-mask, set-areas}
@@ -128,12 +128,14 @@ isAdded keeps = false
 isAdded (adds e) = true
 isAdded strikes = false
 isAdded unstrikes = false
+isAdded (drops n) = false
 
 abbrev isMoved : Deed → Bool
 isMoved keeps = false
 isMoved (adds e) = false
 isMoved strikes = true
 isMoved unstrikes = true
+isMoved (drops n) = true
 
 keeps-not : (e : Edit) → keeps ≡ adds e → ⊥
 keeps-not e p = false≢true (ap isAdded p)
@@ -144,6 +146,9 @@ strikes-not e p = false≢true (ap isAdded p)
 unstrikes-not : (e : Edit) → unstrikes ≡ adds e → ⊥
 unstrikes-not e p = false≢true (ap isAdded p)
 
+drops-not : (n : ℕ) (e : Edit) → drops n ≡ adds e → ⊥
+drops-not n e p = false≢true (ap isAdded p)
+
 pub added-not : (e : Edit) → adds e ≡ keeps → ⊥
 added-not e p = false≢true (sym (ap isAdded p))
 
@@ -152,6 +157,9 @@ struck-not p = false≢true (sym (ap isMoved p))
 
 pub unstruck-not : unstrikes ≡ keeps → ⊥
 unstruck-not p = false≢true (sym (ap isMoved p))
+
+pub dropped-not : (n : ℕ) → drops n ≡ keeps → ⊥
+dropped-not n p = false≢true (sym (ap isMoved p))
 
 same-edit : (a b : Edit) → adds a ≡ adds b → a ≡ b
 same-edit a b p = cc
@@ -291,6 +299,7 @@ module _ (s : Session) (x : Edit) where
   asked-shown d (makes e bell y) = by-both Showing (carriedOf s e .full) (λ f p. absurd (keeps-not x p)) (λ f p. counted e p f)
   asked-shown d (moves Before at e) = λ p. absurd (strikes-not x p)
   asked-shown d (moves After at e) = λ p. absurd (unstrikes-not x p)
+  asked-shown d (forgets n) = λ p. absurd (drops-not n x p)
 
   pub deed-shown : (c : Call) → deed s c ≡ adds x → said s c .session .held ≡ putOf (s .held) x .after
   unfolding said deed

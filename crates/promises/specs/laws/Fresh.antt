@@ -33,9 +33,4 @@ fresh-sane = record { small = omega arith; fits = omega arith; ok = fresh-ok; ty
 
 pub fresh-start : Inv freshRecord (start freshSession)
 unfolding computedSession start left logsMade off idsMade countdown byHistory standing byWay padded backs flat applied
-fresh-start = record { is = refl; sane = fresh-sane; ids = refl; strokes = strokes-start }
-
--- a fresh record has no log, so no id in it differs
-pub fresh-still : (k : ℕ) → 1 ≤ k → shiftedRecord k freshRecord ≡ freshRecord
-unfolding computedSession shiftedRecord withLogs
-fresh-still k low = λ i. withLogs freshRecord (replicate 4 (no-log k low i))
+fresh-start = record { is = refl; sane = fresh-sane; low = omega arith; ids = refl; strokes = strokes-start }

@@ -37,7 +37,7 @@ use Rattle.occ_call.specs.laws.Why.{asked-read}
 use Rattle.sbe_call.specs.Sbe as sbes
 use Rattle.undo_call.specs.Undo.{moveAsks, passedBy}
 use Rattle.promises.specs.Calls.{Call, occ, bufferOf, asks, said}
-use Rattle.promises.specs.History.{Deed, keeps, adds, strikes, unstrikes, adding, deedBy, deed, OfBytes}
+use Rattle.promises.specs.History.{Deed, keeps, adds, strikes, unstrikes, drops, adding, deedBy, deed, OfBytes}
 use Rattle.promises.specs.laws.Shifted.{shiftedChange, shiftedEdit, choose}
 use Rattle.promises.specs.Shifted.{shiftedRecord}
 use Rattle.promises.specs.Lent.{told}
@@ -52,6 +52,7 @@ shiftedDeed k keeps = keeps
 shiftedDeed k (adds e) = adds (shiftedEdit k e)
 shiftedDeed k strikes = strikes
 shiftedDeed k unstrikes = unstrikes
+shiftedDeed k (drops n) = drops n
 
 -- ---- what is asked in both worlds
 

@@ -6,12 +6,12 @@ use Rattle.wire.specs.laws.Cases.{by-both}
 use Rattle.journal.specs.Ways.{byWay}
 use Rattle.journal.specs.declared.Way.the-variants.{Before, After}
 use Rattle.session.specs.Session.{carriedOf}
-use Rattle.session.specs.Road.{Asks, refuses, tells, makes, moves, Said, kept, done, carriedSays, settled}
+use Rattle.session.specs.Road.{Asks, refuses, tells, makes, moves, forgets, Said, kept, done, carriedSays, settled}
 use Rattle.session.specs.declared.Session.{Session}
 use Rattle.promises.specs.Calls.{Call, bufferOf, asks, said}
 use Rattle.promises.specs.History.{Deed, keeps, adding, deedBy, deed}
 use Rattle.promises.specs.NoTrace.{handedOn, AllKeep}
-use Rattle.promises.specs.laws.Effects.{added-not, struck-not, unstruck-not}
+use Rattle.promises.specs.laws.Effects.{added-not, struck-not, unstruck-not, dropped-not}
 
 module _ (s : Session) where
   abbrev Stays : Said → Deed → Type 0
@@ -24,6 +24,7 @@ module _ (s : Session) where
   asked-stays d (makes e bell y) = by-both Stays (carriedOf s e .full) (λ f p. refl) (λ f p. absurd (added-not e p))
   asked-stays d (moves Before at e) = λ p. absurd (struck-not p)
   asked-stays d (moves After at e) = λ p. absurd (unstruck-not p)
+  asked-stays d (forgets n) = λ p. absurd (dropped-not n p)
 
   pub kept-session : (c : Call) → deed s c ≡ keeps → said s c .session ≡ s
   unfolding said deed

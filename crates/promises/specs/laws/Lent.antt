@@ -21,6 +21,7 @@ use Rattle.journal.specs.declared.Way.the-variants.{Before, After}
 use Rattle.journal.specs.Ways.{byWay}
 use Rattle.session.specs.Road.{Said}
 use Rattle.undo_call.specs.Undo.{moveCall, passedBy, movedLeft, moveOn}
+use Rattle.forget_call.specs.Forget.{forgetLeft, forgetCall, forgetOn}
 use Rattle.wire.specs.Wire.{Bytes}
 use Rattle.image.specs.Image.{imageOf, sessionOf}
 use Rattle.layout.specs.Layout.{imageLength}
@@ -29,10 +30,10 @@ use Rattle.image.specs.laws.Typed.{typed-image}
 use Rattle.inplace.specs.InPlace.{Left, onImage}
 use Rattle.inplace.specs.laws.InPlace.{on-image}
 use Rattle.bjargolsk.specs.Calls.{packed, answerIn, freshOn}
-use Rattle.bjargolsk.specs.laws.Calls.{occ-refused, sbe-refused, undo-refused, redo-refused}
-use Rattle.promises.specs.Calls.{Call, occ, sbe, undo, redo, bufferOf, asks, said}
-use Rattle.promises.specs.Marks.{left, logsMade}
-use Rattle.promises.specs.History.{applied, Run, did, next-run, run, AllOfBytes}
+use Rattle.bjargolsk.specs.laws.Calls.{occ-refused, sbe-refused, undo-refused, redo-refused, forget-refused}
+use Rattle.promises.specs.Calls.{Call, occ, sbe, undo, redo, forget, bufferOf, asks, said}
+use Rattle.promises.specs.Marks.{logsMade}
+use Rattle.promises.specs.History.{applied, keptOf, startOf, Run, did, next-run, run, AllOfBytes}
 use Rattle.promises.specs.laws.Stores.{length-padded, flat}
 use Rattle.promises.specs.laws.ByHistory.{standing, journalOf, byHistory, Sane}
 use Rattle.promises.specs.laws.Demand3.{redoable, Inv, next-inv}
@@ -75,11 +76,16 @@ module _ (s : Session) (t : Typed s) where
   unfolding moveOn
   move-on w = on-image _ [] s t
 
+  forget-on : (n : ℕ) → forgetOn n b ≡ forgetLeft (forgetCall n s)
+  unfolding forgetOn
+  forget-on n = on-image _ [] s t
+
   pub lent-said : (c : Call) → lent b c ≡ carriedOver s c
-  unfolding lent carriedOver told said asks bufferOf occs.occLeft occs.occCall sbes.sbeLeft sbes.sbeCall passedBy byWay movedLeft moveCall
+  unfolding lent carriedOver told said asks bufferOf occs.occLeft occs.occCall sbes.sbeLeft sbes.sbeCall passedBy byWay movedLeft moveCall forgetLeft forgetCall
   lent-said (occ sender c d) = ap as-lent (occ-on sender c d)
   lent-said (sbe r d) = ap as-lent (sbe-on r d)
   lent-said undo = ap as-lent (move-on Before)
+  lent-said (forget n) = ap as-lent (forget-on n)
   lent-said redo = ap as-lent (move-on After ∙ none-reported (moveCall After s))
 
 -- ---- every image, right or damaged
@@ -95,14 +101,16 @@ module _ (b : List ℕ) (bytes : Bytes b) where
   every-byte (sbe r d) = sbe-refused b bytes r d
   every-byte undo = undo-refused b bytes
   every-byte redo = redo-refused b bytes
+  every-byte (forget n) = forget-refused b bytes n
 
 -- bytes of another length
 pub no-session : (b : List ℕ) → (length b ≡ imageLength → ⊥) → (c : Call) → lent b c ≡ record { result = 1; image = b; reply = bufferOf c }
-unfolding lent bufferOf packed occs.occOn sbes.sbeOn moveOn onImage
+unfolding lent bufferOf packed occs.occOn sbes.sbeOn moveOn forgetOn onImage
 no-session b z (occ sender c d) = sym (ap as-lent (if-ne _ _ z refl))
 no-session b z (sbe r d) = sym (ap as-lent (if-ne _ _ z refl))
 no-session b z undo = sym (ap as-lent (if-ne _ _ z refl))
 no-session b z redo = sym (ap as-lent (if-ne _ _ z refl))
+no-session b z (forget n) = sym (ap as-lent (if-ne _ _ z refl))
 
 -- ---- every session of a history has what the types say
 
@@ -114,26 +122,26 @@ limit-fits role got user caps f u =
     (cond-elim Small (eqb got 0) (omega arith)
     (cond-elim Small (eqb user 0) (f .max) (cond-elim Small (ltb user (caps .min)) (f .min) (cond-elim Small (ltb (caps .max) user) (f .max) u))))
 
-module _ (base : Record) where
-  history-typed : (s : Session) (es : List Edit) (next : ℕ) (rs : List Edit) → Sane base es next rs → Typed (byHistory base s es next rs)
-  unfolding byHistory standing byWay renewed workedOf
-  history-typed s es next rs g =
-      let r = applied base es in
-      record {
-        session = record {
-          held = g .typed;
-          journal = length-padded (journalOf base es) (omega (arith, g .fits));
-          next = omega (arith, g .small);
-          used = omega (arith, g .fits);
-          redo = length-padded (flat rs) (omega (arith, g .fits));
-          ahead = omega (arith, g .fits);
-          marks = length-marks _;
-        };
-        limit = limit-fits (r .role) (r .received .caps) (r .user) (r .caps) (g .typed .caps) (g .typed .user);
-      }
+history-typed : (base : Record) (s : Session) (es : List Edit) (next : ℕ) (rs : List Edit) → Sane base es next rs → Typed (byHistory base s es next rs)
+unfolding byHistory standing byWay renewed workedOf
+history-typed base s es next rs g =
+    let r = applied base es in
+    record {
+      session = record {
+        held = g .typed;
+        journal = length-padded (journalOf base es) (omega (arith, g .fits));
+        next = omega (arith, g .small);
+        used = omega (arith, g .fits);
+        redo = length-padded (flat rs) (omega (arith, g .fits));
+        ahead = omega (arith, g .fits);
+        marks = length-marks _;
+      };
+      limit = limit-fits (r .role) (r .received .caps) (r .user) (r .caps) (g .typed .caps) (g .typed .user);
+    }
 
+module _ (base : Record) where
   pub run-typed : (p : Run) → Inv base p → Typed (p .session)
-  run-typed p v = subst Typed (sym (v .is)) (history-typed (p .session) (left (p .marks)) (suc (logsMade (p .marks))) (redoable base p) (v .sane))
+  run-typed p v = subst Typed (sym (v .is)) (history-typed (startOf base p) (p .session) (keptOf p) (suc (logsMade (p .marks))) (redoable base p) (v .sane))
 
   pub lent-run : (cs : List Call) (p : Run) → AllOfBytes cs → Inv base p → lentRun (imageOf (p .session)) cs ≡ imageOf (run p cs .session)
   unfolding lentRun carriedOver run next-run did

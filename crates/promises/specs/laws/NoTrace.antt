@@ -3,7 +3,7 @@ use Prim.Native.Nat.{ℕ, zero, suc, _+_, _≤_, _<_}
 use mathlib.Core.Bool.{true}
 use mathlib.Core.Logic.{⊎-elim}
 use mathlib.Core.Path.{_≡_, refl, sym, ap, ap₂, subst, _∙_}
-use mathlib.Core.List.{List, [], _∷_, map}
+use mathlib.Core.List.{List, [], _∷_, _++_, map}
 use lib.Dec.{ltb, eqb}
 use lib.ListN.{length, getD, replicate}
 use native.Mathlib.Nat.{suc-add, zero-add, add-zero}
@@ -14,6 +14,7 @@ use Rattle.record.specs.Record.{noLog}
 use Rattle.record.specs.declared.Log.{Log}
 use Rattle.record.specs.declared.Record.{Record}
 use Rattle.change.specs.Logs.{pendsAt}
+use Rattle.change.specs.With.{withLogs}
 use Rattle.change.specs.Change.{madeBy}
 use Rattle.change.specs.declared.Change.{Change}
 use Rattle.change.specs.declared.Change.the-variants.{Clear, Unclear, SetState, SetRole, SetCaps, SetUser, SetThermal, SetThrottles, Reset, Unreset, SetMask, SetDeadman, SetAreas}
@@ -34,13 +35,14 @@ use Rattle.wire.specs.laws.Chains.{passed}
 use Rattle.links.specs.laws.Made.{Made}
 use Rattle.promises.specs.Calls.{Call, undo, redo, bufferOf, asks, said}
 use Rattle.promises.specs.Marks.{Mark, left, logsMade, undoAnswer}
-use Rattle.promises.specs.History.{adds, strikes, deedBy, deed, marked, sinceAfter, applied, Run, did, next-run, OfBytes}
+use Rattle.promises.specs.History.{adds, strikes, deedBy, deed, marked, sinceAfter, goneAfter, applied, oldestOf, keptOf, startOf, Run, did, next-run, OfBytes}
 use Rattle.promises.specs.laws.Ids.{one-made}
 use Rattle.promises.specs.laws.Stores.{padded, paste-padded, flat, flat-length}
 use Rattle.promises.specs.laws.ByHistory.{standing, backs, byHistory, own-settled, Kept, Sane, again-stored}
 use Rattle.promises.specs.laws.Marks.{off-change, left-change}
 use Rattle.promises.specs.laws.Steps.{undo-asks, undo-history, redo-history, undone-sane}
-use Rattle.promises.specs.laws.Demand3.{redoable, Inv, next-inv, next-is, undo-answer}
+use Rattle.promises.specs.laws.Demand3.{redoable, Inv, next-inv, next-is, starts-more, undo-answer}
+use Rattle.promises.specs.laws.Forgetting.{two-parts}
 use Rattle.promises.specs.laws.Aside.{as-before, leftAfter, madeAfter, left-after, made-after, not-redo}
 use Rattle.promises.specs.laws.Struck.{off}
 use Rattle.journal.specs.declared.Way.the-variants.{Before, After}
@@ -98,14 +100,32 @@ edits-stay base k (e ∷ es) low w =
     let same = change-stays k (applied base es) (w .0 .known) (e .tables) (e .change) low (w .0 .ok) (w .0 .below) (w .0 .made) in
     ap₂ (λ (ch : Change) (l : List Edit). record { change = ch; tables = e .tables } ∷ l) same (edits-stay base k es low (w .1))
 
+-- a record whose logs lie below k is the same in both worlds
+logs-stay : (k : ℕ) (l : List Log) → ((p : ℕ) → getD l p noLog .id < k) → map (shiftedLog k) l ≡ l
+logs-stay k [] h = refl
+logs-stay k (x ∷ l) h = ap₂ (λ (y : Log) (m : List Log). y ∷ m) (log-stays k x (h 0)) (logs-stay k l (λ p. h (suc p)))
+
+record-stays : (k : ℕ) (r : Record) → 1 ≤ k → recordOk r k ≡ true → shiftedRecord k r ≡ r
+unfolding shiftedRecord withLogs logsOk
+record-stays k r low ok = ap (withLogs r) (logs-stay k (r .logs) (id-below low (above {low = 0} (sound ok .logs))))
+
+-- the record before the oldest change is well formed at the next id
+start-ok : (base : Record) (hi : ℕ) (es : List Edit) → recordOk (applied base es) hi ≡ true → Kept base hi es → recordOk base hi ≡ true
+unfolding applied
+start-ok base hi [] ok k = ok
+start-ok base hi (e ∷ es) ok k = start-ok base hi es (k .0 .ok) (k .1)
+
 -- ---- a change and its undo
 
 module _ (base : Record) (p : Run) (v : Inv base p) (c : Call) (b : OfBytes c) (e : Edit) (made : deed (p .session) c ≡ adds e) where
   abbrev q : Run
   q = next-run p c
 
+  abbrev from : Record
+  from = startOf base p
+
   abbrev es : List Edit
-  es = left (p .marks)
+  es = keptOf p
 
   abbrev m : ℕ
   m = logsMade (p .marks) + madeOf (e .change)
@@ -117,8 +137,17 @@ module _ (base : Record) (p : Run) (v : Inv base p) (c : Call) (b : OfBytes c) (
   unfolding next-run did marked
   marks-are = ap (marked (p .undos) (p .marks)) made
 
-  left-are : left (q .marks) ≡ e ∷ es
+  left-are : left (q .marks) ≡ e ∷ left (p .marks)
   left-are = ap left marks-are ∙ left-change e (p .marks)
+
+  gone-are : q .gone ≡ p .gone
+  unfolding next-run did goneAfter
+  gone-are = ap (goneAfter (p .gone)) made
+
+  -- it is kept, and what was forgotten stays so
+  starts : (startOf base q ≡ from) × (keptOf q ≡ e ∷ es)
+  starts =
+      let s = starts-more base p v q e gone-are left-are in (s .0, s .1)
 
   logs-are : logsMade (q .marks) ≡ m
   unfolding logsMade
@@ -129,36 +158,34 @@ module _ (base : Record) (p : Run) (v : Inv base p) (c : Call) (b : OfBytes c) (
   unfolding next-run did sinceAfter
   none-redoable = ap₂ (λ (n : ℕ) (ms : List Mark). off n ms []) (ap (sinceAfter (p .undos) (p .since)) made) marks-are ∙ off-change (v .strokes) e
 
-  q-is : q .session ≡ byHistory base (q .session) (e ∷ es) (suc m) []
-  q-is = w .is ∙ (λ i. byHistory base (q .session) (left-are i) (suc (logs-are i)) (none-redoable i))
+  q-is : q .session ≡ byHistory from (q .session) (e ∷ es) (suc m) []
+  q-is = w .is ∙ (λ i. byHistory (starts .0 i) (q .session) (starts .1 i) (suc (logs-are i)) (none-redoable i))
 
-  q-sane : Sane base (e ∷ es) (suc m) []
-  q-sane =
-      subst (Sane base (e ∷ es) (suc m)) none-redoable
-      (subst (λ (n : ℕ). Sane base (e ∷ es) (suc n) (redoable base q)) logs-are (subst (λ (l : List Edit). Sane base l (suc (logsMade (q .marks))) (redoable base q)) left-are (w .sane)))
+  q-sane : Sane from (e ∷ es) (suc m) []
+  q-sane = subst (λ (T : Type 0). T) (λ i. Sane (starts .0 i) (starts .1 i) (suc (logs-are i)) (none-redoable i)) (w .sane)
 
-  back-is : undoCall (q .session) .session ≡ byHistory base (q .session) es (suc m) (e ∷ [])
+  back-is : undoCall (q .session) .session ≡ byHistory from (q .session) es (suc m) (e ∷ [])
   unfolding done
-  back-is = ap (λ (s : Session). undoCall s .session) q-is ∙ ap (λ (u : Said). u .session) (undo-history base (q .session) e es (suc m) [] q-sane)
+  back-is = ap (λ (s : Session). undoCall s .session) q-is ∙ ap (λ (u : Said). u .session) (undo-history from (q .session) e es (suc m) [] q-sane)
 
   -- what no change touches is as it was before the change
-  own-is : byHistory base (q .session) es (suc m) (e ∷ []) ≡ byHistory base (p .session) es (suc m) (e ∷ [])
+  own-is : byHistory from (q .session) es (suc m) (e ∷ []) ≡ byHistory from (p .session) es (suc m) (e ∷ [])
   unfolding next-run did said
-  own-is = own-settled base (p .session) (bufferOf c) (asks (p .session) c) es (suc m) (e ∷ [])
+  own-is = own-settled from (p .session) (bufferOf c) (asks (p .session) c) es (suc m) (e ∷ [])
 
   -- the redo store holds that change alone
   one-redoable : padded (flat (e ∷ [])) ≡ pasted 0 (entryBytes e) (replicate 2048 0)
   unfolding flat padded
-  one-redoable = sym (paste-padded [] (entryBytes e) (omega (arith, undone-sane base (q .session) e es (suc m) [] q-sane .fits)))
+  one-redoable = sym (paste-padded [] (entryBytes e) (omega (arith, undone-sane from (q .session) e es (suc m) [] q-sane .fits)))
 
   one-long : length (flat (e ∷ [])) ≡ entryLen e
   unfolding flat
-  one-long = flat-length After e [] (again-stored base (suc m) es (e ∷ []) (undone-sane base (q .session) e es (suc m) [] q-sane .again)) ∙ zero-add (entryLen e)
+  one-long = flat-length After e [] (again-stored from (suc m) es (e ∷ []) (undone-sane from (q .session) e es (suc m) [] q-sane .again)) ∙ zero-add (entryLen e)
 
-  left-so : leaves (byHistory base (p .session) es (suc (logsMade (p .marks))) (redoable base p)) e ≡ byHistory base (p .session) es (suc m) (e ∷ [])
+  left-so : leaves (byHistory from (p .session) es (suc (logsMade (p .marks))) (redoable base p)) e ≡ byHistory from (p .session) es (suc m) (e ∷ [])
   unfolding leaves byHistory standing byWay renewed
   left-so = λ i.
-      renewed (p .session) (applied base es) (suc-add (logsMade (p .marks)) (madeOf (e .change)) i) (padded (flat (backs base es))) (length (flat (backs base es)))
+      renewed (p .session) (applied from es) (suc-add (logsMade (p .marks)) (madeOf (e .change)) i) (padded (flat (backs from es))) (length (flat (backs from es)))
       (sym one-redoable i) (sym one-long i)
 
   next-was : p .session .next ≡ suc (logsMade (p .marks))
@@ -173,7 +200,7 @@ module _ (base : Record) (p : Run) (v : Inv base p) (c : Call) (b : OfBytes c) (
   unfolding said asks bufferOf moveCall done
   redo-brings-back =
       ap (λ (s : Session). redoCall s .session) back-is
-      ∙ ap (λ (u : Said). u .session) (redo-history base (q .session) e es (suc m) [] (undone-sane base (q .session) e es (suc m) [] q-sane))
+      ∙ ap (λ (u : Said). u .session) (redo-history from (q .session) e es (suc m) [] (undone-sane from (q .session) e es (suc m) [] q-sane))
       ∙ sym q-is
 
   -- ---- later
@@ -183,15 +210,19 @@ module _ (base : Record) (p : Run) (v : Inv base p) (c : Call) (b : OfBytes c) (
 
   undo-done : deed (q .session) undo ≡ strikes
   unfolding deed asks deedBy byWay
-  undo-done = ap (λ (s : Session). deedBy (q .session) (moveAsks Before s)) q-is ∙ ap (deedBy (q .session)) (undo-asks base (q .session) e es (suc m) [] q-sane)
+  undo-done = ap (λ (s : Session). deedBy (q .session) (moveAsks Before s)) q-is ∙ ap (deedBy (q .session)) (undo-asks from (q .session) e es (suc m) [] q-sane)
 
-  left-after-is : left (after .marks) ≡ es
+  left-after-is : left (after .marks) ≡ left (p .marks)
   unfolding next-run did leftAfter
   left-after-is = left-after (q .undos) (q .marks) (deed (q .session) undo) (not-redo (q .session) undo tt) ∙ ap₂ leftAfter left-are undo-done
 
   logs-after : logsMade (after .marks) ≡ m
   unfolding next-run did madeAfter
   logs-after = made-after (q .undos) (q .marks) (deed (q .session) undo) (not-redo (q .session) undo tt) ∙ ap₂ madeAfter logs-are undo-done
+
+  gone-after : after .gone ≡ p .gone
+  unfolding next-run did goneAfter
+  gone-after = ap (goneAfter (q .gone)) undo-done ∙ gone-are
 
   -- a change that made no log: every later reply is as if nobody had tried, as long as nobody redoes
   pub later-as-before : madeOf (e .change) ≡ 0 → (cs : List Call) → AllButRedo cs → AsBefore (p .session) (said (q .session) undo .session) cs
@@ -202,6 +233,7 @@ module _ (base : Record) (p : Run) (v : Inv base p) (c : Call) (b : OfBytes c) (
         inv′ = next-inv base q w undo tt;
         left-is = left-after-is;
         made-is = logs-after ∙ ap (λ (k : ℕ). logsMade (p .marks) + k) z ∙ add-zero (logsMade (p .marks));
+        gone-is = gone-after;
       })
 
   -- a change that made a log: from then on both worlds, the one where nobody tried and this one, are alike but for ids
@@ -212,43 +244,52 @@ module _ (base : Record) (p : Run) (v : Inv base p) (c : Call) (b : OfBytes c) (
   k-low : 1 ≤ k
   k-low = omega arith
 
-  beside : (still : shiftedRecord k base ≡ base) → madeOf (e .change) ≡ 1 → Beside base k k-low still p after
-  beside still one =
+  -- the ids in the record that the forgotten changes gave lie below k
+  start-still : shiftedRecord k from ≡ from
+  start-still = record-stays k from k-low (start-ok from k es (v .sane .ok) (v .sane .kept))
+
+  beside : madeOf (e .change) ≡ 1 → Beside base k k-low p after
+  beside one =
       record {
         inv = v;
         inv′ = next-inv base q w undo tt;
-        left-is = left-after-is ∙ sym (edits-stay base k es (omega arith) (v .sane .kept));
+        still = start-still;
+        left-is =
+            left-after-is ∙ sym (two-parts (p .gone) (left (p .marks)))
+            ∙ ap (λ (l : List Edit). l ++ oldestOf (p .gone) (left (p .marks))) (sym (edits-stay from k es k-low (v .sane .kept)));
+        gone-is = gone-after;
         made-is = logs-after ∙ ap (λ (n : ℕ). logsMade (p .marks) + n) one ∙ add-one (logsMade (p .marks));
         from-k = omega arith;
       }
 
-  pub later-alike : (still : shiftedRecord (p .session .next) base ≡ base) → madeOf (e .change) ≡ 1 → (ws : List (Wish (p .session .next)))
+  pub later-alike : madeOf (e .change) ≡ 1 → (ws : List (Wish (p .session .next)))
       → AsIf (p .session .next) (p .session) (said (q .session) undo .session) ws
   unfolding next-run did
   later-alike =
-      subst (λ (i : ℕ). shiftedRecord i base ≡ base → madeOf (e .change) ≡ 1 → (ws : List (Wish i)) → AsIf i (p .session) (after .session) ws) (sym next-was)
-      (λ still one ws. as-if base k k-low still ws p after (beside still one))
+      subst (λ (i : ℕ). madeOf (e .change) ≡ 1 → (ws : List (Wish i)) → AsIf i (p .session) (after .session) ws) (sym next-was)
+      (λ one ws. as-if base k k-low ws p after (beside one))
 
 -- ---- redo after undo gives back the session from before the undo
 
 module _ (base : Record) (p : Run) (v : Inv base p) (accepted : undoCall (p .session) .answer ≡ 0) where
-  some-left : left (p .marks) ≡ [] → ⊥
+  some-left : keptOf p ≡ [] → ⊥
   unfolding undoAnswer
   some-left e = omega (arith, accepted, undo-answer base p v ∙ ap undoAnswer e)
 
   pub redo-undone : redoCall (undoCall (p .session) .session) .session ≡ p .session
   unfolding done
-  redo-undone = go (left (p .marks)) refl
+  redo-undone = go (keptOf p) refl
     where
-      go : (x : List Edit) → left (p .marks) ≡ x → redoCall (undoCall (p .session) .session) .session ≡ p .session
+      go : (x : List Edit) → keptOf p ≡ x → redoCall (undoCall (p .session) .session) .session ≡ p .session
       go [] e = absurd (some-left e)
       go (x ∷ xs) e =
           let s = p .session in
           let n = suc (logsMade (p .marks)) in
           let rs = redoable base p in
-          let is : s ≡ byHistory base s (x ∷ xs) n rs = v .is ∙ ap (λ (l : List Edit). byHistory base s l n rs) e in
-          let sane = subst (λ (l : List Edit). Sane base l n rs) e (v .sane) in
+          let from = startOf base p in
+          let is : s ≡ byHistory from s (x ∷ xs) n rs = v .is ∙ ap (λ (l : List Edit). byHistory from s l n rs) e in
+          let sane = subst (λ (l : List Edit). Sane from l n rs) e (v .sane) in
           ap (λ (t : Session). redoCall (undoCall t .session) .session) is
-          ∙ ap (λ (u : Said). redoCall (u .session) .session) (undo-history base s x xs n rs sane)
-          ∙ ap (λ (u : Said). u .session) (redo-history base s x xs n rs (undone-sane base s x xs n rs sane))
+          ∙ ap (λ (u : Said). redoCall (u .session) .session) (undo-history from s x xs n rs sane)
+          ∙ ap (λ (u : Said). u .session) (redo-history from s x xs n rs (undone-sane from s x xs n rs sane))
           ∙ sym is

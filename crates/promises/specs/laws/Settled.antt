@@ -12,7 +12,7 @@ use Rattle.entries.specs.Entries.{bodyLen}
 use Rattle.journal.specs.Add.{entryLen, endOf}
 use Rattle.journal.specs.declared.End.the-variants.{At, Full}
 use Rattle.session.specs.Session.{carriedTo, carriedOf}
-use Rattle.session.specs.Road.{Asks, refuses, tells, makes, moves, Said, kept, done, carriedSays, settled}
+use Rattle.session.specs.Road.{Asks, refuses, tells, makes, moves, forgets, Said, kept, done, carriedSays, settled}
 use Rattle.session.specs.declared.Session.{Session}
 use Rattle.links.specs.laws.Links.{kind-of-back}
 use Rattle.promises.specs.History.{keeps, adds, adding, deedBy}
@@ -53,3 +53,4 @@ module _ (s t : Session) (full-is : (e : Edit) → carriedOf t e .full ≡ carri
     ap (λ (b : Bool). cond b keeps (adds e)) (full-is e),
   )
   same-settled (moves w at e) = (alike refl refl refl refl, refl)
+  same-settled (forgets n) = (alike refl refl refl refl, refl)

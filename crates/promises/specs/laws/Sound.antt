@@ -4,7 +4,7 @@ use Prim.Native.Nat.{ℕ}
 use mathlib.Core.Bool.{true, not}
 use mathlib.Core.Path.{_≡_, refl}
 use mathlib.Core.List.{List}
-use lib.Dec.{eqb}
+use lib.Dec.{eqb, ltb}
 use lib.ListN.{length, getD}
 use Rattle.wire.specs.Wire.{Bytes}
 use Rattle.wire.specs.laws.Cases.{cond-cases}
@@ -19,9 +19,12 @@ use Rattle.occ.specs.declared.Verdict.the-variants.{Refuse, Poll, Make}
 use Rattle.sbe.specs.Mailbox.{requestRuling}
 use Rattle.sbe.specs.declared.Ruling.{Ruling}
 use Rattle.sbe.specs.declared.Ruling.the-variants.{Decline, Grant}
-use Rattle.session.specs.Road.{Asks, refuses, tells, makes, moves}
+use Rattle.session.specs.Road.{Asks, refuses, tells, makes, moves, forgets}
 use Rattle.session.specs.laws.Road.{due-cases}
+use Rattle.session.specs.Session.{wellFormed}
+use Rattle.session.specs.Road.{heldIn}
 use Rattle.session.specs.declared.Session.{Session}
+use Rattle.forget_call.specs.Forget.{oldestAsks, forgetAsks}
 use Rattle.occ_call.specs.Occ.{occRefusal, verdictAsks, judgedAsks, askedFor, askedOf, occRead, occAsks}
 use Rattle.sbe_call.specs.Sbe.{sbeRefusal, rulingAsks, sbeRead, sbeAsks}
 use Rattle.undo_call.specs.Undo.{moveAsks}
@@ -36,6 +39,7 @@ module _ (s : Session) where
   Sound (refuses n) = Unit {0}
   Sound (tells bell y) = Unit {0}
   Sound (makes e bell y) = Made (s .held) (s .next) (e .tables) (e .change)
+  Sound (forgets n) = Unit {0}
   Sound (moves w at e) = (n : Newest w s e) × (at ≡ length (written (n .older))) × Movable s e
 
   module _ (ok : recordOk (s .held) (s .next) ≡ true) (typed : TypedRecord (s .held)) (sender : ℕ) (c d : List ℕ) (bytes : Bytes c) where
@@ -66,6 +70,10 @@ module _ (s : Session) where
     pub sbe-sound : Sound (sbeAsks s r d)
     unfolding sbeAsks sbeRead
     sbe-sound = due-cases Sound (sbeRefusal s (length r) (length d)) (λ n. tt) (λ z. ruling-sound (requestRuling r) refl)
+
+  pub forget-sound : (n : ℕ) → Sound (forgetAsks n s)
+  unfolding forgetAsks oldestAsks
+  forget-sound n = cond-cases Sound (not (wellFormed s)) (λ f. tt) (λ f. cond-cases Sound (ltb (heldIn s) n) (λ t. tt) (λ t. tt))
 
   module _ (w : Way) where
     called-sound : (a : Asks) → Called w s a → Sound a

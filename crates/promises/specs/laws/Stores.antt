@@ -103,7 +103,7 @@ unfolding pile allOk
 pile-ok w [] a = refl
 pile-ok w (b ∷ bs) a = sym (if-b _ _ (a .0 .good) (sym (pile-ok w bs (a .1))))
 
-pile-written : (bs : List Edit) → written (pile bs) ≡ flat bs
+pub pile-written : (bs : List Edit) → written (pile bs) ≡ flat bs
 unfolding written pile flat entryBytes
 pile-written [] = refl
 pile-written (b ∷ bs) = ap (λ (l : List ℕ). l ++ bytesOf (entryFor b)) (pile-written bs)

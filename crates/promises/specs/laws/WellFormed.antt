@@ -15,11 +15,13 @@ use Rattle.journal.specs.declared.End.{End}
 use Rattle.journal.specs.declared.Way.{Way}
 use Rattle.journal.specs.declared.Way.the-variants.{Before, After}
 use Rattle.session.specs.Session.{wellFormed, renewed, madeOf, carriedTo, carriedOf}
-use Rattle.session.specs.Road.{Asks, refuses, tells, makes, moves, sessionMoved, Said, kept, done, carriedSays, settled}
+use Rattle.session.specs.Road.{Asks, refuses, tells, makes, moves, forgets, sessionMoved, Said, kept, done, carriedSays, settled}
+use Rattle.session.specs.laws.Forgotten.{forgotten-formed}
 use Rattle.session.specs.laws.Session.{Formed, formed, formed-ok}
 use Rattle.session.specs.declared.Session.{Session}
 use Rattle.occ_call.specs.Occ.{occAsks, occCall}
 use Rattle.sbe_call.specs.Sbe.{sbeAsks, sbeCall}
+use Rattle.forget_call.specs.Forget.{forgetAsks, forgetCall}
 use Rattle.undo_call.specs.Undo.{moveAsks, moveCall, undoCall, redoCall}
 use Rattle.links.specs.Typed.{TypedSession}
 use Rattle.links.specs.laws.Made.{Made}
@@ -27,7 +29,7 @@ use Rattle.links.specs.laws.Links.{Link, link}
 use Rattle.promises.specs.laws.FormedStores.{one-more, none-used}
 use Rattle.promises.specs.laws.Moves.{moved-formed}
 use Rattle.promises.specs.laws.Room.{end-room}
-use Rattle.promises.specs.laws.Sound.{Sound, occ-sound, sbe-sound, move-sound}
+use Rattle.promises.specs.laws.Sound.{forget-sound, Sound, occ-sound, sbe-sound, move-sound}
 
 -- ---- a change carried out
 
@@ -73,6 +75,7 @@ module _ (s : Session) (typed : TypedSession s) (whole : wellFormed s ≡ true) 
   unfolding settled carriedSays kept done
   asked-formed (refuses n) h = whole
   asked-formed (tells bell y) h = whole
+  asked-formed (forgets n) h = forgotten-formed n s whole
   asked-formed (makes e bell y) h = cond-cases Whole (carriedOf s e .full) (λ f. whole) (λ f. carried-formed s (formed s whole) typed e h f)
   asked-formed (moves w at e) h =
       subst (λ (k : ℕ). wellFormed (sessionMoved w s k e (putOf (s .held) e .after)) ≡ true) (sym (h .1)) (moved-formed w s (formed s whole) e (h .0) typed (h .2 .1))
@@ -91,6 +94,10 @@ module _ (s : Session) (typed : TypedSession s) (whole : wellFormed s ≡ true) 
   move-formed : (w : Way) → wellFormed (moveCall w s .session) ≡ true
   unfolding moveCall
   move-formed w = asked-formed s typed whole [] (moveAsks w s) (move-sound s w)
+
+  pub forget-formed : (n : ℕ) → wellFormed (forgetCall n s .session) ≡ true
+  unfolding forgetCall
+  forget-formed n = asked-formed s typed whole [] (forgetAsks n s) (forget-sound s n)
 
   pub undo-formed : wellFormed (undoCall s .session) ≡ true
   undo-formed = move-formed Before

@@ -10,7 +10,7 @@ use Rattle.listing.specs.Listing.{tooLong, listing, longest}
 use Rattle.places.specs.Reasons.{wordsFor}
 use Rattle.orders.specs.declared.Wrong.{Wrong}
 use Rattle.layout.specs.Layout.{imageLength}
-use Rattle.orders.specs.declared.Wrong.the-variants.{LongLine, NoWord, MoreText, NoDigit, TooMany, NoImage, NoNumber, LongBuffer}
+use Rattle.orders.specs.declared.Wrong.the-variants.{LongLine, NoWord, MoreText, NoDigit, TooMany, NoImage, NoNumber, LongBuffer, GreatNumber}
 
 -- "Every answer line ends in one LF"
 unfoldable pub lineText : List ℕ → List (List ℕ)
@@ -33,6 +33,7 @@ complaintText TooMany column = columnText (ascii "command over 8192 bytes") colu
 complaintText NoImage column = imageComplaint
 complaintText NoNumber column = columnText (ascii "number expected") column
 complaintText LongBuffer column = columnText (ascii "number over 8192") column
+complaintText GreatNumber column = columnText (ascii "number over 4294967295") column
 
 -- ---- calls
 
@@ -94,6 +95,7 @@ helpText =
     ∷ ascii "sbe BYTES         an SBE mailbox request of 32 bytes\n"
     ∷ ascii "undo              take the newest change back\n"
     ∷ ascii "redo              put the change last taken back in again\n"
+    ∷ ascii "forget N          forget the N oldest changes\n"
     ∷ ascii "fresh             begin again with a fresh session\n"
     ∷ ascii "image             the session as " ∷ decimal imageLength ∷ ascii " bytes\n"
     ∷ ascii "load BYTES        go on with the session of such an image\n"

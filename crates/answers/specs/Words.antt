@@ -1,7 +1,7 @@
 -- Which of the words for what is wrong in a line are meant.
 use Prim.Native.Nat.{ℕ}
 use Rattle.orders.specs.declared.Wrong.{Wrong}
-use Rattle.orders.specs.declared.Wrong.the-variants.{LongLine, NoWord, MoreText, NoDigit, TooMany, NoImage, NoNumber, LongBuffer}
+use Rattle.orders.specs.declared.Wrong.the-variants.{LongLine, NoWord, MoreText, NoDigit, TooMany, NoImage, NoNumber, LongBuffer, GreatNumber}
 
 -- where the words for what is wrong stand among those of `complaint`
 unfoldable pub placeOf : Wrong → ℕ
@@ -12,4 +12,5 @@ placeOf NoDigit = 3
 placeOf TooMany = 4
 placeOf NoNumber = 5
 placeOf LongBuffer = 6
-placeOf NoImage = 7
+placeOf GreatNumber = 7
+placeOf NoImage = 8

@@ -57,7 +57,8 @@ fn place_of(what: Wrong) -> usize
         Wrong::TooMany => 4,
         Wrong::NoNumber => 5,
         Wrong::LongBuffer => 6,
-        Wrong::NoImage => 7,
+        Wrong::GreatNumber => 7,
+        Wrong::NoImage => 8,
     }
 }
 
@@ -66,12 +67,12 @@ pub fn complaint(out: &mut [u8], what: Wrong, column: usize) -> usize
     ensures { λ r. ⌜ sheet (now (out .exit)) r ≡ fromFront (now (out .entry)) (complaintText what column) ⌝ }
 {
     let place = place_of(what);
-    if place == 7 {
+    if place == 8 {
         return not_an_image(out);
     }
     let words = words::nth(
         b"line over 32768 bytes|unknown word|nothing more expected|hex digit expected|\
-          command over 8192 bytes|number expected|number over 8192|",
+          command over 8192 bytes|number expected|number over 8192|number over 4294967295|",
         place,
     );
     at_column(out, words, column)
@@ -225,6 +226,7 @@ pub fn help(out: &mut [u8]) -> usize
           sbe BYTES         an SBE mailbox request of 32 bytes\n|\
           undo              take the newest change back\n|\
           redo              put the change last taken back in again\n|\
+          forget N          forget the N oldest changes\n|\
           fresh             begin again with a fresh session\n|\
           image             the session as |",
     );

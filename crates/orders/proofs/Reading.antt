@@ -1,10 +1,12 @@
 -- What was found case by case is the order. Assumes nothing.
 use Prim.Native.Nat.{ℕ, _+_, _-_, _<_, _≤_}
-use mathlib.Core.Bool.{true, false}
-use mathlib.Core.Path.{_≡_, sym, ap, _∙_}
+use mathlib.Core.Bool.{Bool, true, false, cond}
+use mathlib.Core.Path.{_≡_, refl, sym, ap, _∙_}
 use mathlib.Core.List.{List, _++_, append-assoc}
 use native.Mathlib.Nat.{zero-add, add-sub-cancel-left}
 use native.Mathlib.Omega.{arith}
+use borrow.Author.Tests.{ltb-false}
+use lib.Dec.{ltb}
 use lib.ListN.{length, take, drop, length-take, length-drop, take-append-drop}
 use lib.Seq.{drop-append-le, drop-drop}
 use Rattle.layout.specs.Layout.{imageLength}
@@ -16,18 +18,19 @@ use Rattle.text.specs.declared.Fault.the-variants.{Nothing, Digit, Over}
 use Rattle.text.specs.declared.Number.{Number}
 use Rattle.text.specs.declared.Number.the-variants.{Missing, TooGreat, Is}
 use Rattle.text.specs.Text.{inWord, leading, pastBlanks, HexRun, hexRun, Takes}
-use Rattle.text.specs.Numbers.{numberAt}
+use Rattle.text.specs.Text.{digitAt}
+use Rattle.text.specs.Numbers.{valueFrom, decimal, numberBy, numberAt}
 use Rattle.orders.specs.declared.Call.{Call}
-use Rattle.orders.specs.declared.Call.the-variants.{Load}
+use Rattle.orders.specs.declared.Call.the-variants.{Load, Forget}
 use Rattle.orders.specs.declared.View.{View}
 use Rattle.orders.specs.declared.Buffer.{Buffer}
 use Rattle.orders.specs.declared.Buffer.the-variants.{Whole, Bytes}
 use Rattle.orders.specs.declared.Wrong.{Wrong}
-use Rattle.orders.specs.declared.Wrong.the-variants.{LongLine, MoreText, NoDigit, TooMany, NoImage, NoNumber, LongBuffer}
+use Rattle.orders.specs.declared.Wrong.the-variants.{LongLine, MoreText, NoDigit, TooMany, NoImage, NoNumber, LongBuffer, GreatNumber}
 use Rattle.orders.specs.declared.Word.{Word}
 use Rattle.orders.specs.declared.Word.the-variants.{Make, Look, Lend, Fail, Skip}
 use Rattle.orders.specs.declared.Order.{Order}
-use Rattle.orders.specs.Orders.{plainly, wrongAt, wordOf, aloneAt, aloneOf, bytesBy, imageBy, sizeBy, bufferAt, bufferOf, ReadsAs, Ordered, ordered, callOf, orderBy, wordLength, orderAt, remark, orderFrom, orderOf, lineLength, orderIn}
+use Rattle.orders.specs.Orders.{plainly, wrongAt, wordOf, aloneAt, aloneOf, bytesBy, imageBy, sizeBy, bufferAt, bufferOf, forgetBy, forgetAt, ReadsAs, Ordered, ordered, callOf, orderBy, wordLength, orderAt, remark, orderFrom, orderOf, lineLength, orderIn}
 
 -- ---- by what follows
 
@@ -63,6 +66,40 @@ module _ (line : List ℕ) {place place′ : ℕ} {r : Order} (e : place ≡ pla
   pub buffer-size : {x : Number} → place < length line → x ≡ numberAt line place 8192 → r ≡ sizeBy x line (place + 1) → r ≡ bufferAt line place′
   unfolding bufferAt
   buffer-size k is h = else-le _ _ k (h ∙ ap (λ (y : Number). sizeBy y line (place + 1)) is) ∙ ap (λ (n : ℕ). bufferAt line n) e
+
+-- a number that was read is at most what it may be
+fitting : (value past most : ℕ) {x : Number} {n past′ : ℕ} → x ≡ numberBy value past most → x ≡ Is n past′ → n ≤ most
+unfolding numberBy
+fitting value past most {x} {n} {past′} e is = go (ltb most value) refl (sym is ∙ e)
+  where
+    go : (t : Bool) → ltb most value ≡ t → Is n past′ ≡ cond t TooGreat (Is value past) → n ≤ most
+    go true h k = let z : _≡_ {A = ℕ} 0 1 = cc in absurd (omega (arith, z))
+    go false h k = let same : n ≡ value = cc in omega (arith, same, ltb-false most value h)
+
+pub number-fits : (s : List ℕ) (at most : ℕ) {x : Number} {n past : ℕ} → x ≡ numberAt s at most → x ≡ Is n past → n ≤ most
+unfolding numberAt
+number-fits s at most {x} {n} {past} e is = go (ltb 9 (digitAt s at)) (sym is ∙ e)
+  where
+    go : (t : Bool) → Is n past ≡ cond t Missing (numberBy (valueFrom 0 (drop at s)) (at + leading decimal (drop at s)) most) → n ≤ most
+    go true k = let z : _≡_ {A = ℕ} 0 1 = cc in absurd (omega (arith, z))
+    go false k = fitting (valueFrom 0 (drop at s)) (at + leading decimal (drop at s)) most k refl
+
+module _ (line : List ℕ) {place place′ : ℕ} {x : Number} {r : Order} (e : place ≡ place′) (is : x ≡ numberAt line place 4294967295) where
+  forget-by : (y : Number) → x ≡ y → r ≡ forgetBy y line (place + 1) → r ≡ forgetAt line place′
+  unfolding forgetAt
+  forget-by y k h = h ∙ ap (λ (z : Number). forgetBy z line (place + 1)) (sym k ∙ is) ∙ ap (λ (n : ℕ). forgetAt line n) e
+
+  pub forget-none : x ≡ Missing → r ≡ wrongAt NoNumber (place + 1) → r ≡ forgetAt line place′
+  unfolding forgetBy
+  forget-none k h = forget-by Missing k h
+
+  pub forget-over : x ≡ TooGreat → r ≡ wrongAt GreatNumber (place + 1) → r ≡ forgetAt line place′
+  unfolding forgetBy
+  forget-over k h = forget-by TooGreat k h
+
+  pub forget-is : {n past : ℕ} → x ≡ Is n past → r ≡ aloneOf (Make (Forget n)) line past → r ≡ forgetAt line place′
+  unfolding forgetBy
+  forget-is {n} {past} k h = forget-by (Is n past) k h
 
 -- ---- by the fault
 

@@ -14,11 +14,11 @@ use Rattle.text.specs.declared.Number.the-variants.{Missing, TooGreat, Is}
 use Rattle.text.specs.Text.{ascii, inWord, leading, pastBlanks, sameText, HexRun, hexRun}
 use Rattle.text.specs.Numbers.{numberAt}
 use Rattle.orders.specs.declared.Call.{Call}
-use Rattle.orders.specs.declared.Call.the-variants.{Occ, Sbe, Send, Load, Undo, Redo, Fresh}
+use Rattle.orders.specs.declared.Call.the-variants.{Occ, Sbe, Send, Load, Undo, Redo, Forget, Fresh}
 use Rattle.orders.specs.declared.View.the-variants.{Image, Why, Show, Journal, Help}
 use Rattle.orders.specs.declared.Buffer.the-variants.{Whole, Bytes}
 use Rattle.orders.specs.declared.Wrong.{Wrong}
-use Rattle.orders.specs.declared.Wrong.the-variants.{LongLine, NoWord, MoreText, NoDigit, TooMany, NoImage, NoNumber, LongBuffer}
+use Rattle.orders.specs.declared.Wrong.the-variants.{LongLine, NoWord, MoreText, NoDigit, TooMany, NoImage, NoNumber, LongBuffer, GreatNumber}
 use Rattle.orders.specs.declared.Word.{Word}
 use Rattle.orders.specs.declared.Word.the-variants.{Make, Look, Lend, Fail, Skip}
 use Rattle.orders.specs.declared.Order.{Order}
@@ -48,9 +48,10 @@ wordOf w =
     (cond (sameText w (ascii "load")) (Make Load)
     (cond (sameText w (ascii "undo")) (Make Undo)
     (cond (sameText w (ascii "redo")) (Make Redo)
+    (cond (sameText w (ascii "forget")) (Make (Forget 0))
     (cond (sameText w (ascii "fresh")) (Make Fresh)
     (cond (sameText w (ascii "buffer")) (Lend Whole)
-    (viewOf w))))))))
+    (viewOf w)))))))))
 
 -- ---- what follows a word
 
@@ -73,6 +74,18 @@ bufferAt line place = cond (leb (length line) place) (plainly (Lend Whole)) (siz
 
 abbrev pub bufferOf : List ℕ → ℕ → Order
 bufferOf line from = bufferAt line (pastBlanks line from)
+
+-- `forget N`: "at most 4,294,967,295", and then "only blanks may follow"
+unfoldable pub forgetBy : Number → List ℕ → ℕ → Order
+forgetBy Missing line column = wrongAt NoNumber column
+forgetBy TooGreat line column = wrongAt GreatNumber column
+forgetBy (Is n past) line column = aloneOf (Make (Forget n)) line past
+
+unfoldable pub forgetAt : List ℕ → ℕ → Order
+forgetAt line place = forgetBy (numberAt line place 4294967295) line (place + 1)
+
+abbrev pub forgetOf : List ℕ → ℕ → Order
+forgetOf line from = forgetAt line (pastBlanks line from)
 
 -- n bytes were read, and then a fault; "due are .. the bytes SS and TT themselves", at the column `end` if the line ends first
 unfoldable pub bytesBy : Fault → Call → ℕ → ℕ → ℕ → Order
@@ -124,6 +137,7 @@ callOf Send line from d = sendOf line from d
 callOf Load line from d = loadOf line from d
 callOf Undo line from d = ordered (aloneOf (Make Undo) line from) d
 callOf Redo line from d = ordered (aloneOf (Make Redo) line from) d
+callOf (Forget n) line from d = ordered (forgetOf line from) d
 callOf Fresh line from d = ordered (aloneOf (Make Fresh) line from) d
 
 -- ---- lines

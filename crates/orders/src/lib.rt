@@ -5,7 +5,7 @@ ghost use lib.ListN.{length};
 ghost use Rattle.io.specs.Counts.{Counts};
 ghost use Rattle.wire.specs.Wire.{pasted};
 ghost use Rattle.text.specs.Text.{hexRun};
-ghost use Rattle.orders.specs.Orders.{plainly, wrongAt, viewOf, wordOf, aloneOf, bytesBy, imageBy, sizeBy, bufferOf, ReadsAs, ordered, occOf, sbeOf, sendOf, loadOf, callOf, orderAt, remark, orderOf, lineLength, orderIn};
+ghost use Rattle.orders.specs.Orders.{plainly, wrongAt, viewOf, wordOf, aloneOf, bytesBy, imageBy, sizeBy, bufferOf, ReadsAs, ordered, occOf, sbeOf, sendOf, loadOf, forgetOf, callOf, orderAt, remark, orderOf, lineLength, orderIn};
 use text::Fault;
 use text::Number;
 use text::Taken;
@@ -17,6 +17,9 @@ pub const ROOM: usize = 8198;
 // The longest reply buffer that can be asked for.
 pub const MOST_BUFFER: usize = 8192;
 
+// The most changes that can be asked to be forgotten.
+pub const MOST_FORGOTTEN: u64 = 4294967295;
+
 // What is made on a session.
 pub enum Call {
     Occ,
@@ -25,6 +28,7 @@ pub enum Call {
     Load,
     Undo,
     Redo,
+    Forget(u32),
     Fresh,
 }
 
@@ -53,6 +57,7 @@ pub enum Wrong {
     NoImage,
     NoNumber,
     LongBuffer,
+    GreatNumber,
 }
 
 pub enum Word {
@@ -136,6 +141,9 @@ fn word_of(word: &[u8]) -> Word
     if text::same(word, b"redo") {
         return Word::Make(Call::Redo);
     }
+    if text::same(word, b"forget") {
+        return Word::Make(Call::Forget(0));
+    }
     if text::same(word, b"fresh") {
         return Word::Make(Call::Fresh);
     }
@@ -182,6 +190,20 @@ fn read_buffer(line: &[u8], from: usize) -> Order
     }
     let number = text::number_at(line, place, MOST_BUFFER as u64);
     with_size(number, line, place + 1)
+}
+
+// A number of changes.
+fn read_forget(line: &[u8], from: usize) -> Order
+    ensures { λ r. ⌜ r ≡ forgetOf (now (line .entry)) from ⌝ }
+    ensures { λ r. ⌜ r .count ≡ 0 ⌝ }
+{
+    let place = text::past_blanks(line, from);
+    let number = text::number_at(line, place, MOST_FORGOTTEN);
+    match number {
+        Number::Missing => wrong_at(Wrong::NoNumber, place + 1),
+        Number::TooGreat => wrong_at(Wrong::GreatNumber, place + 1),
+        Number::Is(n, past) => alone(Word::Make(Call::Forget(n as u32)), line, past),
+    }
 }
 
 // Bytes, of which the first `due` must be there; `end` is the column past the line.
@@ -286,6 +308,7 @@ fn read_call(call: Call, line: &[u8], from: usize, sent: &mut [u8]) -> Order
         Call::Load => load(line, from, sent),
         Call::Undo => alone(Word::Make(Call::Undo), line, from),
         Call::Redo => alone(Word::Make(Call::Redo), line, from),
+        Call::Forget(_) => read_forget(line, from),
         Call::Fresh => alone(Word::Make(Call::Fresh), line, from),
     }
 }

@@ -64,6 +64,7 @@ fn carry_out(
         Call::Load => load(lent, sent),
         Call::Undo => undo_call::undo(lent),
         Call::Redo => undo_call::redo(lent),
+        Call::Forget(n) => forget_call::forget(lent, n),
         Call::Fresh => fresh(lent),
     }
 }
@@ -75,6 +76,7 @@ enum Form {
     Reply,
     Response,
     Kind,
+    Answer,
     Passed,
     Ok,
 }
@@ -87,6 +89,7 @@ fn form_of(call: Call) -> Form {
         Call::Load => Form::Ok,
         Call::Undo => Form::Passed,
         Call::Redo => Form::Kind,
+        Call::Forget(_) => Form::Answer,
         Call::Fresh => Form::Ok,
     }
 }
@@ -114,6 +117,7 @@ fn put_told(call: Call, told: Told, reply: &[u8], out: &mut [u8]) -> usize
         Form::Reply => answers::reply(out, told.answer, reply),
         Form::Response => answers::rung(out, told.answer, &reply[..n], told.beside),
         Form::Kind => answers::with_kind(out, told.answer, kind_of(told.beside)),
+        Form::Answer => answers::reply(out, told.answer, &reply[..0]),
         Form::Passed => { answers::with_passed(out, told.answer, kind_of(told.beside), told.small) }
         Form::Ok => answers::line(out, b"ok"),
     }

@@ -44,6 +44,12 @@ alone-requires-2 c κs = search needs
 enum-told-7 : tie.Need-enum-told-7
 enum-told-7 c = search needs
 
+read-forget-requires : tie.Need-read-forget-requires
+read-forget-requires c κs = search needs
+
+enum-told-8 : tie.Need-enum-told-8
+enum-told-8 c = search needs
+
 alone-requires-3 : tie.Need-alone-requires-3
 alone-requires-3 c κs = search needs
 
@@ -85,7 +91,11 @@ returns-6 c = (call-as _ _ _ (c .before .enum-told6 .given .1) (kept _ (c .alone
 
 returns-7 : tie.Need-returns-7
 unfolding callOf
-returns-7 c = (call-as _ _ _ (c .before .enum-told7 .given .1) (kept _ (c .alone3 .ensures .0)), search needs)
+returns-7 c = (call-as _ _ _ (c .before .enum-told7 .given .1) (kept _ (c .read-forget .ensures .0)), search needs)
+
+returns-8 : tie.Need-returns-8
+unfolding callOf
+returns-8 c = (call-as _ _ _ (c .before .enum-told8 .given .1) (kept _ (c .alone3 .ensures .0)), search needs)
 
 pub read-call-spec : {M : Type 1} → statement M
 read-call-spec =
@@ -104,6 +114,8 @@ read-call-spec =
     enum-told-6
     alone-requires-2
     enum-told-7
+    read-forget-requires
+    enum-told-8
     alone-requires-3
     same-length
     returns
@@ -115,4 +127,5 @@ read-call-spec =
     returns-4
     returns-5
     returns-6
-    returns-7)
+    returns-7
+    returns-8)

@@ -86,12 +86,22 @@ returns-8 : tie.Need-returns-8
 unfolding wordOf
 returns-8 c = else-b _ _ (sym (c .before .before .before .before .before .before .before .before .before .before .before .before .before .before .before .before .before .before .before .before .before .before .same .ensures) ∙ c .before .before .before .before .before .before .before .before .before .before .before .before .before .before .before .before .before .before .before .before .before .if1 .left) (else-b _ _ (sym (c .before .before .before .before .before .before .before .before .before .before .before .before .before .before .before .before .before .before .before .same2 .ensures) ∙ c .before .before .before .before .before .before .before .before .before .before .before .before .before .before .before .before .before .before .if2 .left) (else-b _ _ (sym (c .before .before .before .before .before .before .before .before .before .before .before .before .before .before .before .before .same3 .ensures) ∙ c .before .before .before .before .before .before .before .before .before .before .before .before .before .before .before .if3 .left) (else-b _ _ (sym (c .before .before .before .before .before .before .before .before .before .before .before .before .before .same4 .ensures) ∙ c .before .before .before .before .before .before .before .before .before .before .before .before .if4 .left) (else-b _ _ (sym (c .before .before .before .before .before .before .before .before .before .before .same5 .ensures) ∙ c .before .before .before .before .before .before .before .before .before .if5 .left) (else-b _ _ (sym (c .before .before .before .before .before .before .before .same6 .ensures) ∙ c .before .before .before .before .before .before .if6 .left) (else-b _ _ (sym (c .before .before .before .before .same7 .ensures) ∙ c .before .before .before .if7 .left) (if-b _ _ (sym (c .before .same8 .ensures) ∙ c .if8 .taken) refl)))))))
 
-view-of-requires : tie.Need-view-of-requires
-view-of-requires c κs = search needs
+slice-aggregate-same-9 : tie.Need-slice-aggregate-same-9
+slice-aggregate-same-9 c = search needs
+
+same-requires-9 : tie.Need-same-requires-9
+same-requires-9 c κs = tt
 
 returns-9 : tie.Need-returns-9
 unfolding wordOf
-returns-9 c = else-b _ _ (sym (c .before .before .before .before .before .before .before .before .before .before .before .before .before .before .before .before .before .before .before .before .before .before .before .same .ensures) ∙ c .before .before .before .before .before .before .before .before .before .before .before .before .before .before .before .before .before .before .before .before .before .before .if1 .left) (else-b _ _ (sym (c .before .before .before .before .before .before .before .before .before .before .before .before .before .before .before .before .before .before .before .before .same2 .ensures) ∙ c .before .before .before .before .before .before .before .before .before .before .before .before .before .before .before .before .before .before .before .if2 .left) (else-b _ _ (sym (c .before .before .before .before .before .before .before .before .before .before .before .before .before .before .before .before .before .same3 .ensures) ∙ c .before .before .before .before .before .before .before .before .before .before .before .before .before .before .before .before .if3 .left) (else-b _ _ (sym (c .before .before .before .before .before .before .before .before .before .before .before .before .before .before .same4 .ensures) ∙ c .before .before .before .before .before .before .before .before .before .before .before .before .before .if4 .left) (else-b _ _ (sym (c .before .before .before .before .before .before .before .before .before .before .before .same5 .ensures) ∙ c .before .before .before .before .before .before .before .before .before .before .if5 .left) (else-b _ _ (sym (c .before .before .before .before .before .before .before .before .same6 .ensures) ∙ c .before .before .before .before .before .before .before .if6 .left) (else-b _ _ (sym (c .before .before .before .before .before .same7 .ensures) ∙ c .before .before .before .before .if7 .left) (else-b _ _ (sym (c .before .before .same8 .ensures) ∙ c .before .if8 .left) (c .view-of .ensures))))))))
+returns-9 c = else-b _ _ (sym (c .before .before .before .before .before .before .before .before .before .before .before .before .before .before .before .before .before .before .before .before .before .before .before .before .before .same .ensures) ∙ c .before .before .before .before .before .before .before .before .before .before .before .before .before .before .before .before .before .before .before .before .before .before .before .before .if1 .left) (else-b _ _ (sym (c .before .before .before .before .before .before .before .before .before .before .before .before .before .before .before .before .before .before .before .before .before .before .same2 .ensures) ∙ c .before .before .before .before .before .before .before .before .before .before .before .before .before .before .before .before .before .before .before .before .before .if2 .left) (else-b _ _ (sym (c .before .before .before .before .before .before .before .before .before .before .before .before .before .before .before .before .before .before .before .same3 .ensures) ∙ c .before .before .before .before .before .before .before .before .before .before .before .before .before .before .before .before .before .before .if3 .left) (else-b _ _ (sym (c .before .before .before .before .before .before .before .before .before .before .before .before .before .before .before .before .same4 .ensures) ∙ c .before .before .before .before .before .before .before .before .before .before .before .before .before .before .before .if4 .left) (else-b _ _ (sym (c .before .before .before .before .before .before .before .before .before .before .before .before .before .same5 .ensures) ∙ c .before .before .before .before .before .before .before .before .before .before .before .before .if5 .left) (else-b _ _ (sym (c .before .before .before .before .before .before .before .before .before .before .same6 .ensures) ∙ c .before .before .before .before .before .before .before .before .before .if6 .left) (else-b _ _ (sym (c .before .before .before .before .before .before .before .same7 .ensures) ∙ c .before .before .before .before .before .before .if7 .left) (else-b _ _ (sym (c .before .before .before .before .same8 .ensures) ∙ c .before .before .before .if8 .left) (if-b _ _ (sym (c .before .same9 .ensures) ∙ c .if9 .taken) refl))))))))
+
+view-of-requires : tie.Need-view-of-requires
+view-of-requires c κs = search needs
+
+returns-10 : tie.Need-returns-10
+unfolding wordOf
+returns-10 c = else-b _ _ (sym (c .before .before .before .before .before .before .before .before .before .before .before .before .before .before .before .before .before .before .before .before .before .before .before .before .before .before .same .ensures) ∙ c .before .before .before .before .before .before .before .before .before .before .before .before .before .before .before .before .before .before .before .before .before .before .before .before .before .if1 .left) (else-b _ _ (sym (c .before .before .before .before .before .before .before .before .before .before .before .before .before .before .before .before .before .before .before .before .before .before .before .same2 .ensures) ∙ c .before .before .before .before .before .before .before .before .before .before .before .before .before .before .before .before .before .before .before .before .before .before .if2 .left) (else-b _ _ (sym (c .before .before .before .before .before .before .before .before .before .before .before .before .before .before .before .before .before .before .before .before .same3 .ensures) ∙ c .before .before .before .before .before .before .before .before .before .before .before .before .before .before .before .before .before .before .before .if3 .left) (else-b _ _ (sym (c .before .before .before .before .before .before .before .before .before .before .before .before .before .before .before .before .before .same4 .ensures) ∙ c .before .before .before .before .before .before .before .before .before .before .before .before .before .before .before .before .if4 .left) (else-b _ _ (sym (c .before .before .before .before .before .before .before .before .before .before .before .before .before .before .same5 .ensures) ∙ c .before .before .before .before .before .before .before .before .before .before .before .before .before .if5 .left) (else-b _ _ (sym (c .before .before .before .before .before .before .before .before .before .before .before .same6 .ensures) ∙ c .before .before .before .before .before .before .before .before .before .before .if6 .left) (else-b _ _ (sym (c .before .before .before .before .before .before .before .before .same7 .ensures) ∙ c .before .before .before .before .before .before .before .if7 .left) (else-b _ _ (sym (c .before .before .before .before .before .same8 .ensures) ∙ c .before .before .before .before .if8 .left) (else-b _ _ (sym (c .before .before .same9 .ensures) ∙ c .before .if9 .left) (c .view-of .ensures)))))))))
 
 pub word-of-spec : {M : Type 1} → statement M
 word-of-spec =
@@ -121,5 +131,8 @@ word-of-spec =
     slice-aggregate-same-8
     same-requires-8
     returns-8
+    slice-aggregate-same-9
+    same-requires-9
+    returns-9
     view-of-requires
-    returns-9)
+    returns-10)

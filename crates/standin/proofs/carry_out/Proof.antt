@@ -72,6 +72,12 @@ enum-told-6 c = search needs
 redo-requires : tie.Need-redo-requires
 redo-requires c κs = search needs
 
+enum-known-call : tie.Need-enum-known-call
+enum-known-call c = search needs
+
+forget-requires : tie.Need-forget-requires
+forget-requires c κs = search needs
+
 enum-told-7 : tie.Need-enum-told-7
 enum-told-7 c = search needs
 
@@ -141,6 +147,12 @@ same-length-14 c = search needs
 returns-7 : tie.Need-returns-7
 returns-7 c = search needs
 
+same-length-15 : tie.Need-same-length-15
+same-length-15 c = search needs
+
+returns-8 : tie.Need-returns-8
+returns-8 c = search needs
+
 pub carry-out-spec : {M : Type 1} → statement M
 carry-out-spec =
     tie.close
@@ -167,6 +179,8 @@ carry-out-spec =
     undo-requires
     enum-told-6
     redo-requires
+    enum-known-call
+    forget-requires
     enum-told-7
     fresh-requires
     same-length
@@ -189,4 +203,6 @@ carry-out-spec =
     same-length-13
     returns-6
     same-length-14
-    returns-7)
+    returns-7
+    same-length-15
+    returns-8)

@@ -8,7 +8,8 @@
  * result nor of the bytes in them.
  *
  * A call that changes nothing writes nothing to the session: polls, error replies, every answer but 0. That its bytes stay is proved; that nothing is
- * stored at all is tried, on memory that can't be written (examples/c/edges.c). Polls may so share a session; a call that changes it needs it alone.
+ * stored at all is tried, on memory that can't be written (examples/c/edges.c). Polls may so share a session; a call that changes it needs it alone,
+ * and so does forgetting no changes, which stores the bytes that stand there.
  *
  * The archive takes memcpy and memset from the C library, or from you, and nothing else. A call takes under 4 KB of stack.
  *
@@ -28,6 +29,7 @@
  *      pending, or 4 pend; or the entry says that a log was made, and none pends. Redo: a log that is to be cleared again isn't at its place,
  *      with its id and reason; or a reset's log is to come back, and 4 pend. Never on a session that began fresh
  *   8  nothing to redo
+ *   9  fewer changes are held than are to be forgotten
  * After any answer but 0 the session and the reply buffer hold the bytes that they held before.
  */
 #ifndef BJARGOLSK_H
@@ -41,7 +43,7 @@ extern "C" {
 #endif
 
 /* Goes up with every change of a function, a constant or the image's bytes. */
-#define BJARGOLSK_VERSION 2
+#define BJARGOLSK_VERSION 3
 
 enum {
     BJARGOLSK_SESSION = 4401, /* the image's length */
@@ -94,6 +96,10 @@ uint32_t bjargolsk_undo(uint8_t *session, size_t session_length);
 /* Puts the change that was last taken back in again; an accepted command that makes a change leaves none to put in. Answers 0, 1, 7 and 8;
  * the high 16 bits are the kind of its entry, 0 if none was put in. */
 uint32_t bjargolsk_redo(uint8_t *session, size_t session_length);
+
+/* Forgets the n oldest changes, which can't be taken back any more, and moves the rest down: their room in the journal is used again. The record, the
+ * next id and what can be redone stay; n = 0 changes nothing. Answers 0, 1 and 9; nothing stands beside the answer. */
+uint32_t bjargolsk_forget(uint8_t *session, size_t session_length, uint32_t n);
 
 #ifdef __cplusplus
 }

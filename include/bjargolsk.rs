@@ -2,7 +2,7 @@
 
 /// As in bjargolsk.h: goes up with every change of a function, a constant or the image's bytes.
 #[allow(dead_code)]
-pub const BJARGOLSK_VERSION: u32 = 2;
+pub const BJARGOLSK_VERSION: u32 = 3;
 /// The image's length.
 #[allow(dead_code)]
 pub const BJARGOLSK_SESSION: usize = 4401;
@@ -28,4 +28,5 @@ extern "C" {
     ) -> u32;
     pub fn bjargolsk_undo(session: *mut u8, session_length: usize) -> u32;
     pub fn bjargolsk_redo(session: *mut u8, session_length: usize) -> u32;
+    pub fn bjargolsk_forget(session: *mut u8, session_length: usize, n: u32) -> u32;
 }

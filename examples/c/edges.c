@@ -35,6 +35,7 @@ static void nulls(uint8_t *session)
     expect("sbe, no reply", bjargolsk_sbe(session, BJARGOLSK_SESSION, poll_packet, sizeof poll_packet, NULL, 0), 3);
     expect("undo, no session", bjargolsk_undo(NULL, 0), 1);
     expect("redo, no session", bjargolsk_redo(NULL, 0), 1);
+    expect("forget, no session", bjargolsk_forget(NULL, 0, 0), 1);
 }
 
 /* On a page that can't be written: a call that wrote would end the program. */
@@ -47,9 +48,10 @@ static void unwritten(uint8_t *session)
     expect("unknown request, read-only", bjargolsk_sbe(session, BJARGOLSK_SESSION, unknown_request, sizeof unknown_request, reply, BJARGOLSK_SBE_REPLY), 0);
     expect("undo of nothing, read-only", bjargolsk_undo(session, BJARGOLSK_SESSION), 6);
     expect("redo of nothing, read-only", bjargolsk_redo(session, BJARGOLSK_SESSION), 8);
+    expect("forget more than there is, read-only", bjargolsk_forget(session, BJARGOLSK_SESSION, 1), 9);
 }
 
-/* A journal that is full: the same request is answered 5, on a page that can't be written too. */
+/* A journal that is full: the same request is answered 5, on a page that can't be written too; and 0 once the oldest change is forgotten. */
 static void full(uint8_t *session)
 {
     static const uint8_t mask_request[BJARGOLSK_SBE_REPLY] = {0, 0, 0, 0, 0, 1, 0xD1, 0x03};
@@ -61,6 +63,8 @@ static void full(uint8_t *session)
     mprotect(session, ROOM, PROT_READ);
     expect("full journal, read-only", bjargolsk_sbe(session, BJARGOLSK_SESSION, mask_request, sizeof mask_request, reply, BJARGOLSK_SBE_REPLY), 5);
     mprotect(session, ROOM, PROT_READ | PROT_WRITE);
+    expect("forget, full journal", bjargolsk_forget(session, BJARGOLSK_SESSION, 1), 0);
+    expect("room again", bjargolsk_sbe(session, BJARGOLSK_SESSION, mask_request, sizeof mask_request, reply, BJARGOLSK_SBE_REPLY), 0);
 }
 
 /* An entry that can't be put in (docs/IMAGE.md): a log is to come back at place 1, and none pends; next id 2, 4 bytes of journal. */

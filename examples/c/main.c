@@ -1,4 +1,4 @@
-/* A master OCC brought up and capped; changes taken back, one step too far, and one put in again; a cap that is too high. */
+/* A master OCC brought up and capped; changes taken back, one step too far, and one put in again; a cap that is too high; the oldest changes forgotten. */
 #include <stdio.h>
 
 #include "bjargolsk.h"
@@ -52,6 +52,12 @@ static void redo(void)
     printf("redo: answer %u kind %02X\n", (unsigned)BJARGOLSK_ANSWER(result), (unsigned)BJARGOLSK_HIGH(result));
 }
 
+static void forget(uint32_t n)
+{
+    uint32_t result = bjargolsk_forget(session, sizeof session, n);
+    printf("forget: answer %u\n", (unsigned)BJARGOLSK_ANSWER(result));
+}
+
 int main(void)
 {
     static const uint8_t poll[] = {0x10};
@@ -84,5 +90,10 @@ int main(void)
     /* Status 0x13; the result says which data byte is wrong, and why. */
     occ("high cap", BJARGOLSK_BMC, 0x22, high, sizeof high);
     occ("stranger", 0x30, 0x00, poll, sizeof poll);
+    /* Five changes are held. All but the newest are forgotten: undo takes that one back, and no more. */
+    forget(6);
+    forget(4);
+    undo();
+    undo();
     return 0;
 }

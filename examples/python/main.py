@@ -1,4 +1,4 @@
-"""A master OCC brought up and capped; changes taken back, one step too far, and one put in again; a cap that is too high.
+"""A master OCC brought up and capped; changes taken back, one step too far, and one put in again; a cap that is too high; the oldest changes forgotten.
 
 usage: python3 main.py LIBRARY, the shared object that is made from the archive
 """
@@ -18,7 +18,8 @@ def load(path):
     lib.bjargolsk_sbe.argtypes = buffer + buffer + buffer
     lib.bjargolsk_undo.argtypes = buffer
     lib.bjargolsk_redo.argtypes = buffer
-    for name in ("fresh", "occ", "sbe", "undo", "redo"):
+    lib.bjargolsk_forget.argtypes = buffer + [ctypes.c_uint32]
+    for name in ("fresh", "occ", "sbe", "undo", "redo", "forget"):
         getattr(lib, "bjargolsk_" + name).restype = ctypes.c_uint32
     return lib
 
@@ -61,6 +62,10 @@ class Bench:
         result = self.lib.bjargolsk_redo(self.session, SESSION)
         print("redo: answer %d kind %02X" % (result & 0xFF, result >> 16))
 
+    def forget(self, n):
+        result = self.lib.bjargolsk_forget(self.session, SESSION, n)
+        print("forget: answer %d" % (result & 0xFF))
+
 
 def main():
     if len(sys.argv) != 2:
@@ -85,6 +90,11 @@ def main():
     # Status 0x13; the result says which data byte is wrong, and why.
     bench.occ("high cap", BMC, 0x22, [0x07, 0xD0])
     bench.occ("stranger", 0x30, 0x00, [0x10])
+    # Five changes are held. All but the newest are forgotten: undo takes that one back, and no more.
+    bench.forget(6)
+    bench.forget(4)
+    bench.undo()
+    bench.undo()
 
 
 main()

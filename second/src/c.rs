@@ -59,3 +59,7 @@ pub fn undo(image: &mut [u8]) -> u32 {
 pub fn redo(image: &mut [u8]) -> u32 {
     on(image, |session| with_kind(session.redo()))
 }
+
+pub fn forget(image: &mut [u8], count: u32) -> u32 {
+    on(image, |session| session.forget(count).into())
+}

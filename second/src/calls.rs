@@ -1,4 +1,4 @@
-//! The calls on a session and their answers: OCC and SBE commands, undo and redo.
+//! The calls on a session and their answers: OCC and SBE commands, undo, redo and forget.
 
 use crate::journal::{Bytes, Change, Holding};
 use crate::occ;
@@ -20,6 +20,8 @@ pub const NOTHING_TO_UNDO: u8 = 6;
 /// Redo alike.
 pub const CANNOT_UNDO: u8 = 7;
 pub const NOTHING_TO_REDO: u8 = 8;
+/// To forget.
+pub const NOT_SO_MANY: u8 = 9;
 
 /// What an OCC call gives beside the reply.
 #[derive(Clone, Copy, PartialEq, Eq, Debug)]
@@ -134,6 +136,20 @@ impl<B: Bytes> Session<B> {
         assert!(entered, "both stores together hold at most what one has room for");
         self.set_record(record);
         (DONE, change.kind())
+    }
+
+    /// Forgets the `count` oldest changes, so that their room is used again; the record stays, and so does what can be redone.
+    pub fn forget(&mut self, count: u32) -> u8 {
+        let inspection = self.inspect();
+        if !inspection.well_formed() {
+            return NOT_WELL_FORMED;
+        }
+        let count = count as usize;
+        if count > inspection.journal.entries {
+            return NOT_SO_MANY;
+        }
+        self.drop_oldest(count);
+        DONE
     }
 
     /// The change with the record that it gives, if that is well formed.

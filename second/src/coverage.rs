@@ -1,6 +1,6 @@
-//! Counts what a file of lines reaches: answers, statuses, kinds undone and redone, rules broken, complaints.
+//! Counts what a file of lines reaches: answers, statuses, kinds undone and redone, what is forgotten, rules broken, complaints.
 
-use crate::journal::{entries, Change, Holding};
+use crate::journal::{entries, Change, Holding, MARKED};
 use crate::occ::command_packet;
 use crate::protocol::{for_each_line, parse, Order, Program};
 use crate::session::Session;
@@ -61,9 +61,11 @@ fn count_order(counts: &mut Counts, program: &mut Program, order: Order) {
     let loaded = matches!(order, Order::Load(_));
     let asked_why = order == Order::Why;
     let named = match &described {
-        Described::Occ(what) | Described::Sbe(what) | Described::Undo(what) | Described::Redo(what) => {
-            what.clone()
-        }
+        Described::Occ(what)
+        | Described::Sbe(what)
+        | Described::Undo(what)
+        | Described::Redo(what)
+        | Described::Forget(what) => what.clone(),
         Described::Other => String::new(),
     };
     let answer = program.obey(order);
@@ -100,6 +102,10 @@ fn count_order(counts: &mut Counts, program: &mut Program, order: Order) {
             add(counts, "call redo".to_string());
             add(counts, format!("redo {what} answer {number}"));
         }
+        Described::Forget(what) => {
+            add(counts, "call forget".to_string());
+            add(counts, format!("forget {what} answer {number}"));
+        }
         Described::Other if asked_why => add(counts, "line why".to_string()),
         Described::Other => add(counts, "line not a call".to_string()),
     }
@@ -118,6 +124,7 @@ enum Described {
     Sbe(String),
     Undo(String),
     Redo(String),
+    Forget(String),
     Other,
 }
 
@@ -137,6 +144,7 @@ fn describe(order: &Order, session: &Session) -> Described {
         }),
         Order::Undo => Described::Undo(undo_sort(session)),
         Order::Redo => Described::Redo(redo_sort(session)),
+        Order::Forget(count) => Described::Forget(forget_sort(session, *count as usize)),
         _ => Described::Other,
     }
 }
@@ -222,6 +230,25 @@ fn redo_sort(session: &Session) -> String {
         _ => "",
     };
     format!("kind {:02X}{why}", newest.kind())
+}
+
+/// How many of how many, whether marks move, and whether anything can be redone.
+fn forget_sort(session: &Session, count: usize) -> String {
+    if !session.well_formed() {
+        return "of a damaged session".to_string();
+    }
+    let held = session.inspect().journal.entries;
+    let many = match count {
+        0 => "none",
+        _ if count == held => "all",
+        _ if count == held + 1 => "one too many",
+        _ if count > held => "far too many",
+        _ if count.is_multiple_of(MARKED) => "a multiple of 32",
+        _ => "some",
+    };
+    let marked = if held > MARKED { ", marked" } else { "" };
+    let redo = if session.redo.used > 0 { ", some to redo" } else { "" };
+    format!("{many}{marked}{redo}")
 }
 
 /// How many entries the store has, by powers of two, and what calls do to a store that isn't empty.

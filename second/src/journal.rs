@@ -219,6 +219,16 @@ impl<B: Bytes> Store<B> {
         self.room_for(bytes.len()).map(|place| place.copy_from_slice(bytes)).is_some()
     }
 
+    /// Moves what is used from there on to the front, and zeroes what that frees.
+    pub fn drop_front(&mut self, offset: usize) {
+        let used = usize::from(self.used);
+        if let Some(bytes) = self.bytes.as_mut().get_mut(..used).filter(|_| offset <= used) {
+            bytes.copy_within(offset.., 0);
+            bytes[used - offset..].fill(0);
+            self.used -= offset as u16;
+        }
+    }
+
     /// Zeroes what is used from there on.
     pub fn cut(&mut self, offset: usize) {
         let used = usize::from(self.used);

@@ -21,6 +21,7 @@ occ SS BYTES      an OCC command from sender SS (10 HTMGT, 20 BMC)
 sbe BYTES         an SBE mailbox request of 32 bytes
 undo              take the newest change back
 redo              put the change last taken back in again
+forget N          forget the N oldest changes
 fresh             begin again with a fresh session
 image             the session as {IMAGE_LENGTH} bytes
 load BYTES        go on with the session of such an image
@@ -45,6 +46,7 @@ pub enum Order {
     Sbe(Vec<u8>),
     Undo,
     Redo,
+    Forget(u32),
     Fresh,
     Image,
     Load(Vec<u8>),
@@ -190,6 +192,10 @@ fn parse_words(rest: &mut Scanner) -> Result<Order, Complaint> {
         b"buffer" => parse_buffer(rest),
         b"undo" => rest.nothing_more(Order::Undo),
         b"redo" => rest.nothing_more(Order::Redo),
+        b"forget" => {
+            let count = rest.number(u32::MAX.into())?;
+            rest.nothing_more(Order::Forget(count as u32))
+        }
         b"fresh" => rest.nothing_more(Order::Fresh),
         b"image" => rest.nothing_more(Order::Image),
         b"why" => rest.nothing_more(Order::Why),
@@ -253,6 +259,7 @@ impl Program {
             }
             Order::Undo => undone(self.session.undo()),
             Order::Redo => redone(self.session.redo()),
+            Order::Forget(count) => format!("{}\n", self.session.forget(count)),
             Order::Fresh => self.go_on_with(Some(Session::fresh())),
             Order::Load(bytes) => self.go_on_with(image::read(&bytes)),
             Order::Buffer(length) => {

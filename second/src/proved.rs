@@ -5,6 +5,11 @@
 #[path = "../../include/bjargolsk.rs"]
 mod ffi;
 
+// Functions that include/bjargolsk.rs has only once their request has landed.
+extern "C" {
+    fn bjargolsk_forget(session: *mut u8, session_length: usize, count: u32) -> u32;
+}
+
 // SAFETY, of each: a pointer comes with the length of the slice that it was taken from, and no two slices overlap, as one of them at most is shared.
 
 pub fn fresh(image: &mut [u8]) -> u32 {
@@ -29,4 +34,8 @@ pub fn undo(image: &mut [u8]) -> u32 {
 
 pub fn redo(image: &mut [u8]) -> u32 {
     unsafe { ffi::bjargolsk_redo(image.as_mut_ptr(), image.len()) }
+}
+
+pub fn forget(image: &mut [u8], count: u32) -> u32 {
+    unsafe { bjargolsk_forget(image.as_mut_ptr(), image.len(), count) }
 }

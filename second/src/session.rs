@@ -144,6 +144,21 @@ impl<B: Bytes> Session<B> {
         entered
     }
 
+    /// Drops so many of the oldest entries; the others move down, and the marks are theirs from then on.
+    pub fn drop_oldest(&mut self, count: usize) {
+        let Some(used) = self.journal.used_bytes() else {
+            return;
+        };
+        let kept = || entries(used).map_while(Result::ok).skip(count).map(|entry| entry.offset);
+        let front = kept().next().unwrap_or(used.len());
+        let mut marks = [0; MARKS];
+        for (mark, offset) in marks.iter_mut().zip(kept().step_by(MARKED)) {
+            *mark = (offset - front) as u16;
+        }
+        self.marks = marks;
+        self.journal.drop_front(front);
+    }
+
     /// Zeroes the newest entry, and the mark that stood at it.
     pub fn strike(&mut self, newest: Newest) {
         let last = self.last_mark();

@@ -1,4 +1,4 @@
-//! A master OCC brought up and capped; changes taken back, one step too far, and one put in again; a cap that is too high.
+//! A master OCC brought up and capped; changes taken back, one step too far, and one put in again; a cap that is too high; the oldest changes forgotten.
 
 #[path = "../../../include/bjargolsk.rs"]
 mod ffi;
@@ -96,6 +96,12 @@ impl Bench {
         let result = unsafe { ffi::bjargolsk_redo(self.session.as_mut_ptr(), self.session.len()) };
         println!("redo: answer {} kind {:02X}", result & 0xFF, result >> 16);
     }
+
+    fn forget(&mut self, n: u32) {
+        let result =
+            unsafe { ffi::bjargolsk_forget(self.session.as_mut_ptr(), self.session.len(), n) };
+        println!("forget: answer {}", result & 0xFF);
+    }
 }
 
 fn main() {
@@ -134,4 +140,9 @@ fn main() {
     // Status 0x13; the result says which data byte is wrong, and why.
     bench.occ("high cap", BMC, 0x22, &[0x07, 0xD0]);
     bench.occ("stranger", 0x30, 0x00, &[0x10]);
+    // Five changes are held. All but the newest are forgotten: undo takes that one back, and no more.
+    bench.forget(6);
+    bench.forget(4);
+    bench.undo();
+    bench.undo();
 }

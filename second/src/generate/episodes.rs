@@ -42,6 +42,7 @@ impl<B: Bench> Generator<B> {
         }
         self.every_redo();
         self.every_mark();
+        self.every_forget();
         self.every_fault();
         self.every_buffer();
         self.every_wrong_byte();
@@ -72,6 +73,53 @@ impl<B: Bench> Generator<B> {
         self.redos(most);
         self.every_change();
         self.back_and_forth(2);
+        self.look();
+    }
+
+    /// Each number at a bound, of no entries, one, some, and the most.
+    fn every_forget(&mut self) {
+        let counts: &[usize] =
+            if self.small { &[0, 1, 33, 1024] } else { &[0, 1, 31, 32, 33, 64, 65, 97, 1024] };
+        for count in counts {
+            for forgotten in [0, 1, 32, count.saturating_sub(1), *count, count + 1, u32::MAX as usize] {
+                if self.small && ![1, 32, *count].contains(&forgotten) {
+                    continue;
+                }
+                let session = scene::session_with_entries(&mut self.random, *count);
+                self.load_session(&session);
+                self.forget(forgotten as u32);
+                self.give(Order::Image);
+                self.undo();
+                self.redo();
+            }
+        }
+        self.forget(0);
+        self.forget(u32::MAX);
+    }
+
+    /// A full journal, from fresh or loaded: room is made by forgetting, and used again.
+    fn room_made(&mut self) {
+        let count = scene::entries_about_marks(&mut self.random);
+        let session = match self.random.below(3) {
+            0 => scene::session_with_room(&mut self.random, 0),
+            1 => scene::session_with_room(&mut self.random, 1),
+            _ => scene::session_with_entries(&mut self.random, count),
+        };
+        self.load_session(&session);
+        for _ in 0..self.random.between(2, 5) {
+            self.every_change();
+            self.forget_some();
+            match self.random.below(4) {
+                0 => self.undos(5),
+                1 => self.back_and_forth(1),
+                2 => self.steps(1, 8),
+                _ => {}
+            }
+        }
+        if self.random.one_in(3) {
+            self.undo_to_the_start();
+            self.redo_to_the_end();
+        }
         self.look();
     }
 
@@ -168,7 +216,7 @@ impl<B: Bench> Generator<B> {
     }
 
     pub fn episode(&mut self) {
-        let loads = if self.small { 34 } else { 136 };
+        let loads = if self.small { 34 } else { 146 };
         match self.random.below(loads) {
             0..=9 => self.bring_up(),
             10..=13 => self.walk_from_fresh(),
@@ -179,7 +227,8 @@ impl<B: Bench> Generator<B> {
             27 => (0..10).for_each(|_| self.odd_line()),
             28 if self.small => self.ids_near_their_end(),
             29 if self.small => self.scene(),
-            30 | 31 if self.small => self.every_redo(),
+            30 if self.small => self.room_made(),
+            31 if self.small => self.every_redo(),
             32 | 33 if self.small => self.wrong_packets(),
             28..=37 => self.ids_near_their_end(),
             38..=53 => self.scene(),
@@ -208,6 +257,7 @@ impl<B: Bench> Generator<B> {
                 let count = scene::entries_about_marks(&mut self.random);
                 self.about_marks(count);
             }
+            135..=144 => self.room_made(),
             _ => self.bounds(),
         }
         if !self.small || self.random.one_in(4) {
@@ -225,7 +275,9 @@ impl<B: Bench> Generator<B> {
             34..=61 => self.nearly_right(),
             62..=82 => self.sbe(),
             83..=91 => self.undo(),
-            92..=96 => self.redo(),
+            92..=95 => self.redo(),
+            96 if self.random.one_in(2) => self.forget_some(),
+            96 => self.redo(),
             97 if self.random.one_in(4) => self.long_packet(),
             97 => self.right(About::Poll),
             _ => self.odd_line(),
@@ -414,6 +466,11 @@ impl<B: Bench> Generator<B> {
         self.every_change();
         self.step();
         if self.random.one_in(2) {
+            self.forget_some();
+            self.change(number);
+            self.every_change();
+        }
+        if self.random.one_in(2) {
             self.undo_to_the_start();
             self.redo_to_the_end();
         } else {
@@ -576,6 +633,7 @@ impl<B: Bench> Generator<B> {
         self.undo();
         self.redo();
         self.sbe();
+        self.forget_some();
         if self.random.one_in(12) {
             self.other_buffers();
         }

@@ -29,7 +29,10 @@ pub fn generate(count: u64, seed: u64, small: bool, output: &mut impl Write) -> 
 }
 
 fn is_call(order: &Order) -> bool {
-    matches!(order, Order::Occ { .. } | Order::Sbe(_) | Order::Undo | Order::Redo | Order::Send { .. })
+    matches!(
+        order,
+        Order::Occ { .. } | Order::Sbe(_) | Order::Undo | Order::Redo | Order::Send { .. } | Order::Forget(_)
+    )
 }
 
 impl Bench for Lines {
@@ -49,10 +52,11 @@ impl Bench for Lines {
             }
             Order::Sbe(request) => self.line(random, "sbe", &[request]),
             Order::Load(image) => self.line(random, "load", &[image]),
-            Order::Buffer(Some(length)) => self.buffer(random, *length),
+            Order::Buffer(Some(length)) => self.number(random, "buffer", *length as u64),
             Order::Buffer(None) => self.line(random, "buffer", &[]),
             Order::Undo => self.line(random, "undo", &[]),
             Order::Redo => self.line(random, "redo", &[]),
+            Order::Forget(count) => self.number(random, "forget", u64::from(*count)),
             Order::Fresh => self.line(random, "fresh", &[]),
             Order::Image => self.line(random, "image", &[]),
             Order::Why => self.line(random, "why", &[]),
@@ -118,9 +122,9 @@ impl Lines {
     }
 
     /// With zeros before the number now and then.
-    fn buffer(&mut self, random: &mut Random, length: usize) {
+    fn number(&mut self, random: &mut Random, word: &str, number: u64) {
         let zeros = if random.one_in(6) { random.between(1, 30) } else { 0 };
-        let line = spelling::number_line(random, "buffer", &format!("{}{length}", "0".repeat(zeros)));
+        let line = spelling::number_line(random, word, &format!("{}{number}", "0".repeat(zeros)));
         self.say(random, &line);
     }
 }

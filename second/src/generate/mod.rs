@@ -124,6 +124,24 @@ impl<B: Bench> Generator<B> {
         self.give(Order::Redo);
     }
 
+    fn forget(&mut self, count: u32) {
+        self.give(Order::Forget(count));
+    }
+
+    /// About as many as the journal holds, a few of them, or far too many.
+    fn forget_some(&mut self) {
+        let held = self.session().inspect().journal.entries;
+        let (any, random) = (self.random.below(held + 1), &mut self.random);
+        let count = match random.below(8) {
+            0 => random.pick(&[0, held, held + 1, held.saturating_sub(1)]),
+            1 => random.pick(&[held + 2, 2048, 65536 + any, 1 << 31, u32::MAX as usize]),
+            2 => random.pick(&[31, 32, 33, 64]).min(held),
+            3 => any,
+            _ => random.between(0, held.min(5)),
+        };
+        self.forget(count as u32);
+    }
+
     fn long_packet(&mut self) {
         if self.random.one_in(4) {
             let (kind, data) = commands::crowded(&mut self.random);

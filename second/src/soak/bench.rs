@@ -245,6 +245,7 @@ impl Bench for Soak {
             Order::Sbe(request) => self.call(random, Call::Sbe { request, room: 0 }),
             Order::Undo => self.call(random, Call::Undo),
             Order::Redo => self.call(random, Call::Redo),
+            Order::Forget(count) => self.call(random, Call::Forget(count)),
             Order::Fresh => self.call(random, Call::Fresh),
             Order::Load(image) => self.load(random, image),
             Order::Buffer(length) => self.buffer = length,

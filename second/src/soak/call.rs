@@ -12,6 +12,7 @@ pub struct Library {
     sbe: fn(&mut [u8], &[u8], &mut [u8]) -> u32,
     undo: fn(&mut [u8]) -> u32,
     redo: fn(&mut [u8]) -> u32,
+    forget: fn(&mut [u8], u32) -> u32,
 }
 
 pub const PROVED: Library = Library {
@@ -20,9 +21,10 @@ pub const PROVED: Library = Library {
     sbe: proved::sbe,
     undo: proved::undo,
     redo: proved::redo,
+    forget: proved::forget,
 };
 pub const SECOND: Library =
-    Library { fresh: c::fresh, occ: c::occ, sbe: c::sbe, undo: c::undo, redo: c::redo };
+    Library { fresh: c::fresh, occ: c::occ, sbe: c::sbe, undo: c::undo, redo: c::redo, forget: c::forget };
 
 /// All that a call's outcome hangs on beside the session; `room` is the length of the reply buffer.
 #[derive(Clone)]
@@ -32,9 +34,10 @@ pub enum Call {
     Sbe { request: Vec<u8>, room: usize },
     Undo,
     Redo,
+    Forget(u32),
 }
 
-pub const NAMES: [&str; 5] = ["fresh", "occ", "sbe", "undo", "redo"];
+pub const NAMES: [&str; 6] = ["fresh", "occ", "sbe", "undo", "redo", "forget"];
 
 impl Call {
     /// Its place in `NAMES`.
@@ -45,6 +48,7 @@ impl Call {
             Call::Sbe { .. } => 2,
             Call::Undo => 3,
             Call::Redo => 4,
+            Call::Forget(_) => 5,
         }
     }
 
@@ -52,7 +56,7 @@ impl Call {
     pub fn input(&self) -> &[u8] {
         match self {
             Call::Occ { command: bytes, .. } | Call::Sbe { request: bytes, .. } => bytes,
-            Call::Fresh | Call::Undo | Call::Redo => &[],
+            _ => &[],
         }
     }
 
@@ -60,7 +64,7 @@ impl Call {
     pub fn room(&self) -> usize {
         match self {
             Call::Occ { room, .. } | Call::Sbe { room, .. } => *room,
-            Call::Fresh | Call::Undo | Call::Redo => 0,
+            _ => 0,
         }
     }
 
@@ -75,7 +79,7 @@ impl Call {
         match self {
             Call::Occ { .. } => OCC_REPLY_LENGTH,
             Call::Sbe { .. } => SBE_REPLY_LENGTH,
-            Call::Fresh | Call::Undo | Call::Redo => 0,
+            _ => 0,
         }
     }
 
@@ -87,6 +91,7 @@ impl Call {
             Call::Sbe { .. } => (library.sbe)(image, input, reply),
             Call::Undo => (library.undo)(image),
             Call::Redo => (library.redo)(image),
+            Call::Forget(count) => (library.forget)(image, *count),
         }
     }
 
@@ -95,6 +100,7 @@ impl Call {
         match self {
             Call::Occ { sender, command, .. } => format!("occ {sender:02X} {}", hex(command)),
             Call::Sbe { request, .. } => format!("sbe {}", hex(request)),
+            Call::Forget(count) => format!("forget {count}"),
             Call::Fresh | Call::Undo | Call::Redo => NAMES[self.number()].to_string(),
         }
     }

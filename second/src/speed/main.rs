@@ -22,6 +22,15 @@ enum Call {
     Sbe(Vec<u8>),
     Undo,
     Redo,
+    Forget(u32),
+    /// Back to where the calls started: made along, but not counted.
+    Again(Box<Start>),
+}
+
+/// One session, in both forms.
+struct Start {
+    image: Vec<u8>,
+    session: Session,
 }
 
 /// Calls that leave the session as they found it, so that they can be made again and again.
@@ -37,6 +46,11 @@ fn proved(image: &mut [u8], call: &Call, reply: &mut [u8]) -> u32 {
         Call::Sbe(request) => proved::sbe(image, request, &mut reply[..32]),
         Call::Undo => proved::undo(image),
         Call::Redo => proved::redo(image),
+        Call::Forget(count) => proved::forget(image, *count),
+        Call::Again(start) => {
+            image.copy_from_slice(&start.image);
+            0
+        }
     }
 }
 
@@ -46,6 +60,11 @@ fn on_value(session: &mut Session, call: &Call, reply: &mut [u8]) -> u32 {
         Call::Sbe(request) => c::with_bell(session.sbe(request, &mut reply[..32])),
         Call::Undo => c::with_passed(session.undo()),
         Call::Redo => c::with_kind(session.redo()),
+        Call::Forget(count) => session.forget(*count).into(),
+        Call::Again(start) => {
+            session.clone_from(&start.session);
+            0
+        }
     }
 }
 
@@ -55,6 +74,11 @@ fn on_image(image: &mut [u8], call: &Call, reply: &mut [u8]) -> u32 {
         Call::Sbe(request) => c::sbe(image, request, &mut reply[..32]),
         Call::Undo => c::undo(image),
         Call::Redo => c::redo(image),
+        Call::Forget(count) => c::forget(image, *count),
+        Call::Again(start) => {
+            image.copy_from_slice(&start.image);
+            0
+        }
     }
 }
 
@@ -151,6 +175,13 @@ fn works() -> Vec<Work> {
         works.push(work(polled, &start, poll()));
         works.push(work(taken_back, &start, back()));
     }
+    // Forgetting doesn't lead back, so the session is copied back each time; the time has that copy in it.
+    for (name, count) in
+        [("forget 1 of 1,000 entries, copied back", 1), ("forget 500 of 1,000 entries, copied back", 500)]
+    {
+        let back = Start { image: image::write(&full), session: full.clone() };
+        works.push(work(name, &full, vec![Call::Forget(count), Call::Again(Box::new(back))]));
+    }
     works
 }
 
@@ -183,13 +214,14 @@ fn check(work: &Work) {
 /// Nanoseconds for one call: the least of several rounds.
 fn time(calls: &[Call], mut make: impl FnMut(&Call)) -> f64 {
     let mut best = f64::INFINITY;
+    let counted = calls.iter().filter(|call| !matches!(call, Call::Again(_))).count();
     for _ in 0..ROUNDS {
         let (begin, mut made) = (Instant::now(), 0u32);
         while begin.elapsed() < ROUND {
             for _ in 0..16 {
                 calls.iter().for_each(&mut make);
             }
-            made += 16 * calls.len() as u32;
+            made += 16 * counted as u32;
         }
         best = best.min(begin.elapsed().as_secs_f64() * 1e9 / f64::from(made));
     }
@@ -243,6 +275,7 @@ fn times() {
 /// The stack of each sort of call, in bytes. A call is made once before, so that nothing is loaded while it is measured.
 fn stacks() {
     let capped = after(&brought_up(), 0x22, &[0x03, 0xE8]);
+    let full = with_entries(1000);
     let undone = {
         let mut session = capped.clone();
         session.undo();
@@ -258,6 +291,7 @@ fn stacks() {
         ("sbe: mask", brought_up(), mask()),
         ("undo", capped, Call::Undo),
         ("redo", undone, Call::Redo),
+        ("forget: 500 of 1,000 entries", full, Call::Forget(500)),
     ] {
         let used = |make: fn(&mut [u8], &Call, &mut [u8]) -> u32| {
             let (mut image, mut reply) = (image::write(&start), [0; 4096]);

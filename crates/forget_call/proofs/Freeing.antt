@@ -1,5 +1,5 @@
 -- Bytes moved down, and what the steps of forgetting leave in the lent bytes. Assumes nothing.
-use Prim.Native.Nat.{ℕ, zero, suc, _+_, _-_, _≤_, _<_}
+use Prim.Native.Nat.{ℕ, suc, _+_, _-_, _≤_, _<_}
 use mathlib.Core.Bool.{Bool, true, false, not}
 use mathlib.Core.Path.{_≡_, refl, sym, ap, subst, _∙_}
 use mathlib.Core.List.{List, [], _∷_, _++_, append-assoc, append-nil}
@@ -7,14 +7,13 @@ use native.Mathlib.Nat.{add-sub-cancel-left}
 use native.Mathlib.Numerals.{add-one}
 use native.Mathlib.Omega.{arith}
 use borrow.Author.Tests.{not-false}
-use lib.Dec.{ltb}
 use lib.ListN.{length, getD, set, take, drop, replicate, length-drop, length-append, drop-of-length-le}
 use lib.Seq.{take-all, take-at, drop-at, take-take, take-suc, drop-cons, set-at, getD-drop, length-take-le}
 use Rattle.wire.specs.Wire.{Bytes, pasted}
 use Rattle.wire.specs.laws.Cases.{if-b, else-b, if-lt, else-lt}
 use Rattle.wire.specs.laws.Wire.{tail-part}
 use Rattle.record.specs.Record.{workedOf}
-use Rattle.entries.specs.Entries.{Entry, between, entriesOf, scan, written}
+use Rattle.entries.specs.Entries.{Entry, entriesOf, scan, written}
 use Rattle.marks.specs.Marks.{marksOf}
 use Rattle.marks.specs.laws.Marks.{length-marks}
 use Rattle.journal.specs.declared.Way.the-variants.{Before, After}
@@ -23,14 +22,14 @@ use Rattle.session.specs.Road.{heldIn, oldest, freedBy, movedDown, sessionFreed
 use Rattle.session.specs.laws.Forgotten.{newer, length-moved, moved-part, rest-reads, freed-low}
 use Rattle.session.specs.declared.Session.{Session}
 use Rattle.image.specs.declared.Head.{Head}
-use Rattle.image.specs.Image.{headRenewed, imageOf, partAt, headIn, storeAt, withPart, withStore, journalIn, redoIn, marksIn, sessionIn}
+use Rattle.image.specs.Image.{headRenewed, imageOf, headIn, storeAt, withPart, withStore, journalIn, redoIn, marksIn, sessionIn}
 use Rattle.image.specs.laws.Stores.{store-long, store-back, store-above, marks-long, marks-back, marks-store, part-pasted}
-use Rattle.layout.specs.Layout.{journalAt, redoAt, marksSize, marksAt, imageLength}
+use Rattle.layout.specs.Layout.{journalAt, marksSize, marksAt, imageLength}
 use Rattle.inplace.specs.declared.Told.{Told}
 use Rattle.inplace.specs.InPlace.{Left, HeadStands, Marked}
 use Rattle.inplace.specs.laws.InPlace.{stands, on-read}
 use Rattle.inplace.specs.laws.InPlace as inplace
-use Rattle.inplace.specs.laws.Marked.{formed-marked, entries-are}
+use Rattle.inplace.specs.laws.Marked.{formed-marked}
 use Rattle.forget_call.specs.declared.Oldest.{Oldest}
 use Rattle.forget_call.specs.declared.Oldest.the-variants.{End, Fewer}
 use Rattle.forget_call.specs.Forget.{oldestAsks, forgetAsks, forgetCall, forgetLeft, forgotBy, forgetOn, ReadsWhole, OldestEnd}

@@ -1,10 +1,9 @@
 -- Walks over bytes that read as entries: the oldest come first, and each entry puts its mark. Assumes nothing.
 use Prim.Native.Nat.{ℕ, zero, suc, _+_, _-_, _*_, _/_, _%_, _≤_, _<_}
-use mathlib.Core.Path.{_≡_, refl, sym, ap, subst, _∙_}
+use mathlib.Core.Path.{_≡_, refl, sym, ap, _∙_}
 use mathlib.Core.List.{List, [], _∷_, _++_}
 use native.Mathlib.Numerals.{add-one}
 use native.Mathlib.Omega.{arith}
-use lib.Dec.{eqb}
 use lib.ListN.{length, getD, take, drop, replicate, length-append, take-append-drop}
 use lib.Seq.{drop-at}
 use Rattle.wire.specs.Wire.{toBE, pasted}
@@ -15,7 +14,6 @@ use Rattle.entries.specs.laws.Places.{Place, entryAt, first-place, place-writte
 use Rattle.marks.specs.Marks.{milestones, spelled, marksOf}
 use Rattle.marks.specs.laws.Marks.{thirty-second, two-each, length-marks, keeps-marks, marks-more}
 use Rattle.session.specs.Road.{oldest}
-use Rattle.forget_call.specs.declared.Oldest.{Oldest}
 use Rattle.forget_call.specs.declared.Oldest.the-variants.{End, Fewer}
 use Rattle.forget_call.specs.Forget.{ReadsWhole, OldestEnd, markedAt}
 

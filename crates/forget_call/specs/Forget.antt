@@ -1,6 +1,6 @@
 -- Document 02, j: "Add a call that forgets the n oldest changes and moves the rest down, so that their room is used again": what the call `forget` comes
 -- to, for every session and every number.
-use Prim.Native.Nat.{ℕ, _*_, _/_, _%_, _≤_, _<_}
+use Prim.Native.Nat.{ℕ, _*_, _/_, _%_, _<_}
 use mathlib.Core.Bool.{cond, not}
 use mathlib.Core.List.{List, []}
 use mathlib.Core.Path.{_≡_}

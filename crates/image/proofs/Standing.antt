@@ -11,7 +11,7 @@ use Rattle.image.specs.declared.Head.{Head}
 use Rattle.image.specs.Image.{recordRows, workedRows, imageOf, partAt, storeAt, journalIn, redoIn, marksIn, withPart, withStore, sessionIn}
 use Rattle.journal.specs.declared.Way.the-variants.{Before, After}
 use Rattle.layout.specs.Layout.{imageLength}
-use Rattle.image.specs.laws.Stores.{part-pasted, part-long, part-below, store-long, store-back, store-below, store-marks, marks-back, marks-store}
+use Rattle.image.specs.laws.Stores.{part-pasted, store-long, store-back, store-below, marks-back, marks-store}
 use Rattle.image.proofs.Fields.{filled, length-session, session-put}
 
 -- a store has its 2,048 bytes

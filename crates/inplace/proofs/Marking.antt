@@ -1,16 +1,14 @@
 -- The stores' tests in one, and what `mark_added` and `mark_removed` leave. Assumes nothing.
 use Prim.Native.Nat.{ℕ, _+_, _-_, _*_, _≤_}
 use mathlib.Core.Bool.{Bool, true, false, cond, not}
-use mathlib.Core.Path.{_≡_, refl, sym, ap, subst, _∙_}
-use mathlib.Core.List.{List, [], _∷_, _++_}
-use native.Mathlib.Nat.{add-sub-cancel-left}
+use mathlib.Core.Path.{_≡_, refl, sym, ap, _∙_}
+use mathlib.Core.List.{List, _∷_}
 use native.Mathlib.Omega.{arith}
 use lib.Dec.{ltb}
 use lib.ListN.{length, take, drop, length-drop}
-use lib.Seq.{length-take-le, take-take}
+use lib.Seq.{length-take-le}
 use Rattle.wire.specs.Wire.{toBE, pasted}
-use Rattle.wire.specs.laws.Cases.{if-b}
-use Rattle.entries.specs.Entries.{Entry, written, between, scan, readingOf}
+use Rattle.entries.specs.Entries.{Entry, scan, readingOf}
 use Rattle.marks.specs.declared.Mark.{Mark}
 use Rattle.marks.specs.declared.Newest.{Newest}
 use Rattle.marks.specs.declared.Newest.the-variants.{At, Nothing}
@@ -21,7 +19,7 @@ use Rattle.journal.specs.Read.{marksOk}
 use Rattle.journal.specs.declared.Way.the-variants.{Before, After}
 use Rattle.session.specs.Session.{storeOk, entriesIn, storesOk}
 use Rattle.session.specs.declared.Session.{Session}
-use Rattle.image.specs.Image.{partAt, withPart, journalIn, redoIn, marksIn}
+use Rattle.image.specs.Image.{withPart, journalIn, redoIn, marksIn}
 use Rattle.image.specs.laws.Stores.{part-same}
 use Rattle.layout.specs.Layout.{marksSize, journalAt, redoAt, marksAt, imageLength}
 use Rattle.inplace.specs.InPlace.{Marked, MarksMore, MarkedTo}

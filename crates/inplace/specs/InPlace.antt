@@ -46,7 +46,7 @@ abbrev pub Entered : ℕ → Edit → List ℕ → List ℕ → End → Type 0
 Entered used e b y (At m) = HasMore used e m b y
 Entered used e b y Full = y ≡ b
 
--- and the newest of them begins at a place
+-- as Marked, and the newest of the entries begins at a place
 pub record MarkedTo (used at : ℕ) (b : List ℕ) : Type 0 where
   pub marked : Marked used b
   pub newest : Entry

@@ -6,9 +6,6 @@ ghost use Rattle.entries.specs.Entries.{scan, readingOf};
 ghost use Rattle.marks.specs.Marks.{markIn, standsAt, restUnused, Last, newestOf, newestFits};
 use entries::Reading;
 
-// How many bytes they have.
-pub const LENGTH: usize = 64;
-
 // A mark: how many stand before it, and the place that it says.
 pub struct Mark {
     pub number: usize,

@@ -1,13 +1,12 @@
 -- The newest entry of a store, found from the last mark on or from the front. Assumes nothing.
-use Prim.Native.Nat.{ℕ, suc, _+_, _-_, _≤_}
+use Prim.Native.Nat.{ℕ, _+_, _-_, _≤_}
 use mathlib.Core.Bool.{Bool, true, false, cond}
 use mathlib.Core.Path.{_≡_, refl, sym, ap, subst, _∙_}
 use mathlib.Core.List.{List, [], _∷_}
-use native.Mathlib.Nat.{add-zero, zero-add}
 use native.Mathlib.Omega.{arith}
 use borrow.Author.Tests.{eqb-true}
 use lib.Dec.{eqb}
-use lib.ListN.{length, take, drop, length-drop}
+use lib.ListN.{length, take, drop}
 use lib.Seq.{length-take-le, take-take}
 use Rattle.entries.specs.Entries.{Entry, written, Scan, between, entriesOf, scan, newestAt, readingOf}
 use Rattle.entries.specs.laws.Entries.{scan-written, newest-written}
@@ -16,8 +15,8 @@ use Rattle.entries.specs.declared.Reading.the-variants.{Whole, Unknown, Cut}
 use Rattle.marks.specs.declared.Mark.{Mark}
 use Rattle.marks.specs.declared.Newest.{Newest}
 use Rattle.marks.specs.declared.Newest.the-variants.{At, Nothing}
-use Rattle.marks.specs.Marks.{passedOf, Last, newestOf}
-use Rattle.marks.specs.laws.Last.{NewestIs, IsAt, placeOf, passedIn}
+use Rattle.marks.specs.Marks.{passedOf, newestOf}
+use Rattle.marks.specs.laws.Last.{IsAt, placeOf}
 use Rattle.journal.specs.Ways.{byWay}
 use Rattle.journal.specs.declared.Way.{Way}
 use Rattle.journal.specs.declared.Way.the-variants.{Before, After}
@@ -27,9 +26,9 @@ use Rattle.session.specs.laws.Session.{formed}
 use Rattle.session.specs.laws.Reads.{Reads, reads}
 use Rattle.session.specs.declared.Session.{Session}
 use Rattle.image.specs.declared.Head.{Head}
-use Rattle.image.specs.Image.{partAt, storeAt, storeIn, journalIn, redoIn, marksIn, sessionIn}
-use Rattle.layout.specs.Layout.{journalAt, redoAt, imageLength}
-use Rattle.inplace.specs.InPlace.{HeadStands, Marked, MarkedTo}
+use Rattle.image.specs.Image.{storeAt, redoIn, sessionIn}
+use Rattle.layout.specs.Layout.{journalAt, redoAt}
+use Rattle.inplace.specs.InPlace.{HeadStands, Marked}
 use Rattle.inplace.specs.laws.Marked.{formed-marked, used-is, place-low, empty-journal, newest-there}
 use Rattle.undo_call.specs.Undo.{passedBy, LooksFrom, NewestFound, MarksBefore}
 

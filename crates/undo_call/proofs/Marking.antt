@@ -1,16 +1,15 @@
 -- The marks of the journal after an entry was moved, and the places that finding it asks for. Assumes nothing.
-use Prim.Native.Nat.{ℕ, _+_, _-_, _*_, _/_, _≤_}
-use mathlib.Core.Bool.{true}
-use mathlib.Core.Path.{_≡_, refl, sym, ap, ap₂, subst, _∙_}
+use Prim.Native.Nat.{ℕ, _+_, _-_, _≤_}
+use mathlib.Core.Path.{_≡_, refl, sym, ap, subst, _∙_}
 use mathlib.Core.List.{List, _∷_}
 use native.Mathlib.Omega.{arith}
-use lib.ListN.{length, take, drop, replicate, length-take, length-replicate}
+use lib.ListN.{length, take, length-take}
 use lib.Seq.{take-at, length-take-le}
 use Rattle.wire.specs.Wire.{pasted}
 use Rattle.wire.specs.laws.Cases.{else-lt}
 use Rattle.change.specs.Change.{inverseOf}
 use Rattle.change.specs.declared.Edit.{Edit}
-use Rattle.entries.specs.Entries.{Entry, Scan, between, entriesOf, scan}
+use Rattle.entries.specs.Entries.{Entry, Scan, entriesOf, scan}
 use Rattle.entries.specs.laws.Entries.{Sized}
 use Rattle.marks.specs.declared.Mark.{Mark}
 use Rattle.marks.specs.declared.Newest.{Newest}
@@ -27,7 +26,7 @@ use Rattle.session.specs.Session.{entriesIn, marksFor}
 use Rattle.session.specs.Road.{storeOf, usedOf, lessened, grown, grownTo}
 use Rattle.session.specs.declared.Session.{Session}
 use Rattle.image.specs.declared.Head.{Head}
-use Rattle.image.specs.Image.{storeAt, storeIn, withPart, journalIn, marksIn, sessionIn}
+use Rattle.image.specs.Image.{storeIn, withPart, journalIn, marksIn, sessionIn}
 use Rattle.image.specs.laws.Stores.{marks-long, marks-back, marks-store}
 use Rattle.image.proofs.Standing.{length-store}
 use Rattle.layout.specs.Layout.{marksSize, journalAt, marksAt, imageLength}

@@ -7,7 +7,7 @@ use native.Mathlib.Omega.{arith}
 use lib.Dec.{ltb, eqb}
 use lib.ListN.{length, take, drop, replicate, length-drop, length-replicate}
 use borrow.Author.Tests.{not-false, ltb-false}
-use lib.Seq.{length-take-le, take-take, drop-drop}
+use lib.Seq.{length-take-le, drop-drop}
 use Rattle.wire.specs.laws.Cases.{cond-cases, if-b, else-b, if-eq, else-eq}
 use Rattle.wire.specs.Wire.{pasted, Bytes}
 use Rattle.wire.specs.laws.Wire.{part-of-part, length-pasted}
@@ -17,7 +17,7 @@ use Rattle.change.specs.declared.Change.{Change}
 use Rattle.change.specs.declared.Changed.{Changed}
 use Rattle.change.specs.declared.Edit.{Edit}
 use Rattle.formed.specs.Formed.{recordOk}
-use Rattle.entries.specs.Entries.{bodyLen, scan, readingOf}
+use Rattle.entries.specs.Entries.{bodyLen}
 use Rattle.entries.specs.declared.Reading.{Reading}
 use Rattle.entries.specs.declared.Reading.the-variants.{Whole}
 use Rattle.marks.specs.declared.Newest.the-variants.{At}
@@ -31,7 +31,7 @@ use Rattle.journal.specs.declared.Way.the-variants.{Before, After}
 use Rattle.journal.specs.declared.Found.the-variants.{Good, Bad}
 use Rattle.journal.specs.declared.Got.{Got}
 use Rattle.record.specs.Record.{workedOf}
-use Rattle.session.specs.Session.{entriesIn, marksFor, wellFormed, renewed}
+use Rattle.session.specs.Session.{marksFor, wellFormed, renewed}
 use Rattle.session.specs.Road.{Asks, refuses, moves, storeOf, usedOf, lessened, grown, grownTo, sessionMoved, kept, done, settled}
 use Rattle.session.specs.laws.Session.{formed}
 use Rattle.session.specs.declared.Session.{Session}

@@ -1,5 +1,4 @@
 use Prim.Native.Nat.{_≤_, _-_}
-use mathlib.Core.Path.{refl}
 use native.Mathlib.Omega.{arith}
 use Rattle.forget_call.proofs.Walks.{Came, none-came, stays-in, came-next, too-few, found-end}
 use borrow.Author.Needs.{needs}

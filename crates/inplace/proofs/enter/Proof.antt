@@ -1,4 +1,4 @@
-use mathlib.Core.Path.{refl, sym, _∙_}
+use mathlib.Core.Path.{sym, _∙_}
 use Rattle.inplace.proofs.Standing.{no-room, marked-still, has-more}
 use borrow.Author.Needs.{needs}
 use Rattle.inplace.proofs.enter.Statement.{statement}

@@ -1,5 +1,5 @@
 use native.Mathlib.Omega.{arith}
-use Rattle.inplace.specs.laws.Marked.{place-low, next-low, newest-there}
+use Rattle.inplace.specs.laws.Marked.{place-low}
 use Rattle.inplace.proofs.Marking.{parts-long, none-more, unmarked-more, marked-more, next-room}
 use borrow.Author.Needs.{needs}
 use Rattle.inplace.proofs.mark_added.Statement.{statement}

@@ -1,7 +1,7 @@
 -- The marks of a lent session: where the last part of its journal begins, and the marks with an entry more or less. Assumes nothing.
-use Prim.Native.Nat.{ℕ, zero, suc, _+_, _-_, _*_, _/_, _%_, _≤_, _<_}
+use Prim.Native.Nat.{ℕ, _+_, _-_, _*_, _/_, _%_, _≤_, _<_}
 use mathlib.Core.Bool.{true}
-use mathlib.Core.Path.{_≡_, refl, sym, ap, subst, _∙_}
+use mathlib.Core.Path.{_≡_, sym, ap, subst, _∙_}
 use mathlib.Core.List.{List, [], _∷_}
 use native.Mathlib.Omega.{arith}
 use lib.ListN.{length, take, drop, length-drop}
@@ -13,7 +13,7 @@ use Rattle.entries.specs.laws.Entries.{Proper, scan-written, scan-proper, scan-
 use Rattle.marks.specs.declared.Mark.{Mark}
 use Rattle.marks.specs.declared.Newest.{Newest}
 use Rattle.marks.specs.declared.Newest.the-variants.{At, Nothing}
-use Rattle.marks.specs.Marks.{milestones, spelled, marksOf, passedOf, Last, newestOf, lastMark, fromMark}
+use Rattle.marks.specs.Marks.{marksOf, passedOf, Last, newestOf, lastMark}
 use Rattle.marks.specs.laws.Marks.{two-each, keeps-marks, marks-first, marks-more, marks-less, zeros}
 use Rattle.marks.specs.laws.Last.{NewestIs, last-number, last-place, mark-within, at-mark, mark-here, found-at, found-none}
 use Rattle.journal.specs.declared.Way.the-variants.{Before}
@@ -21,7 +21,7 @@ use Rattle.session.specs.Session.{wellFormed, entriesIn}
 use Rattle.session.specs.laws.Session.{formed}
 use Rattle.session.specs.laws.Reads.{reads}
 use Rattle.image.specs.declared.Head.{Head}
-use Rattle.image.specs.Image.{partAt, journalIn, marksIn, sessionIn}
+use Rattle.image.specs.Image.{journalIn, marksIn, sessionIn}
 use Rattle.layout.specs.Layout.{journalAt, imageLength}
 use Rattle.inplace.specs.InPlace.{Marked, MarkedTo}
 

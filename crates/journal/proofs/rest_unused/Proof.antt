@@ -1,5 +1,5 @@
 use mathlib.Core.Bool.{true}
-use mathlib.Core.Path.{sym, ap, _∙_, refl}
+use mathlib.Core.Path.{sym, ap, _∙_}
 use Rattle.journal.specs.Ways.{byWay}
 use Rattle.journal.specs.declared.Way.{Way}
 use Rattle.marks.specs.Marks.{restUnused}

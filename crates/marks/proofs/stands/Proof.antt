@@ -4,7 +4,6 @@ use Prim.Native.Nat.{ℕ}
 use mathlib.Core.Path.{refl, ap}
 use native.Mathlib.Omega.{arith}
 use Rattle.marks.specs.Marks.{standsAt}
-use borrow.Author.Needs.{needs}
 use Rattle.marks.proofs.stands.Statement.{statement}
 use Rattle.marks.proofs.stands.Tie as tie
 

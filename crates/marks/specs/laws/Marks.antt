@@ -1,15 +1,15 @@
 -- The marks of entries: how many there are, and what an entry more or less does to them. Assumes nothing.
-use Prim.Native.Nat.{ℕ, zero, suc, _+_, _-_, _*_, _/_, _%_, _^_, _≤_, _<_}
-use mathlib.Core.Bool.{Bool, true, false, cond}
-use mathlib.Core.Path.{_≡_, refl, sym, ap, subst, _∙_}
+use Prim.Native.Nat.{ℕ, suc, _+_, _-_, _*_, _/_, _%_, _≤_}
+use mathlib.Core.Bool.{Bool, true, false}
+use mathlib.Core.Path.{_≡_, refl, sym, ap, _∙_}
 use mathlib.Core.List.{List, [], _∷_, _++_, append-assoc, append-nil}
 use native.Mathlib.Omega.{arith}
 use borrow.Author.Tests.{eqb-true, eqb-false}
-use lib.Dec.{eqb, lit<}
-use lib.ListN.{length, getD, take, drop, replicate, length-append, length-take, length-drop, length-replicate, replicate-append-replicate}
+use lib.Dec.{eqb}
+use lib.ListN.{length, take, replicate, length-append, length-take, length-replicate, replicate-append-replicate}
 use lib.Seq.{take-append-seam, drop-append-seam, drop-append-add, take-at, drop-at}
-use Rattle.wire.specs.Wire.{beNat, toBE, pasted}
-use Rattle.wire.specs.laws.Cases.{if-eq, else-eq, cond-cases}
+use Rattle.wire.specs.Wire.{toBE, pasted}
+use Rattle.wire.specs.laws.Cases.{if-eq, else-eq}
 use Rattle.wire.specs.laws.Wire.{length-toBE}
 use Rattle.entries.specs.Entries.{Entry, written}
 use Rattle.entries.specs.laws.Entries.{Proper, length-written}

@@ -1,12 +1,12 @@
 -- The test goes entry by entry, and says whether the bytes are the marks of the entries. Assumes nothing.
-use Prim.Native.Nat.{ℕ, zero, suc, _+_, _-_, _*_, _/_, _%_, _^_, _≤_, _<_}
+use Prim.Native.Nat.{ℕ, _+_, _-_, _*_, _/_, _%_, _≤_, _<_}
 use mathlib.Core.Bool.{Bool, true, false, cond, false≢true}
 use mathlib.Core.Path.{_≡_, refl, sym, ap, ap₂, subst, _∙_}
 use mathlib.Core.List.{List, [], _∷_, _++_, append-nil}
 use native.Mathlib.Omega.{arith}
 use borrow.Author.Tests.{eqb-true, eq-eqb}
-use lib.Dec.{eqb, lit<}
-use lib.ListN.{length, take, drop, length-append, length-drop, length-replicate, take-append-drop}
+use lib.Dec.{eqb}
+use lib.ListN.{length, take, drop, length-append, length-drop, take-append-drop}
 use lib.Seq.{take-at, drop-at, take-add, length-take-le, take-all}
 use Rattle.wire.specs.Wire.{beNat, toBE, allAre, Bytes}
 use Rattle.wire.specs.laws.Cases.{if-eq, else-eq, if-b}
@@ -14,7 +14,7 @@ use Rattle.wire.specs.laws.Wire.{be-toBE, toBE-be, bytes-take, bytes-drop, part
 use Rattle.entries.specs.Entries.{Entry, written}
 use Rattle.entries.specs.laws.Entries.{length-written}
 use Rattle.marks.specs.Marks.{milestones, spelled, marksOf, same, markIn, standsAt, allStand, restUnused, marksFit}
-use Rattle.marks.specs.laws.Marks.{thirty-second, marked-one, unmarked-one, count-milestones, length-spelled, spelled-append, length-marks, marks-padded, zeros}
+use Rattle.marks.specs.laws.Marks.{thirty-second, marked-one, unmarked-one, count-milestones, length-spelled, spelled-append, marks-padded, zeros}
 
 -- ---- tests
 

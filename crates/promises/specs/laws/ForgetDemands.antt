@@ -1,5 +1,5 @@
 -- Demands 1 and 2 of forgetting: its answers, and what it does. Assumes nothing.
-use Prim.Native.Nat.{ℕ, _+_, _-_, _≤_, _<_}
+use Prim.Native.Nat.{ℕ, _+_, _-_, _≤_}
 use mathlib.Core.Bool.{Bool, true, false, cond, not, true≢false}
 use mathlib.Core.Logic.{_↔_}
 use mathlib.Core.Path.{_≡_, refl, sym, ap, ap₂, subst, _∙_}
@@ -23,7 +23,7 @@ use Rattle.journal.specs.declared.Way.the-variants.{Before}
 use Rattle.session.specs.declared.Session.{Session}
 use Rattle.forget_call.specs.Forget.{oldestAsks, forgetAsks, forgetCall}
 use Rattle.links.specs.Typed.{TypedSession}
-use Rattle.entries.specs.Entries.{Entry, written, Scan, entriesOf, scan}
+use Rattle.entries.specs.Entries.{Entry, written, Scan, entriesOf}
 use Rattle.entries.specs.laws.Entries.{scan-written}
 use Rattle.marks.specs.laws.Marks.{length-marks}
 use Rattle.sbe.specs.Conditions.{Accepted}

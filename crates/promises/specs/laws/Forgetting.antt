@@ -1,24 +1,23 @@
 -- Forgetting the oldest changes: the session of a history is that of the changes kept, from the record that the forgotten ones gave. Assumes nothing.
-use Prim.Native.Nat.{ℕ, zero, suc, _+_, _-_, _≤_, _<_}
+use Prim.Native.Nat.{ℕ, zero, suc, _+_, _-_, _≤_}
 use mathlib.Core.Bool.{true, cond, not}
 use mathlib.Core.Path.{_≡_, refl, sym, ap, ap₂, subst, _∙_}
 use mathlib.Core.List.{List, [], _∷_, _++_, append-assoc, append-nil}
 use native.Mathlib.Omega.{arith}
 use lib.Dec.{ltb}
-use lib.ListN.{length, take, drop, replicate, length-append, length-take, length-drop, length-replicate, take-append-drop, replicate-append-replicate}
+use lib.ListN.{length, take, drop, length-append, take-append-drop, replicate-append-replicate}
 use lib.Seq.{take-take, drop-at, drop-append-le, drop-append-seam, length-take-le}
 use Rattle.wire.specs.laws.Cases.{else-b}
-use Rattle.record.specs.Record.{workedOf}
 use Rattle.record.specs.declared.Record.{Record}
 use Rattle.change.specs.Change.{putOf, inverseOf}
 use Rattle.change.specs.declared.Edit.{Edit}
 use Rattle.formed.specs.Formed.{recordOk}
 use Rattle.entries.specs.Entries.{Entry, written, Scan, between, entriesOf, scan}
-use Rattle.journal.specs.Bytes.{entryFor, entryBytes}
+use Rattle.journal.specs.Bytes.{entryBytes}
 use Rattle.journal.specs.Ways.{byWay}
 use Rattle.journal.specs.declared.Way.the-variants.{Before}
-use Rattle.session.specs.Session.{entriesIn, wellFormed, renewed}
-use Rattle.session.specs.Road.{Asks, refuses, forgets, heldIn, oldest, freedBy, movedDown, sessionFreed, forgotten}
+use Rattle.session.specs.Session.{entriesIn, renewed}
+use Rattle.session.specs.Road.{refuses, forgets, heldIn, oldest, freedBy, movedDown, sessionFreed, forgotten}
 use Rattle.session.specs.laws.Forgotten.{freed-is}
 use Rattle.session.specs.declared.Session.{Session}
 use Rattle.links.specs.Typed.{TypedRecord}

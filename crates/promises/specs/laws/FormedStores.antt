@@ -10,7 +10,7 @@ use Rattle.wire.specs.Wire.{allAre, pasted}
 use Rattle.wire.specs.laws.Wire.{all-replicate, all-append}
 use Rattle.wire.specs.laws.Cases.{if-b, else-lt}
 use Rattle.change.specs.declared.Edit.{Edit}
-use Rattle.entries.specs.Entries.{Entry, written, Scan, between, within, unknown, scanFrom, scanBy, scan, newestAt}
+use Rattle.entries.specs.Entries.{Entry, written, between, scanFrom, scanBy, scan, newestAt}
 use Rattle.entries.specs.laws.Entries.{scan-written, scan-older, take-newest, length-written}
 use Rattle.journal.specs.Bytes.{entryFor, entryBytes}
 use Rattle.journal.specs.Read.{entryOk, allOk, scanOk, entriesOk}
@@ -20,7 +20,7 @@ use Rattle.journal.specs.declared.Way.{Way}
 use Rattle.journal.specs.declared.Way.the-variants.{Before, After}
 use Rattle.journal.specs.laws.Bodies.{Writable}
 use Rattle.journal.specs.laws.Ends.{added, length-added, added-reads, added-unused}
-use Rattle.session.specs.laws.Reads.{Reads, reads}
+use Rattle.session.specs.laws.Reads.{reads}
 use Rattle.session.specs.laws.Session.{Store, Formed}
 use Rattle.session.specs.declared.Session.{Session}
 use Rattle.session.specs.Road.{storeOf, usedOf}

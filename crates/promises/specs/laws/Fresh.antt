@@ -1,12 +1,9 @@
 -- A fresh session starts a history. Assumes nothing.
-use Prim.Native.Nat.{ℕ, _≤_}
 use mathlib.Core.Bool.{true}
 use mathlib.Core.Path.{_≡_, refl}
 use mathlib.Core.List.{[]}
 use native.Mathlib.Omega.{arith}
-use lib.ListN.{replicate}
 use Rattle.record.specs.Record.{freshRecord}
-use Rattle.change.specs.With.{withLogs}
 use Rattle.formed.specs.Formed.{recordOk}
 use Rattle.session.specs.Session.{freshSession}
 use Rattle.links.specs.laws.Typed.{typed-fresh}
@@ -20,8 +17,6 @@ use Rattle.promises.specs.laws.Struck.{off}
 use Rattle.promises.specs.laws.Marks.{strokes-start}
 use Rattle.journal.specs.Ways.{byWay}
 use Rattle.promises.specs.laws.Demand3.{Inv}
-use Rattle.promises.specs.laws.Shifted.{no-log}
-use Rattle.promises.specs.Shifted.{shiftedRecord}
 
 fresh-ok : recordOk freshRecord 1 ≡ true
 unfolding computedSession

@@ -1,6 +1,6 @@
 -- The marks and the number passed, in the request's words. Assumes nothing.
-use Prim.Native.Nat.{ℕ, zero, suc, _+_, _-_, _*_, _/_, _%_, _≤_, _<_}
-use mathlib.Core.Bool.{Bool, true, false, cond}
+use Prim.Native.Nat.{ℕ, suc, _+_, _-_, _*_, _/_, _≤_, _<_}
+use mathlib.Core.Bool.{Bool, true, false}
 use mathlib.Core.Path.{_≡_, refl, sym, ap, subst, _∙_}
 use mathlib.Core.List.{List, [], _∷_, _++_}
 use native.Mathlib.Omega.{arith}
@@ -9,9 +9,8 @@ use lib.Dec.{ltb, eqb}
 use lib.ListN.{length, getD, take, drop, length-take, List·getD-append, List·getD-eq-default}
 use lib.Seq.{getD-at}
 use Rattle.wire.specs.laws.Cases.{cond-elim, if-eq, else-eq}
-use Rattle.entries.specs.Entries.{Entry, written, between, entriesOf, scan}
-use Rattle.entries.specs.laws.Entries.{length-written}
-use Rattle.marks.specs.Marks.{milestones, marksOf, passedOf, markIn}
+use Rattle.entries.specs.Entries.{Entry, written, entriesOf}
+use Rattle.marks.specs.Marks.{milestones, marksOf, passedOf}
 use Rattle.marks.specs.laws.Marks.{thirty-second, marked-one, unmarked-one, count-milestones, length-marks}
 use Rattle.marks.specs.laws.Last.{read-mark}
 use Rattle.journal.specs.declared.Way.the-variants.{Before}

@@ -5,11 +5,6 @@
 #[path = "../../include/bjargolsk.rs"]
 mod ffi;
 
-// Functions that include/bjargolsk.rs has only once their request has landed.
-extern "C" {
-    fn bjargolsk_forget(session: *mut u8, session_length: usize, count: u32) -> u32;
-}
-
 // SAFETY, of each: a pointer comes with the length of the slice that it was taken from, and no two slices overlap, as one of them at most is shared.
 
 pub fn fresh(image: &mut [u8]) -> u32 {
@@ -37,5 +32,5 @@ pub fn redo(image: &mut [u8]) -> u32 {
 }
 
 pub fn forget(image: &mut [u8], count: u32) -> u32 {
-    unsafe { bjargolsk_forget(image.as_mut_ptr(), image.len(), count) }
+    unsafe { ffi::bjargolsk_forget(image.as_mut_ptr(), image.len(), count) }
 }

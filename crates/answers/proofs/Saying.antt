@@ -7,15 +7,16 @@ use native.Mathlib.Nat.{zero-add}
 use native.Mathlib.Omega.{arith}
 use lib.Dec.{ltb}
 use lib.ListN.{length, take, drop}
+use lib.Seq.{take-all}
 use borrow.Author.Tests.{ltb-false}
 use Rattle.wire.specs.Wire.{pasted, beNat}
 use Rattle.wire.specs.laws.Cases.{if-lt, else-lt, if-eq, else-eq, if-ne, else-ne}
-use Rattle.text.specs.Text.{Sheet, sheet, ascii, putOn, putAll, fromFront, lineEnd, decimal}
+use Rattle.text.specs.Text.{Sheet, sheet, ascii, putOn, putAll, fromFront, lineEnd, hexes, decimal}
 use Rattle.text.specs.laws.Pieces.{same-pieces, put-fits}
 use Rattle.listing.specs.Listing.{tooLong, listing, longest, listed, listedLength}
 use Rattle.listing.specs.laws.Lengths.{length-listing}
 use Rattle.places.specs.Reasons.{wordsFor}
-use Rattle.answers.specs.Answers.{lineText, callText, wholeReply, replyLength, whyText, listText}
+use Rattle.answers.specs.Answers.{lineText, callText, wholeReply, replyLength, dataText, bytesRead, readFor, readText, whyText, listText}
 
 -- ---- after the session answer
 
@@ -45,6 +46,58 @@ module _ (s : List ℕ) where
 
     pub reply-whole : 7 + n ≤ length s → 7 + n ≡ replyLength s
     reply-whole h = else-lt 0 (7 + n) h refl ∙ reply-by
+
+-- ---- what was read of the SEEPROM
+
+module _ (bytes : List ℕ) where
+  pub data-none : length bytes ≡ 0 → ascii " data" ∷ [] ≡ dataText bytes
+  unfolding dataText
+  data-none h = ap (λ (l : List (List ℕ)). ascii " data" ∷ l) (if-eq _ _ h refl)
+
+  pub data-some : (length bytes ≡ 0 → ⊥) → ascii " data" ∷ ascii " " ∷ hexes bytes ≡ dataText bytes
+  unfolding dataText
+  data-some h = ap (λ (l : List (List ℕ)). ascii " data" ∷ l) (else-eq _ _ h refl)
+
+module _ (request buffer : List ℕ) {n : ℕ} (size : n ≡ beNat (take 4 (drop 12 request))) where
+  pub read-all : length buffer < n → buffer ≡ bytesRead request buffer
+  unfolding bytesRead
+  read-all h = sym (take-all (beNat (take 4 (drop 12 request))) buffer (omega (arith, size)))
+
+  pub read-part : take n buffer ≡ bytesRead request buffer
+  unfolding bytesRead
+  read-part = ap (λ (m : ℕ). take m buffer) size
+
+module _ (request response buffer : List ℕ) where
+  pub read-no-request : length request < 32 → [] ≡ readText request response buffer
+  unfolding readText
+  read-no-request h = if-lt _ _ h refl
+
+  module _ (whole : 32 ≤ length request) where
+    pub read-no-response : length response < 32 → [] ≡ readText request response buffer
+    unfolding readText
+    read-no-response h = else-lt _ _ whole (if-lt _ _ h refl)
+
+    module _ (answered : 32 ≤ length response) {asked : ℕ} (a : asked ≡ beNat (take 2 (drop 6 request))) where
+      read-by : {status : ℕ} {ps : List (List ℕ)} → status ≡ beNat (take 4 response) → ps ≡ readFor asked status (bytesRead request buffer)
+          → ps ≡ readText request response buffer
+      unfolding readText
+      read-by {status} s e =
+          else-lt _ _ whole
+          (else-lt _ _ answered
+          (e ∙ ap₂ (λ (n m : ℕ). readFor n m (bytesRead request buffer)) a s))
+
+      pub read-other : (asked ≡ 0xD703 → ⊥) → [] ≡ readText request response buffer
+      unfolding readFor
+      read-other h = read-by refl (if-ne _ _ h refl)
+
+      module _ (read : asked ≡ 0xD703) {status : ℕ} (s : status ≡ beNat (take 4 response)) where
+        pub read-refused : (status ≡ 0 → ⊥) → [] ≡ readText request response buffer
+        unfolding readFor
+        read-refused h = read-by s (else-ne _ _ read (if-ne _ _ h refl))
+
+        pub read-done : status ≡ 0 → dataText (bytesRead request buffer) ≡ readText request response buffer
+        unfolding readFor
+        read-done h = read-by s (else-ne _ _ read (else-ne _ _ h refl))
 
 -- ---- why
 

@@ -9,7 +9,7 @@ use Rattle.text.specs.laws.Pieces.{same-pieces}
 use Rattle.words.specs.Words.{begunBy, wordsIn, wordAt}
 use Rattle.places.specs.Reasons.{named, wordsAmong, wordsFor}
 use Rattle.orders.specs.declared.Wrong.{Wrong}
-use Rattle.orders.specs.declared.Wrong.the-variants.{LongLine, NoWord, MoreText, NoDigit, TooMany, NoImage, NoNumber, LongBuffer, GreatNumber}
+use Rattle.orders.specs.declared.Wrong.the-variants.{LongLine, NoWord, MoreText, NoDigit, TooMany, NoImage, NoNumber, LongBuffer, GreatNumber, GreatTime, LongSeeprom}
 use Rattle.answers.specs.Answers.{columnText, imageComplaint, complaintText}
 use Rattle.answers.specs.Words.{placeOf}
 
@@ -17,9 +17,9 @@ use Rattle.answers.specs.Words.{placeOf}
 
 abbrev complaints : List ℕ
 complaints =
-    ascii "line over 32768 bytes|unknown word|nothing more expected|hex digit expected|command over 8192 bytes|number expected|number over 8192|number over 4294967295|"
+    ascii "line over 32768 bytes|unknown word|nothing more expected|hex digit expected|command over 8192 bytes|number expected|number over 8192|number over 4294967295|number over 18446744073709551615|seeprom over 8192 bytes|"
 
-complaint-words : (what : Wrong) (column : ℕ) → (placeOf what ≡ 8 → ⊥) → columnText (wordAt complaints (placeOf what)) column ≡ complaintText what column
+complaint-words : (what : Wrong) (column : ℕ) → (placeOf what ≡ 10 → ⊥) → columnText (wordAt complaints (placeOf what)) column ≡ complaintText what column
 unfolding placeOf complaintText wordAt wordsIn begunBy
 complaint-words LongLine column h = refl
 complaint-words NoWord column h = refl
@@ -30,8 +30,10 @@ complaint-words NoImage column h = absurd (h refl)
 complaint-words NoNumber column h = refl
 complaint-words LongBuffer column h = refl
 complaint-words GreatNumber column h = refl
+complaint-words GreatTime column h = refl
+complaint-words LongSeeprom column h = refl
 
-image-words : (what : Wrong) (column : ℕ) → placeOf what ≡ 8 → imageComplaint ≡ complaintText what column
+image-words : (what : Wrong) (column : ℕ) → placeOf what ≡ 10 → imageComplaint ≡ complaintText what column
 unfolding placeOf complaintText
 image-words LongLine column e = absurd (omega (arith, e))
 image-words NoWord column e = absurd (omega (arith, e))
@@ -42,15 +44,17 @@ image-words NoImage column e = refl
 image-words NoNumber column e = absurd (omega (arith, e))
 image-words LongBuffer column e = absurd (omega (arith, e))
 image-words GreatNumber column e = absurd (omega (arith, e))
+image-words GreatTime column e = absurd (omega (arith, e))
+image-words LongSeeprom column e = absurd (omega (arith, e))
 
 module _ (d : List ℕ) {s : Sheet} (what : Wrong) (column : ℕ) {place : ℕ} (found : place ≡ placeOf what) where
-  pub complains : {words : List ℕ} → (place ≡ 8 → ⊥) → words ≡ wordAt complaints place → s ≡ fromFront d (columnText words column)
+  pub complains : {words : List ℕ} → (place ≡ 10 → ⊥) → words ≡ wordAt complaints place → s ≡ fromFront d (columnText words column)
       → s ≡ fromFront d (complaintText what column)
   complains h e =
       same-pieces (sheet d 0)
       (ap (λ (l : List ℕ). columnText l column) (e ∙ ap (wordAt complaints) found) ∙ complaint-words what column (λ k. h (found ∙ k)))
 
-  pub complains-image : place ≡ 8 → s ≡ fromFront d imageComplaint → s ≡ fromFront d (complaintText what column)
+  pub complains-image : place ≡ 10 → s ≡ fromFront d imageComplaint → s ≡ fromFront d (complaintText what column)
   complains-image h = same-pieces (sheet d 0) (image-words what column (sym found ∙ h))
 
 -- ---- the words of a reason

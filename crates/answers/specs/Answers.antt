@@ -10,7 +10,7 @@ use Rattle.listing.specs.Listing.{tooLong, listing, longest}
 use Rattle.places.specs.Reasons.{wordsFor}
 use Rattle.orders.specs.declared.Wrong.{Wrong}
 use Rattle.layout.specs.Layout.{imageLength}
-use Rattle.orders.specs.declared.Wrong.the-variants.{LongLine, NoWord, MoreText, NoDigit, TooMany, NoImage, NoNumber, LongBuffer, GreatNumber}
+use Rattle.orders.specs.declared.Wrong.the-variants.{LongLine, NoWord, MoreText, NoDigit, TooMany, NoImage, NoNumber, LongBuffer, GreatNumber, GreatTime, LongSeeprom}
 
 -- "Every answer line ends in one LF"
 unfoldable pub lineText : List ℕ → List (List ℕ)
@@ -34,6 +34,8 @@ complaintText NoImage column = imageComplaint
 complaintText NoNumber column = columnText (ascii "number expected") column
 complaintText LongBuffer column = columnText (ascii "number over 8192") column
 complaintText GreatNumber column = columnText (ascii "number over 4294967295") column
+complaintText GreatTime column = columnText (ascii "number over 18446744073709551615") column
+complaintText LongSeeprom column = columnText (ascii "seeprom over 8192 bytes") column
 
 -- ---- calls
 
@@ -56,9 +58,32 @@ replyText answer reply = callText answer (spaced (take (replyLength reply) reply
 unfoldable pub bellText : ℕ → List (List ℕ)
 bellText bell = ascii " bell " ∷ hexes (toBE 2 bell)
 
--- "a blank, the response's 32 bytes likewise", and the doorbell
-unfoldable pub rungText : ℕ → List ℕ → ℕ → List (List ℕ)
-rungText answer response bell = callText answer (spaced response ++ bellText bell)
+-- "` data` and, where it read any, a blank and the bytes read, capitals without blanks"
+unfoldable pub dataText : List ℕ → List (List ℕ)
+dataText bytes = ascii " data" ∷ cond (eqb (length bytes) 0) [] (ascii " " ∷ hexes bytes)
+
+-- as many as the request's size says, which stands at 12 (section 8.2 of source document 003)
+unfoldable pub bytesRead : List ℕ → List ℕ → List ℕ
+bytesRead request buffer = take (beNat (take 4 (drop 12 request))) buffer
+
+-- "A read of the SEEPROM (D7 03) with success", by class with command and by both statuses as one number
+unfoldable pub readFor : ℕ → ℕ → List ℕ → List (List ℕ)
+readFor asked status bytes = cond (not (eqb asked 0xD703)) [] (cond (not (eqb status 0)) [] (dataText bytes))
+
+-- of a whole request and response
+unfoldable pub readText : List ℕ → List ℕ → List ℕ → List (List ℕ)
+readText request response buffer =
+    cond (ltb (length request) 32) []
+    (cond (ltb (length response) 32) []
+    (readFor (beNat (take 2 (drop 6 request))) (beNat (take 4 response)) (bytesRead request buffer)))
+
+-- "a blank, the response's 32 bytes likewise", the doorbell, and what was read
+unfoldable pub rungText : ℕ → List ℕ → List ℕ → ℕ → List ℕ → List (List ℕ)
+rungText answer request response bell buffer = callText answer (spaced response ++ (bellText bell ++ readText request response buffer))
+
+-- time: "if it is 0, ` bell XXXX`"
+unfoldable pub timedText : ℕ → ℕ → List (List ℕ)
+timedText answer bell = callText answer (bellText bell)
 
 -- redo: "a blank and the kind, two hex digits"
 unfoldable pub kindText : ℕ → ℕ → List (List ℕ)
@@ -96,11 +121,13 @@ helpText =
     ∷ ascii "undo              take the newest change back\n"
     ∷ ascii "redo              put the change last taken back in again\n"
     ∷ ascii "forget N          forget the N oldest changes\n"
+    ∷ ascii "time N            N microseconds have passed\n"
     ∷ ascii "fresh             begin again with a fresh session\n"
     ∷ ascii "image             the session as " ∷ decimal imageLength ∷ ascii " bytes\n"
     ∷ ascii "load BYTES        go on with the session of such an image\n"
     ∷ ascii "send SS TT DATA   as occ: a packet of type TT, framed for you\n"
     ∷ ascii "buffer N          reply buffers of N bytes; alone: whole ones again\n"
+    ∷ ascii "seeprom BYTES     lend these bytes as the SEEPROM's image\n"
     ∷ ascii "why               which data byte the last packet had wrong\n"
     ∷ ascii "show              the session for a person\n"
     ∷ ascii "journal           the journal's entries\n"

@@ -1,7 +1,7 @@
 -- Which of the words for what is wrong in a line are meant.
 use Prim.Native.Nat.{ℕ}
 use Rattle.orders.specs.declared.Wrong.{Wrong}
-use Rattle.orders.specs.declared.Wrong.the-variants.{LongLine, NoWord, MoreText, NoDigit, TooMany, NoImage, NoNumber, LongBuffer, GreatNumber}
+use Rattle.orders.specs.declared.Wrong.the-variants.{LongLine, NoWord, MoreText, NoDigit, TooMany, NoImage, NoNumber, LongBuffer, GreatNumber, GreatTime, LongSeeprom}
 
 -- where the words for what is wrong stand among those of `complaint`
 unfoldable pub placeOf : Wrong → ℕ
@@ -13,4 +13,6 @@ placeOf TooMany = 4
 placeOf NoNumber = 5
 placeOf LongBuffer = 6
 placeOf GreatNumber = 7
-placeOf NoImage = 8
+placeOf GreatTime = 8
+placeOf LongSeeprom = 9
+placeOf NoImage = 10

@@ -1,11 +1,12 @@
 // The text of each answer, put at the front of a lent buffer with its line feed; its length is given back. Nothing is written here.
 ghost use mathlib.Core.Path.{_≡_};
+ghost use Prim.Native.Nat.{_≤_};
 ghost use lib.ListN.{length};
 ghost use Rattle.io.specs.Counts.{Counts};
 ghost use Rattle.text.specs.Text.{sheet, ascii, putOn, putAll, fromFront, lineEnd};
 ghost use Rattle.places.specs.Reasons.{wordsFor};
 ghost use Rattle.answers.specs.Words.{placeOf};
-ghost use Rattle.answers.specs.Answers.{lineText, columnText, imageComplaint, complaintText, replyLength, replyText, bellText, rungText, kindText, passedText, whyText, imageText, listText, journalText, helpText};
+ghost use Rattle.answers.specs.Answers.{lineText, columnText, imageComplaint, complaintText, replyLength, replyText, bellText, dataText, bytesRead, readText, rungText, timedText, kindText, passedText, whyText, imageText, listText, journalText, helpText};
 use orders::Wrong;
 
 fn put_end(out: &mut [u8], at: usize) -> usize
@@ -58,7 +59,9 @@ fn place_of(what: Wrong) -> usize
         Wrong::NoNumber => 5,
         Wrong::LongBuffer => 6,
         Wrong::GreatNumber => 7,
-        Wrong::NoImage => 8,
+        Wrong::GreatTime => 8,
+        Wrong::LongSeeprom => 9,
+        Wrong::NoImage => 10,
     }
 }
 
@@ -67,12 +70,13 @@ pub fn complaint(out: &mut [u8], what: Wrong, column: usize) -> usize
     ensures { λ r. ⌜ sheet (now (out .exit)) r ≡ fromFront (now (out .entry)) (complaintText what column) ⌝ }
 {
     let place = place_of(what);
-    if place == 8 {
+    if place == 10 {
         return not_an_image(out);
     }
     let words = words::nth(
         b"line over 32768 bytes|unknown word|nothing more expected|hex digit expected|\
-          command over 8192 bytes|number expected|number over 8192|number over 4294967295|",
+          command over 8192 bytes|number expected|number over 8192|number over 4294967295|\
+          number over 18446744073709551615|seeprom over 8192 bytes|",
         place,
     );
     at_column(out, words, column)
@@ -118,17 +122,81 @@ fn put_bell(out: &mut [u8], at: usize, bell: u16) -> usize
     text::put_hexes(out, name, &digits)
 }
 
-// The session answer, and after 0 the response and the doorbell's four digits.
-pub fn rung(out: &mut [u8], answer: u8, response: &[u8], bell: u16) -> usize
+// What was read of the SEEPROM, perhaps nothing.
+fn put_data(out: &mut [u8], at: usize, bytes: &[u8]) -> usize
+    ensures { λ r. ⌜ sheet (now (out .exit)) r ≡ putAll (sheet (now (out .entry)) at) (dataText (now (bytes .entry))) ⌝ }
+{
+    let name = text::put(out, at, b" data");
+    if bytes.len() == 0 {
+        return name;
+    }
+    let blank = text::put(out, name, b" ");
+    text::put_hexes(out, blank, bytes)
+}
+
+// Of the second buffer, as many bytes as the request asks for.
+fn bytes_read<'a>(request: &[u8], buffer: &'a [u8]) -> &'a [u8]
+    requires { ⌜ 32 ≤ length (now request) ⌝ }
+    ensures { λ r. ⌜ now r ≡ bytesRead (now (request .entry)) (now (buffer .entry)) ⌝ }
+{
+    let n = wire::be32(request, 12) as usize;
+    if buffer.len() < n {
+        return buffer;
+    }
+    &buffer[..n]
+}
+
+// Nothing but after a read of the SEEPROM with success: the request's class and command and the response's statuses tell.
+fn put_read(out: &mut [u8], at: usize, request: &[u8], response: &[u8], buffer: &[u8]) -> usize
+    ensures { λ r. ⌜ sheet (now (out .exit)) r ≡ putAll (sheet (now (out .entry)) at) (readText (now (request .entry)) (now (response .entry)) (now (buffer .entry))) ⌝ }
+{
+    if request.len() < 32 {
+        return at;
+    }
+    if response.len() < 32 {
+        return at;
+    }
+    if wire::be16(request, 6) != 0xD703 {
+        return at;
+    }
+    if wire::be32(response, 0) != 0 {
+        return at;
+    }
+    put_data(out, at, bytes_read(request, buffer))
+}
+
+// The session answer, and after 0 the response, the doorbell's four digits and what was read into the second buffer.
+pub fn rung(
+    out: &mut [u8],
+    answer: u8,
+    request: &[u8],
+    response: &[u8],
+    bell: u16,
+    buffer: &[u8],
+) -> usize
     ensures { λ r. ⌜ Counts r (now (out .exit)) ⌝ }
-    ensures { λ r. ⌜ sheet (now (out .exit)) r ≡ fromFront (now (out .entry)) (rungText answer (now (response .entry)) bell) ⌝ }
+    ensures { λ r. ⌜ sheet (now (out .exit)) r ≡ fromFront (now (out .entry)) (rungText answer (now (request .entry)) (now (response .entry)) bell (now (buffer .entry))) ⌝ }
 {
     let at = text::put_decimal(out, 0, answer as u64);
     if answer != 0 {
         return put_end(out, at);
     }
     let bytes = text::put_bytes(out, at, response);
-    let end = put_bell(out, bytes, bell);
+    let name = put_bell(out, bytes, bell);
+    let end = put_read(out, name, request, response, buffer);
+    put_end(out, end)
+}
+
+// The session answer of a time report, and after 0 the doorbell.
+pub fn timed(out: &mut [u8], answer: u8, bell: u16) -> usize
+    ensures { λ r. ⌜ Counts r (now (out .exit)) ⌝ }
+    ensures { λ r. ⌜ sheet (now (out .exit)) r ≡ fromFront (now (out .entry)) (timedText answer bell) ⌝ }
+{
+    let at = text::put_decimal(out, 0, answer as u64);
+    if answer != 0 {
+        return put_end(out, at);
+    }
+    let end = put_bell(out, at, bell);
     put_end(out, end)
 }
 
@@ -227,6 +295,7 @@ pub fn help(out: &mut [u8]) -> usize
           undo              take the newest change back\n|\
           redo              put the change last taken back in again\n|\
           forget N          forget the N oldest changes\n|\
+          time N            N microseconds have passed\n|\
           fresh             begin again with a fresh session\n|\
           image             the session as |",
     );
@@ -238,6 +307,7 @@ pub fn help(out: &mut [u8]) -> usize
           load BYTES        go on with the session of such an image\n|\
           send SS TT DATA   as occ: a packet of type TT, framed for you\n|\
           buffer N          reply buffers of N bytes; alone: whole ones again\n|\
+          seeprom BYTES     lend these bytes as the SEEPROM's image\n|\
           why               which data byte the last packet had wrong\n|\
           show              the session for a person\n|\
           journal           the journal's entries\n|\

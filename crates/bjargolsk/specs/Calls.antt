@@ -12,9 +12,10 @@ use Rattle.layout.specs.Layout.{imageLength}
 use Rattle.inplace.specs.declared.Told.{Told}
 use Rattle.inplace.specs.InPlace.{Left, noImage}
 use Rattle.occ_call.specs.Occ.{occOn}
-use Rattle.sbe_call.specs.Sbe.{sbeOn}
+use Rattle.sbe_call.specs.Sbe.{sbeOn, dataOn}
 use Rattle.undo_call.specs.Undo.{undoOn, redoOn}
 use Rattle.forget_call.specs.Forget.{forgetOn}
+use Rattle.time_call.specs.Time.{timeOn}
 
 -- the answer in bits 0 to 7, the small number in bits 8 to 15, the other in bits 16 to 31
 unfoldable pub packed : Told → ℕ
@@ -39,7 +40,12 @@ OccReturns b sender c d result image reply =
 
 abbrev pub SbeReturns : List ℕ → List ℕ → List ℕ → ℕ → List ℕ → List ℕ → Type 0
 SbeReturns b r d result image reply =
-    (result ≡ packed (sbeOn b r d .told)) and (image ≡ sbeOn b r d .image) and (reply ≡ sbeOn b r d .reply)
+    (result ≡ packed (sbeOn b r d [] [] .told)) and (image ≡ sbeOn b r d [] [] .image) and (reply ≡ sbeOn b r d [] [] .reply)
+
+-- with the SEEPROM's image m and the second buffer x lent
+abbrev pub SeepromReturns : List ℕ → List ℕ → List ℕ → List ℕ → List ℕ → ℕ → List ℕ → List ℕ → List ℕ → Type 0
+SeepromReturns b r d m x result image reply served =
+    (result ≡ packed (sbeOn b r d m x .told)) and (image ≡ sbeOn b r d m x .image) and (reply ≡ sbeOn b r d m x .reply) and (served ≡ dataOn b r d m x)
 
 abbrev pub UndoReturns : List ℕ → ℕ → List ℕ → Type 0
 UndoReturns b result image = (result ≡ packed (undoOn b .told)) and (image ≡ undoOn b .image)
@@ -49,3 +55,6 @@ RedoReturns b result image = (result ≡ packed (redoOn b .told)) and (image ≡
 
 abbrev pub ForgetReturns : List ℕ → ℕ → ℕ → List ℕ → Type 0
 ForgetReturns b n result image = (result ≡ packed (forgetOn n b .told)) and (image ≡ forgetOn n b .image)
+
+abbrev pub TimeReturns : List ℕ → ℕ → ℕ → List ℕ → Type 0
+TimeReturns b n result image = (result ≡ packed (timeOn n b .told)) and (image ≡ timeOn n b .image)

@@ -1,7 +1,7 @@
-// The calls for C: those of `occ_call`, `sbe_call`, `undo_call` and `forget_call` under C names. A result has the answer in bits 0 to 7, a small number beside
+// The calls for C: those of `occ_call`, `sbe_call`, `undo_call`, `forget_call` and `time_call` under C names. A result has the answer in bits 0 to 7, a small number beside
 // it in bits 8 to 15, and one of 16 bits above.
 ghost use mathlib.Core.Path.{_≡_};
-ghost use Rattle.bjargolsk.specs.Calls.{packed, FreshReturns, OccReturns, SbeReturns, UndoReturns, RedoReturns, ForgetReturns};
+ghost use Rattle.bjargolsk.specs.Calls.{packed, FreshReturns, OccReturns, SbeReturns, SeepromReturns, UndoReturns, RedoReturns, ForgetReturns, TimeReturns};
 use inplace::Told;
 
 fn pack(t: Told) -> u32
@@ -40,7 +40,21 @@ pub extern "C" fn bjargolsk_occ(
 pub extern "C" fn bjargolsk_sbe(lent: &mut [u8], request: &[u8], reply: &mut [u8]) -> u32
     ensures { λ x. ⌜ SbeReturns (now (lent .entry)) (now (request .entry)) (now (reply .entry)) x (now (lent .exit)) (now (reply .exit)) ⌝ }
 {
-    pack(sbe_call::sbe(lent, request, reply))
+    pack(sbe_call::alone(lent, request, reply))
+}
+
+// The same with the SEEPROM's image lent, and a second buffer for what is read from it.
+#[no_mangle]
+pub extern "C" fn bjargolsk_sbe_seeprom(
+    lent: &mut [u8],
+    request: &[u8],
+    reply: &mut [u8],
+    seeprom: &[u8],
+    served: &mut [u8],
+) -> u32
+    ensures { λ x. ⌜ SeepromReturns (now (lent .entry)) (now (request .entry)) (now (reply .entry)) (now (seeprom .entry)) (now (served .entry)) x (now (lent .exit)) (now (reply .exit)) (now (served .exit)) ⌝ }
+{
+    pack(sbe_call::sbe(lent, request, reply, seeprom, served))
 }
 
 // The newest change taken back; the high 16 bits are its kind.
@@ -65,4 +79,12 @@ pub extern "C" fn bjargolsk_forget(lent: &mut [u8], n: u32) -> u32
     ensures { λ x. ⌜ ForgetReturns (now (lent .entry)) n x (now (lent .exit)) ⌝ }
 {
     pack(forget_call::forget(lent, n))
+}
+
+// So many microseconds have passed; the high 16 bits are the doorbell.
+#[no_mangle]
+pub extern "C" fn bjargolsk_time(lent: &mut [u8], n: u64) -> u32
+    ensures { λ x. ⌜ TimeReturns (now (lent .entry)) n x (now (lent .exit)) ⌝ }
+{
+    pack(time_call::time(lent, n))
 }

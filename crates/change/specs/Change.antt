@@ -7,8 +7,9 @@ use lib.Dec.{ltb, leb, eqb}
 use Rattle.record.specs.Record.{noLog, noThrottles}
 use Rattle.record.specs.declared.Log.{Log}
 use Rattle.record.specs.declared.Record.{Record}
+use Rattle.record.specs.declared.Timer.{Timer}
 use Rattle.change.specs.declared.Change.{Change}
-use Rattle.change.specs.declared.Change.the-variants.{Clear, Unclear, SetState, SetRole, SetCaps, SetUser, SetThermal, SetThrottles, Reset, Unreset, SetMask, SetDeadman, SetAreas}
+use Rattle.change.specs.declared.Change.the-variants.{Clear, Unclear, SetState, SetRole, SetCaps, SetUser, SetThermal, SetThrottles, Reset, Unreset, SetMask, SetDeadman, SetAreas, SetTimer}
 use Rattle.change.specs.declared.Tables.{Tables}
 use Rattle.change.specs.declared.Edit.{Edit}
 use Rattle.change.specs.declared.Changed.{Changed}
@@ -62,6 +63,7 @@ putWith r t (Unreset state made) = unresetOf r state made
 putWith r t (SetMask mask) = accepted (withMask r mask)
 putWith r t (SetDeadman deadman) = accepted (withDeadman r deadman)
 putWith r t (SetAreas areas) = accepted (withAreas r areas)
+putWith r t (SetTimer timer) = accepted r
 
 unfoldable pub putOf : Record → Edit → Changed
 putOf r e = putWith r (e .tables) (e .change)
@@ -93,6 +95,7 @@ backOf r (Unreset state made) = Reset (madeAgain (r .logs) made)
 backOf r (SetMask mask) = SetMask (r .mask)
 backOf r (SetDeadman deadman) = SetDeadman (r .deadman)
 backOf r (SetAreas areas) = SetAreas (r .areas)
+backOf r (SetTimer timer) = SetTimer timer
 
 -- "The journal": the kind of a change; a clear and a reset keep theirs when they are taken back
 unfoldable pub kindOf : Change → ℕ
@@ -109,6 +112,7 @@ kindOf (Unreset state made) = 0x08
 kindOf (SetMask mask) = 0x09
 kindOf (SetDeadman deadman) = 0x0A
 kindOf (SetAreas areas) = 0x0B
+kindOf (SetTimer timer) = 0x0C
 
 -- the tables beside a change, by its kind: those it has are the record's, the others zero
 abbrev pub noTables : Tables
@@ -121,3 +125,33 @@ tablesFor kind r =
 
 unfoldable pub inverseOf : Record → Edit → Edit
 inverseOf r e = record { change = backOf r (e .change); tables = tablesFor (kindOf (e .change)) r }
+
+-- ---- document 02, h: the timer stands outside the record, and its changes put nothing into that. A timer change in an entry holds the timer as it stands
+-- when the entry is written; every other change stays what it is
+
+unfoldable pub timedChange : Timer → Change → Change
+timedChange t ch = cond (eqb (kindOf ch) 0x0C) (SetTimer t) ch
+
+unfoldable pub timed : Timer → Edit → Edit
+timed t e = record { change = timedChange t (e .change); tables = e .tables }
+
+-- what takes a change back, once it is put into this record beside this timer
+unfoldable pub takesBack : Record → Timer → Edit → Edit
+takesBack r t e = timed t (inverseOf r e)
+
+-- the timer after a change: the one that a timer change sets
+unfoldable pub timerAfter : Timer → Change → Timer
+timerAfter t (Clear place log) = t
+timerAfter t (Unclear place log) = t
+timerAfter t (SetState state) = t
+timerAfter t (SetRole got role) = t
+timerAfter t (SetCaps got caps) = t
+timerAfter t (SetUser user) = t
+timerAfter t (SetThermal got) = t
+timerAfter t (SetThrottles got) = t
+timerAfter t (Reset log) = t
+timerAfter t (Unreset state made) = t
+timerAfter t (SetMask mask) = t
+timerAfter t (SetDeadman deadman) = t
+timerAfter t (SetAreas areas) = t
+timerAfter t (SetTimer timer) = timer

@@ -1,3 +1,4 @@
 pub mod Logs
 pub mod With
 pub mod Change
+pub mod laws

@@ -2,13 +2,14 @@
 ghost use mathlib.Core.Path.{_≡_};
 ghost use Rattle.change.specs.Logs.{pendingOf, firstWith, findOf, removeAt, insertAt, pendsAt};
 ghost use Rattle.change.specs.With.{withState, withRole, withCaps, withThrottles, withUser, withThermal, withLogs, withMask, withDeadman, withAreas};
-ghost use Rattle.change.specs.Change.{accepted, refused, clearOf, unclearOf, resetOf, unresetOf, putOf, lastOf, madeBy, madeAgain, backOf, kindOf, noTables, tablesFor, inverseOf};
+ghost use Rattle.change.specs.Change.{accepted, refused, clearOf, unclearOf, resetOf, unresetOf, putOf, lastOf, madeBy, madeAgain, backOf, kindOf, noTables, tablesFor, timedChange, takesBack, timerAfter};
 use record::Areas;
 use record::Caps;
 use record::Deadman;
 use record::Log;
 use record::Record;
 use record::Throttles;
+use record::Timer;
 
 // One change. A case that sets values holds them, with the received mark first; the wide tables stand beside it, in Edit.
 // A clear and a reset take another case to be taken back.
@@ -26,6 +27,7 @@ pub enum Change {
     SetMask(u32),
     SetDeadman(Deadman),
     SetAreas(Areas),
+    SetTimer(Timer),
 }
 
 // The tables that SetThermal and SetThrottles put in; all zero where a change has none.
@@ -318,6 +320,7 @@ pub fn put(r: Record, e: Edit) -> Changed
         Change::SetMask(mask) => set_mask(r, mask),
         Change::SetDeadman(deadman) => set_deadman(r, deadman),
         Change::SetAreas(areas) => set_areas(r, areas),
+        Change::SetTimer(_) => accept(r),
     }
 }
 
@@ -341,6 +344,7 @@ pub fn kind(change: Change) -> u8
         Change::SetMask(_) => 0x09,
         Change::SetDeadman(_) => 0x0A,
         Change::SetAreas(_) => 0x0B,
+        Change::SetTimer(_) => 0x0C,
     }
 }
 
@@ -398,6 +402,7 @@ fn back(r: Record, change: Change) -> Change
         Change::SetMask(_) => Change::SetMask(r.mask),
         Change::SetDeadman(_) => Change::SetDeadman(deadman),
         Change::SetAreas(_) => Change::SetAreas(areas),
+        Change::SetTimer(timer) => Change::SetTimer(timer),
     }
 }
 
@@ -438,12 +443,34 @@ fn tables_for(kind: u8, r: Record) -> Tables
     none
 }
 
-// What was before: the change that takes `e` back, once it is put into `r`.
-pub fn inverse(r: Record, e: Edit) -> Edit
-    ensures { λ x. ⌜ x ≡ inverseOf r e ⌝ }
+// ---- the timer, which stands outside the record
+
+// A timer change holds the timer as it stands; every other change stays.
+fn timed(t: Timer, change: Change) -> Change
+    ensures { λ x. ⌜ x ≡ timedChange t change ⌝ }
+{
+    if kind(change) != 0x0C {
+        return change;
+    }
+    Change::SetTimer(t)
+}
+
+// The timer after a change.
+pub fn timer_after(t: Timer, change: Change) -> Timer
+    ensures { λ x. ⌜ x ≡ timerAfter t change ⌝ }
+{
+    match change {
+        Change::SetTimer(timer) => timer,
+        _ => t,
+    }
+}
+
+// What was before: the change that takes `e` back, once it is put into `r` beside the timer `t`.
+pub fn takes_back(r: Record, t: Timer, e: Edit) -> Edit
+    ensures { λ x. ⌜ x ≡ takesBack r t e ⌝ }
 {
     let change = e.change;
-    let back = back(r, change);
+    let back = timed(t, back(r, change));
     let tables = tables_for(kind(change), r);
     Edit {
         change: back,

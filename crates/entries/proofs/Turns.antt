@@ -16,7 +16,7 @@ use Rattle.entries.specs.laws.Placed.{Placed, first-place, place-written
 
 -- ---- the journal's kinds
 
-past-the-table : (k : ℕ) → 12 ≤ k → 0 ≡ bodyLen k
+past-the-table : (k : ℕ) → 13 ≤ k → 0 ≡ bodyLen k
 unfolding bodyLen
 past-the-table k h = sym (List·getD-eq-default bodyLengths 0 h)
 
@@ -31,15 +31,15 @@ less : (n k : ℕ) → (k ≡ n → ⊥) → k < suc n → k < n
 less n k h l = omega arith
 
 pub no-other-kind : (k : ℕ) → (k ≡ 1 → ⊥) → (k ≡ 2 → ⊥) → (k ≡ 3 → ⊥) → (k ≡ 4 → ⊥) → (k ≡ 5 → ⊥) → (k ≡ 6 → ⊥) → (k ≡ 7 → ⊥) → (k ≡ 8 → ⊥) → (k ≡ 9 → ⊥)
-    → (k ≡ 10 → ⊥) → (k ≡ 11 → ⊥) → 0 ≡ bodyLen k
-no-other-kind k n1 n2 n3 n4 n5 n6 n7 n8 n9 n10 n11 = go (leb 12 k) refl
+    → (k ≡ 10 → ⊥) → (k ≡ 11 → ⊥) → (k ≡ 12 → ⊥) → 0 ≡ bodyLen k
+no-other-kind k n1 n2 n3 n4 n5 n6 n7 n8 n9 n10 n11 n12 = go (leb 13 k) refl
   where
-    none : k < 12 → k < 1
-    none h = less 1 k n1 (less 2 k n2 (less 3 k n3 (less 4 k n4 (less 5 k n5 (less 6 k n6 (less 7 k n7 (less 8 k n8 (less 9 k n9 (less 10 k n10 (less 11 k n11 h))))))))))
+    none : k < 13 → k < 1
+    none h = less 1 k n1 (less 2 k n2 (less 3 k n3 (less 4 k n4 (less 5 k n5 (less 6 k n6 (less 7 k n7 (less 8 k n8 (less 9 k n9 (less 10 k n10 (less 11 k n11 (less 12 k n12 h)))))))))))
 
-    go : (t : Bool) → leb 12 k ≡ t → 0 ≡ bodyLen k
-    go true h = past-the-table k (leb-true 12 k h)
-    go false h = kind-zero k (lt-one k (none (leb-false 12 k h)))
+    go : (t : Bool) → leb 13 k ≡ t → 0 ≡ bodyLen k
+    go true h = past-the-table k (leb-true 13 k h)
+    go false h = kind-zero k (lt-one k (none (leb-false 13 k h)))
 
 -- a known kind, by its body's length
 pub whole-kind : (n k : ℕ) → n ≡ bodyLen k → (n ≡ 0 → ⊥) → n + 1 ≡ journalTable k

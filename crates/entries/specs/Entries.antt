@@ -93,9 +93,9 @@ entryOf b = record { kind = getD b 0 0; body = drop 1 b }
 -- ---- the journal's table
 
 -- the length of each kind's body: 01 clear, 02 state, 03 role, 04 caps, 05 user cap, 06 thermal, 07 throttles, 08 reset, 09 mask,
--- 0A deadman, 0B areas; 0 stands for no such kind
+-- 0A deadman, 0B areas, 0C timer (document 02, h); 0 stands for no such kind
 abbrev pub bodyLengths : List ℕ
-bodyLengths = 0 ∷ 3 ∷ 1 ∷ 2 ∷ 7 ∷ 2 ∷ 10 ∷ 163 ∷ 2 ∷ 4 ∷ 9 ∷ 24 ∷ []
+bodyLengths = 0 ∷ 3 ∷ 1 ∷ 2 ∷ 7 ∷ 2 ∷ 10 ∷ 163 ∷ 2 ∷ 4 ∷ 9 ∷ 24 ∷ 9 ∷ []
 
 unfoldable pub bodyLen : ℕ → ℕ
 bodyLen k = getD bodyLengths k 0

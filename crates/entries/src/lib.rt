@@ -49,6 +49,7 @@ pub fn body_len(kind: u8) -> usize
         0x09 => 4,
         0x0A => 9,
         0x0B => 24,
+        0x0C => 9,
         _ => 0,
     }
 }

@@ -6,11 +6,10 @@ use mathlib.Core.List.{List, [], _∷_, _++_, append-assoc, append-nil}
 use native.Mathlib.Nat.{add-sub-cancel-left}
 use native.Mathlib.Numerals.{add-one}
 use native.Mathlib.Omega.{arith}
-use borrow.Author.Tests.{not-false}
 use lib.ListN.{length, getD, set, take, drop, replicate, length-drop, length-append, drop-of-length-le}
 use lib.Seq.{take-all, take-at, drop-at, take-take, take-suc, drop-cons, set-at, getD-drop, length-take-le}
 use Rattle.wire.specs.Wire.{Bytes, pasted}
-use Rattle.wire.specs.laws.Cases.{if-b, else-b, if-lt, else-lt}
+use Rattle.wire.specs.laws.Cases.{if-lt, else-lt}
 use Rattle.wire.specs.laws.Wire.{tail-part}
 use Rattle.record.specs.Record.{workedOf}
 use Rattle.entries.specs.Entries.{Entry, entriesOf, scan, written}
@@ -26,9 +25,8 @@ use Rattle.image.specs.Image.{headRenewed, imageOf, headIn, storeAt, withPart, 
 use Rattle.image.specs.laws.Stores.{store-long, store-back, store-above, marks-long, marks-back, marks-store, part-pasted}
 use Rattle.layout.specs.Layout.{journalAt, marksSize, marksAt, imageLength}
 use Rattle.inplace.specs.declared.Told.{Told}
-use Rattle.inplace.specs.InPlace.{Left, HeadStands, Marked}
-use Rattle.inplace.specs.laws.InPlace.{stands, on-read}
-use Rattle.inplace.specs.laws.InPlace as inplace
+use Rattle.inplace.specs.InPlace.{HeadStands, Marked}
+use Rattle.inplace.specs.laws.Silent as silent
 use Rattle.inplace.specs.laws.Marked.{formed-marked}
 use Rattle.forget_call.specs.declared.Oldest.{Oldest}
 use Rattle.forget_call.specs.declared.Oldest.the-variants.{End, Fewer}
@@ -185,6 +183,7 @@ module _ (h : Head) (b : List ℕ) (long : length b ≡ imageLength) (at : ℕ) 
             redo = redo-d i;
             ahead = h .ahead;
             marks = marks-d i;
+            timer = h .timer;
           }))
 
 -- ---- the oldest forgotten, or refused
@@ -263,25 +262,23 @@ module _ (h : Head) (b : List ℕ) (here : HeadStands h b) (whole : wellFormed (
 
 -- ---- the whole call
 
-pub no-image : (n : ℕ) (b : List ℕ) → (length b ≡ imageLength → ⊥) → (t : Told) → t ≡ record { answer = 1; small = 0; beside = 0 } → (t ≡ forgetOn n b .told) × (b ≡ forgetOn n b .image)
-unfolding forgetOn
-no-image n b z t p = let q = inplace.no-image (λ (s : Session). forgetLeft (forgetCall n s)) [] b z t p in (q .0, q .1 .0)
+refused : (n : ℕ) (s : Session) → forgetLeft (kept n s []) ≡ record { told = record { answer = n; small = 0; beside = 0 }; image = imageOf s; reply = [] }
+unfolding forgetLeft kept
+refused n s = refl
 
-module _ (n : ℕ) (b : List ℕ) (long : length b ≡ imageLength) (h : Head) (read : h ≡ headIn b) (g : Bool) (formed : g ≡ wellFormed (sessionIn h b)) where
-  on-bytes : (t : Told) (y : List ℕ) {a : Asks} → a ≡ forgetAsks n (sessionIn h b) → Tells (sessionIn h b) t y a → (t ≡ forgetOn n b .told) × (y ≡ forgetOn n b .image)
-  unfolding forgotBy forgetOn forgetCall
-  on-bytes t y e q =
-      let p = tells-same (sessionIn h b) t y e q in
-      let r = on-read (λ (s : Session). forgetLeft (forgetCall n s)) [] b long h read in
-      (p .0 ∙ ap (λ (l : Left). l .told) r, p .1 ∙ ap (λ (l : Left). l .image) r)
+module _ (n : ℕ) where
+  pub no-image : (b : List ℕ) → (length b ≡ imageLength → ⊥) → (t : Told) → t ≡ record { answer = 1; small = 0; beside = 0 } → (t ≡ forgetOn n b .told) × (b ≡ forgetOn n b .image)
+  unfolding forgetOn forgetCall forgetAsks
+  no-image = silent.other-length (oldestAsks n) forgetLeft refused
 
-  pub ill-formed : Bytes b → (t : Told) → t ≡ record { answer = 1; small = 0; beside = 0 } → not g ≡ true → (t ≡ forgetOn n b .told) × (b ≡ forgetOn n b .image)
-  unfolding forgetAsks
-  ill-formed bytes t p ill = on-bytes t b (if-b _ _ (sym (ap not formed) ∙ ill) refl) (by-number h b (stands b long h read bytes) 1 t p refl)
+  module _ (b : List ℕ) (long : length b ≡ imageLength) (h : Head) (read : h ≡ headIn b) (g : Bool) (formed : g ≡ wellFormed (sessionIn h b)) where
+    pub ill-formed : Bytes b → (t : Told) → t ≡ record { answer = 1; small = 0; beside = 0 } → not g ≡ true → (t ≡ forgetOn n b .told) × (b ≡ forgetOn n b .image)
+    unfolding forgetOn forgetCall forgetAsks
+    ill-formed = silent.ill-formed (oldestAsks n) forgetLeft refused b long h read g formed
 
-  pub well-formed-is : not g ≡ false → wellFormed (sessionIn h b) ≡ true
-  well-formed-is ok = sym formed ∙ not-false g ok
+    pub well-formed-is : not g ≡ false → wellFormed (sessionIn h b) ≡ true
+    well-formed-is = silent.well-formed-is (oldestAsks n) forgetLeft refused b long h read g formed
 
-  pub oldest-forgotten : (t : Told) (y : List ℕ) → not g ≡ false → Tells (sessionIn h b) t y (oldestAsks n (sessionIn h b)) → (t ≡ forgetOn n b .told) × (y ≡ forgetOn n b .image)
-  unfolding forgetAsks
-  oldest-forgotten t y ok q = on-bytes t y (else-b _ _ (sym (ap not formed) ∙ ok) refl) q
+    pub oldest-forgotten : (t : Told) (y : List ℕ) → not g ≡ false → Tells (sessionIn h b) t y (oldestAsks n (sessionIn h b)) → (t ≡ forgetOn n b .told) × (y ≡ forgetOn n b .image)
+    unfolding forgetOn forgetCall forgetAsks forgotBy
+    oldest-forgotten = silent.formed-told (oldestAsks n) forgetLeft refused b long h read g formed

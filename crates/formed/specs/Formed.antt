@@ -12,11 +12,12 @@ use Rattle.record.specs.declared.Area.{Area}
 use Rattle.record.specs.declared.Areas.{Areas}
 use Rattle.record.specs.declared.Deadman.{Deadman}
 use Rattle.record.specs.declared.Throttles.{Throttles}
+use Rattle.record.specs.declared.Timer.{Timer}
 use Rattle.record.specs.declared.Record.{Record}
 use Rattle.change.specs.declared.Tables.{Tables}
 use Rattle.change.specs.declared.Edit.{Edit}
 use Rattle.change.specs.declared.Change.{Change}
-use Rattle.change.specs.declared.Change.the-variants.{Clear, Unclear, SetState, SetRole, SetCaps, SetUser, SetThermal, SetThrottles, Reset, Unreset, SetMask, SetDeadman, SetAreas}
+use Rattle.change.specs.declared.Change.the-variants.{Clear, Unclear, SetState, SetRole, SetCaps, SetUser, SetThermal, SetThrottles, Reset, Unreset, SetMask, SetDeadman, SetAreas, SetTimer}
 
 -- ---- "fields are in range (what isn't received is as fresh; ..)"
 
@@ -39,11 +40,17 @@ capsOk got caps =
     (cond (not (eqb (caps .max) 0)) false
     (eqb (caps .over) 0))))
 
+-- what is off has time 0
+unfoldable pub clockOk : ℕ → ℕ → Bool
+clockOk running time = cond (not (flagOk running)) false (cond (not (eqb running 0)) true (eqb time 0))
+
 -- deadman off has time 0
 unfoldable pub deadmanOk : Deadman → Bool
-deadmanOk deadman =
-    cond (not (flagOk (deadman .running))) false
-    (cond (not (eqb (deadman .running) 0)) true (eqb (deadman .time) 0))
+deadmanOk deadman = clockOk (deadman .running) (deadman .time)
+
+-- document 02, h, outside the record: "off means 0 left"
+unfoldable pub timerOk : Timer → Bool
+timerOk timer = clockOk (timer .running) (timer .left)
 
 -- an absent pair is zero: a pair's bit, and its ten bytes
 unfoldable pub pairOk : ℕ → List ℕ → Bool
@@ -174,6 +181,7 @@ changeOk t (Unreset state made) = unresetOk state made
 changeOk t (SetMask mask) = true
 changeOk t (SetDeadman deadman) = deadmanOk deadman
 changeOk t (SetAreas areas) = areasOk areas
+changeOk t (SetTimer timer) = timerOk timer
 
 unfoldable pub editOk : Edit → Bool
 editOk e = changeOk (e .tables) (e .change)

@@ -1,7 +1,7 @@
 // When a record is well formed, and which values a change may hold: ones that a well-formed record could.
 ghost use mathlib.Core.Path.{_≡_};
 ghost use lib.ListN.{drop};
-ghost use Rattle.formed.specs.Formed.{stateOk, flagOk, roleOk, capsOk, pairOk, absentZero, throttlesOk, deadmanOk, multipleOf128, inMemory, areaOk, areasOk, inOrder, thermalRule, thermalOk, reasonOk, logOk, unused, logsOk, nextOk, fieldsOk, recordOk, clearedOk, madeOk, unresetOk};
+ghost use Rattle.formed.specs.Formed.{stateOk, flagOk, roleOk, capsOk, pairOk, absentZero, throttlesOk, clockOk, deadmanOk, timerOk, multipleOf128, inMemory, areaOk, areasOk, inOrder, thermalRule, thermalOk, reasonOk, logOk, unused, logsOk, nextOk, fieldsOk, recordOk, clearedOk, madeOk, unresetOk};
 use record::Area;
 use record::Areas;
 use record::Caps;
@@ -9,6 +9,7 @@ use record::Deadman;
 use record::Log;
 use record::Record;
 use record::Throttles;
+use record::Timer;
 
 pub fn state_ok(state: u8) -> bool
     ensures { λ x. ⌜ x ≡ stateOk state ⌝ }
@@ -99,16 +100,29 @@ pub fn throttles_ok(got: u8, throttles: Throttles) -> bool
     wire::all_are(&sets, 0)
 }
 
+// What is off has time 0.
+fn clock_ok(running: u8, time: u64) -> bool
+    ensures { λ x. ⌜ x ≡ clockOk running time ⌝ }
+{
+    if !flag_ok(running) {
+        return false;
+    }
+    if running != 0 {
+        return true;
+    }
+    time == 0
+}
+
 pub fn deadman_ok(deadman: Deadman) -> bool
     ensures { λ x. ⌜ x ≡ deadmanOk deadman ⌝ }
 {
-    if !flag_ok(deadman.running) {
-        return false;
-    }
-    if deadman.running != 0 {
-        return true;
-    }
-    deadman.time == 0
+    clock_ok(deadman.running, deadman.time)
+}
+
+pub fn timer_ok(timer: Timer) -> bool
+    ensures { λ x. ⌜ x ≡ timerOk timer ⌝ }
+{
+    clock_ok(timer.running, timer.left)
 }
 
 pub fn aligned(n: u64) -> bool

@@ -14,13 +14,14 @@ use Rattle.record.specs.declared.Areas.{Areas}
 use Rattle.record.specs.declared.Deadman.{Deadman}
 use Rattle.record.specs.declared.Record.{Record}
 use Rattle.record.specs.declared.Throttles.{Throttles}
+use Rattle.record.specs.declared.Timer.{Timer}
 use Rattle.record.specs.declared.Worked.{Worked}
 use Rattle.session.specs.declared.Session.{Session}
 use Rattle.image.specs.Rows.{widthsOf}
 use Rattle.image.specs.laws.Rows.{length-joined}
 use Rattle.image.specs.laws.Image.{recordWidths, widths-record}
-use Rattle.image.specs.Image.{byte, headRows, throttlesRows, thermalRows, logsRows, mailboxRows, workedRows, recordRows, laterRows, sessionRows, imageOf}
-use Rattle.layout.specs.Layout.{imageLength}
+use Rattle.image.specs.Image.{byte, headRows, throttlesRows, thermalRows, logsRows, mailboxRows, workedRows, recordRows, timerRows, laterRows, sessionRows, imageOf}
+use Rattle.layout.specs.Layout.{timerAt, imageLength}
 
 -- bytes written after those that were written from a place on
 paste-on : (at : ℕ) (xs bs d : List ℕ) → at + length xs ≤ length d → pasted (at + length xs) bs (pasted at xs d) ≡ pasted at (xs ++ bs) d
@@ -47,10 +48,10 @@ length-record r sets thermal = length-joined (recordRows r) ∙ ap sumOf (widths
 
 pub length-session : (s : Session) → length (joined (recordRows (s .held))) ≡ 230 → length (s .journal) ≡ 2048 → length (s .redo) ≡ 2048 → length (s .marks) ≡ 64
     → length (imageOf s) ≡ imageLength
-unfolding sumOf widthsOf imageOf sessionRows workedRows toBE
+unfolding sumOf widthsOf imageOf sessionRows workedRows timerRows toBE
 length-session s h e f g =
     let rest = workedRows (s .worked) (s .next) (s .used) ++ (s .journal ∷ toBE 2 (s .ahead) ∷ s .redo ∷ laterRows s) in
-    let m = length-joined rest ∙ ap sumOf (λ i. 2 ∷ 1 ∷ 1 ∷ 1 ∷ 2 ∷ 2 ∷ e i ∷ 2 ∷ f i ∷ g i ∷ []) in
+    let m = length-joined rest ∙ ap sumOf (λ i. 2 ∷ 1 ∷ 1 ∷ 1 ∷ 2 ∷ 2 ∷ e i ∷ 2 ∷ f i ∷ g i ∷ 1 ∷ 8 ∷ []) in
     ap length (joined-append (recordRows (s .held)) rest) ∙ length-append (joined (recordRows (s .held))) (joined rest) ∙ ap₂ (λ (a b : ℕ). a + b) h m
 
 -- a buffer that is filled by what is written
@@ -131,9 +132,14 @@ module _ (d : List ℕ) (long : 239 ≤ length d) where
       let k = rows-on 239 d long 0 181 three (logsRows (r .received) (r .logs)) x y (lit< tt) (from-front three (1 ∷ 1 ∷ 2 ∷ 2 ∷ 2 ∷ 2 ∷ 160 ∷ 2 ∷ 9 ∷ []) (λ i. 1 ∷ 1 ∷ 2 ∷ 2 ∷ 2 ∷ 2 ∷ sets i ∷ 2 ∷ thermal i ∷ [])) q h in
       rows-on 239 d long 0 193 four (mailboxRows (r .mask) (r .deadman) (r .areas)) y z (lit< tt) (from-front four (take 21 recordWidths) (ap (take 21) (widths-record r sets thermal))) k j
 
+pub timer-put : (d : List ℕ) → imageLength ≤ length d → (t : Timer) (x y : List ℕ) → x ≡ pasted 4401 (byte (t .running)) d → y ≡ pasted 4402 (toBE 8 (t .left)) x
+    → y ≡ pasted timerAt (joined (timerRows t)) d
+unfolding joined timerRows toBE
+timer-put d long t x y p q = row-on 4402 d (omega arith) 4401 4402 (byte (t .running) ∷ []) (toBE 8 (t .left)) x y (lit< tt) refl p q
+
 -- the whole image, field after field
-module _ (d : List ℕ) (long : 4337 ≤ length d) (s : Session) (wide : length (joined (recordRows (s .held))) ≡ 230) (journal : length (s .journal) ≡ 2048)
-    (redo : length (s .redo) ≡ 2048) where
+module _ (d : List ℕ) (long : 4401 ≤ length d) (s : Session) (wide : length (joined (recordRows (s .held))) ≡ 230) (journal : length (s .journal) ≡ 2048)
+    (redo : length (s .redo) ≡ 2048) (marks : length (s .marks) ≡ 64) where
   abbrev head : List (List ℕ)
   head = recordRows (s .held) ++ workedRows (s .worked) (s .next) (s .used)
 
@@ -142,37 +148,52 @@ module _ (d : List ℕ) (long : 4337 ≤ length d) (s : Session) (wide : length 
   length-head =
       ap length (joined-append (recordRows (s .held)) (workedRows (s .worked) (s .next) (s .used))) ∙ length-append (joined (recordRows (s .held))) _ ∙ ap (λ (n : ℕ). n + 9) wide
 
-  length-with : length (joined (head ++ (s .journal ∷ []))) ≡ 2287
+  -- one row more
+  row-long : (rs : List (List ℕ)) (r : List ℕ) (n m : ℕ) → length (joined rs) ≡ n → length r ≡ m → length (joined (rs ++ (r ∷ []))) ≡ n + m
   unfolding joined
-  length-with =
-      ap length (joined-append head (s .journal ∷ []) ∙ ap (λ (l : List ℕ). joined head ++ l) (append-nil (s .journal)))
-      ∙ length-append (joined head) (s .journal)
-      ∙ ap₂ (λ (a b : ℕ). a + b) length-head journal
+  row-long rs r n m p q =
+      ap length (joined-append rs (r ∷ []) ∙ ap (λ (l : List ℕ). joined rs ++ l) (append-nil r)) ∙ length-append (joined rs) r ∙ ap₂ (λ (a b : ℕ). a + b) p q
 
-  abbrev stores : List (List ℕ)
-  stores = head ++ (s .journal ∷ [])
+  abbrev toJournal : List (List ℕ)
+  toJournal = head ++ (s .journal ∷ [])
 
-  length-ahead : length (joined (stores ++ (toBE 2 (s .ahead) ∷ []))) ≡ 2289
-  unfolding joined toBE
-  length-ahead = ap length (joined-append stores (toBE 2 (s .ahead) ∷ [])) ∙ length-append (joined stores) _ ∙ ap (λ (n : ℕ). n + 2) length-with
+  abbrev toAhead : List (List ℕ)
+  toAhead = toJournal ++ (toBE 2 (s .ahead) ∷ [])
 
-  length-redo : length (joined ((stores ++ (toBE 2 (s .ahead) ∷ [])) ++ (s .redo ∷ []))) ≡ 4337
-  unfolding joined
-  length-redo =
-      ap length (joined-append (stores ++ (toBE 2 (s .ahead) ∷ [])) (s .redo ∷ []) ∙ ap (λ (l : List ℕ). joined (stores ++ (toBE 2 (s .ahead) ∷ [])) ++ l) (append-nil (s .redo)))
-      ∙ length-append (joined (stores ++ (toBE 2 (s .ahead) ∷ []))) (s .redo) ∙ ap₂ (λ (a b : ℕ). a + b) length-ahead redo
+  abbrev toRedo : List (List ℕ)
+  toRedo = toAhead ++ (s .redo ∷ [])
 
-  pub session-put : (x y u v w z : List ℕ) → x ≡ pasted 0 (joined (recordRows (s .held))) d → y ≡ pasted 230 (joined (workedRows (s .worked) (s .next) (s .used))) x
-      → u ≡ pasted 239 (s .journal) y → v ≡ pasted 2287 (toBE 2 (s .ahead)) u → w ≡ pasted 2289 (s .redo) v → z ≡ pasted 4337 (s .marks) w → z ≡ pasted 0 (imageOf s) d
+  abbrev toMarks : List (List ℕ)
+  toMarks = toRedo ++ (s .marks ∷ [])
+
+  length-journal : length (joined toJournal) ≡ 2287
+  length-journal = row-long head (s .journal) 239 2048 length-head journal
+
+  length-ahead : length (joined toAhead) ≡ 2289
+  unfolding toBE
+  length-ahead = row-long toJournal (toBE 2 (s .ahead)) 2287 2 length-journal refl
+
+  length-redo : length (joined toRedo) ≡ 4337
+  length-redo = row-long toAhead (s .redo) 2289 2048 length-ahead redo
+
+  length-marks : length (joined toMarks) ≡ 4401
+  length-marks = row-long toRedo (s .marks) 4337 64 length-redo marks
+
+  pub session-put : (x y u v w z a : List ℕ) → x ≡ pasted 0 (joined (recordRows (s .held))) d → y ≡ pasted 230 (joined (workedRows (s .worked) (s .next) (s .used))) x
+      → u ≡ pasted 239 (s .journal) y → v ≡ pasted 2287 (toBE 2 (s .ahead)) u → w ≡ pasted 2289 (s .redo) v → z ≡ pasted 4337 (s .marks) w
+      → a ≡ pasted 4401 (joined (timerRows (s .timer))) z → a ≡ pasted 0 (imageOf s) d
   unfolding imageOf sessionRows
-  session-put x y u v w z p q r t k m =
-      let two = rows-on 4337 d long 0 230 (recordRows (s .held)) (workedRows (s .worked) (s .next) (s .used)) x y (lit< tt) (zero-add _ ∙ wide) p q in
-      let three = row-on 4337 d long 0 239 head (s .journal) y u (lit< tt) (zero-add _ ∙ length-head) two r in
-      let four = row-on 4337 d long 0 2287 stores (toBE 2 (s .ahead)) u v (lit< tt) (zero-add _ ∙ length-with) three t in
-      let five = row-on 4337 d long 0 2289 (stores ++ (toBE 2 (s .ahead) ∷ [])) (s .redo) v w (lit< tt) (zero-add _ ∙ length-ahead) four k in
-      row-on 4337 d long 0 4337 ((stores ++ (toBE 2 (s .ahead) ∷ [])) ++ (s .redo ∷ [])) (s .marks) w z (lit< tt) (zero-add _ ∙ length-redo) five m
+  session-put x y u v w z a p q r t k m n =
+      let timer = timerRows (s .timer) in
+      let two = rows-on 4401 d long 0 230 (recordRows (s .held)) (workedRows (s .worked) (s .next) (s .used)) x y (lit< tt) (zero-add _ ∙ wide) p q in
+      let three = row-on 4401 d long 0 239 head (s .journal) y u (lit< tt) (zero-add _ ∙ length-head) two r in
+      let four = row-on 4401 d long 0 2287 toJournal (toBE 2 (s .ahead)) u v (lit< tt) (zero-add _ ∙ length-journal) three t in
+      let five = row-on 4401 d long 0 2289 toAhead (s .redo) v w (lit< tt) (zero-add _ ∙ length-ahead) four k in
+      let six = row-on 4401 d long 0 4337 toRedo (s .marks) w z (lit< tt) (zero-add _ ∙ length-redo) five m in
+      rows-on 4401 d long 0 4401 toMarks timer z a (omega arith) (zero-add _ ∙ length-marks) six n
       ∙ ap (λ (l : List (List ℕ)). pasted 0 (joined l) d)
-      (append-assoc (stores ++ (toBE 2 (s .ahead) ∷ [])) (s .redo ∷ []) (s .marks ∷ [])
-      ∙ append-assoc stores (toBE 2 (s .ahead) ∷ []) (s .redo ∷ s .marks ∷ [])
-      ∙ append-assoc head (s .journal ∷ []) (toBE 2 (s .ahead) ∷ s .redo ∷ s .marks ∷ [])
-      ∙ append-assoc (recordRows (s .held)) (workedRows (s .worked) (s .next) (s .used)) (s .journal ∷ toBE 2 (s .ahead) ∷ s .redo ∷ s .marks ∷ []))
+      (append-assoc toRedo (s .marks ∷ []) timer
+      ∙ append-assoc toAhead (s .redo ∷ []) (s .marks ∷ timer)
+      ∙ append-assoc toJournal (toBE 2 (s .ahead) ∷ []) (s .redo ∷ s .marks ∷ timer)
+      ∙ append-assoc head (s .journal ∷ []) (toBE 2 (s .ahead) ∷ s .redo ∷ s .marks ∷ timer)
+      ∙ append-assoc (recordRows (s .held)) (workedRows (s .worked) (s .next) (s .used)) (s .journal ∷ toBE 2 (s .ahead) ∷ s .redo ∷ s .marks ∷ timer))

@@ -8,7 +8,7 @@ use lib.Seq.{length-take-le, drop-drop}
 use Rattle.wire.specs.Wire.{toBE, pasted, joined}
 use Rattle.wire.specs.laws.Wire.{drop-pasted, length-pasted, paste-self}
 use Rattle.image.specs.declared.Head.{Head}
-use Rattle.image.specs.Image.{recordRows, workedRows, imageOf, partAt, storeAt, journalIn, redoIn, marksIn, withPart, withStore, sessionIn}
+use Rattle.image.specs.Image.{recordRows, workedRows, timerRows, imageOf, partAt, storeAt, journalIn, redoIn, marksIn, withPart, withStore, sessionIn}
 use Rattle.journal.specs.declared.Way.the-variants.{Before, After}
 use Rattle.layout.specs.Layout.{imageLength}
 use Rattle.image.specs.laws.Stores.{part-pasted, store-long, store-back, store-below, marks-back, marks-store}
@@ -32,9 +32,9 @@ stores-put d j r m x y z p q t long wj wr wm =
       (ap redoIn three ∙ marks-store y m still wm After ∙ ap redoIn two ∙ store-back x r same wr 2289 (omega arith), ap marksIn three ∙ marks-back y m still wm),
     )
 
-module _ (d : List ℕ) (long : length d ≡ imageLength) (h : Head) (x y z : List ℕ) (wide : length (joined (recordRows (h .held))) ≡ 230)
+module _ (d : List ℕ) (long : length d ≡ imageLength) (h : Head) (x y z a : List ℕ) (wide : length (joined (recordRows (h .held))) ≡ 230)
     (p : x ≡ pasted 0 (joined (recordRows (h .held))) d) (q : y ≡ pasted 230 (joined (workedRows (h .worked) (h .next) (h .used))) x)
-    (r : z ≡ pasted 2287 (toBE 2 (h .ahead)) y) where
+    (r : z ≡ pasted 2287 (toBE 2 (h .ahead)) y) (t : a ≡ pasted 4401 (joined (timerRows (h .timer))) z) where
   abbrev first : List ℕ
   first = joined (recordRows (h .held))
 
@@ -66,7 +66,7 @@ module _ (d : List ℕ) (long : length d ≡ imageLength) (h : Head) (x y z : Li
       ap (drop 2289) r ∙ drop-pasted 2287 (toBE 2 (h .ahead)) y (omega (arith, length-kept))
       ∙ sym (drop-drop 2050 239 y) ∙ ap (drop 2050) tail-kept ∙ drop-drop 2050 239 d
 
-  pub head-stands : z ≡ imageOf (sessionIn h d)
+  pub head-stands : a ≡ imageOf (sessionIn h d)
   unfolding sessionIn
   head-stands =
       let journal : y ≡ pasted 239 (journalIn d) y = sym (paste-self 239 2048 y (omega (arith, length-kept))) ∙ ap (λ (l : List ℕ). pasted 239 (take 2048 l) y) tail-kept in
@@ -75,5 +75,6 @@ module _ (d : List ℕ) (long : length d ≡ imageLength) (h : Head) (x y z : Li
       let marks : z ≡ pasted 4337 (marksIn d) z = sym (paste-self 4337 64 z (omega (arith, length-after))) ∙ ap (λ (l : List ℕ). pasted 4337 (take 64 l) z) above in
       let one = length-store d long 239 (omega arith) in
       let two = length-store d long 2289 (omega arith) in
-      let all = session-put d (omega arith) (sessionIn h d) wide one two x y y z z z p q journal r redo marks in
-      filled imageLength _ d z (length-session (sessionIn h d) wide one two (length-take-le 64 (drop 4337 d) (simp length-drop (omega arith)))) all long
+      let three : length (marksIn d) ≡ 64 = length-take-le 64 (drop 4337 d) (simp length-drop (omega arith)) in
+      let all = session-put d (omega arith) (sessionIn h d) wide one two three x y y z z z a p q journal r redo marks t in
+      filled imageLength _ d a (length-session (sessionIn h d) wide one two three) all long

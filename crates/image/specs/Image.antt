@@ -1,4 +1,4 @@
--- The image of a session: its fields one after the other, numbers big-endian, no padding, 4,401 bytes. Beside each row is its offset.
+-- The image of a session: its fields one after the other, numbers big-endian, no padding, 4,410 bytes. Beside each row is its offset.
 use Prim.Native.Nat.{ℕ, _+_}
 use mathlib.Core.Bool.{cond, not}
 use mathlib.Core.List.{List, [], _∷_, _++_}
@@ -13,11 +13,12 @@ use Rattle.record.specs.declared.Deadman.{Deadman}
 use Rattle.record.specs.declared.Received.{Received}
 use Rattle.record.specs.declared.Throttles.{Throttles}
 use Rattle.record.specs.declared.Record.{Record}
+use Rattle.record.specs.declared.Timer.{Timer}
 use Rattle.record.specs.declared.Worked.{Worked}
 use Rattle.journal.specs.declared.Way.{Way}
 use Rattle.journal.specs.declared.Way.the-variants.{Before, After}
 use Rattle.session.specs.declared.Session.{Session}
-use Rattle.layout.specs.Layout.{storeSize, marksSize, journalAt, aheadAt, redoAt, marksAt, imageLength}
+use Rattle.layout.specs.Layout.{storeSize, marksSize, journalAt, aheadAt, redoAt, marksAt, timerAt, imageLength}
 use Rattle.image.specs.declared.Head.{Head}
 
 -- ---- a session as bytes
@@ -91,11 +92,17 @@ recordRows r =
     ++ (logsRows (r .received) (r .logs)
     ++ mailboxRows (r .mask) (r .deadman) (r .areas))))
 
+unfoldable pub timerRows : Timer → List (List ℕ)
+timerRows t =
+    byte (t .running)  -- 4401
+    ∷ toBE 8 (t .left)  -- 4402
+    ∷ []
+
 -- what stands after the redo store, as wide as `laterWidths` says (layout/specs/Layout.antt)
 abbrev pub laterRows : Session → List (List ℕ)
 laterRows s =
     s .marks  -- 4337
-    ∷ []
+    ∷ timerRows (s .timer)
 
 unfoldable pub sessionRows : Session → List (List ℕ)
 sessionRows s =
@@ -165,13 +172,20 @@ recordIn b =
 unfoldable pub workedIn : List ℕ → Worked
 workedIn b = record { limit = numberAt 2 230 b; observation = byteAt 232 b; active = byteAt 233 b; wanted = byteAt 234 b }
 
+unfoldable pub timerIn : List ℕ → Timer
+timerIn b = record { running = byteAt timerAt b; left = numberAt 8 (timerAt + 1) b }
+
 -- a session's head: all but its journal, its redo store and its marks
 unfoldable pub headIn : List ℕ → Head
-headIn b = record { held = recordIn b; worked = workedIn b; next = numberAt 2 235 b; used = numberAt 2 237 b; ahead = numberAt 2 aheadAt b }
+headIn b = record { held = recordIn b; worked = workedIn b; next = numberAt 2 235 b; used = numberAt 2 237 b; ahead = numberAt 2 aheadAt b; timer = timerIn b }
 
 -- a head from a head: this record, with what is worked out of it, this next id and these used lengths; whatever isn't named here is kept
 unfoldable pub headRenewed : Head → Record → ℕ → ℕ → ℕ → Head
-headRenewed h held next used ahead = record { held = held; worked = workedOf held; next = next; used = used; ahead = ahead }
+headRenewed h held next used ahead = record { held = held; worked = workedOf held; next = next; used = used; ahead = ahead; timer = h .timer }
+
+-- and one with another timer
+unfoldable pub headTimed : Head → Timer → Head
+headTimed h timer = record { held = h .held; worked = h .worked; next = h .next; used = h .used; ahead = h .ahead; timer = timer }
 
 -- where each store stands: the journal, which holds what was before, and the redo store, which holds what was after
 unfoldable pub storeAt : Way → ℕ
@@ -200,7 +214,7 @@ marksIn b = partAt marksSize marksAt b
 -- a head, and the stores and marks that stand in the bytes
 unfoldable pub sessionIn : Head → List ℕ → Session
 sessionIn h b =
-    record { held = h .held; worked = h .worked; next = h .next; used = h .used; journal = journalIn b; ahead = h .ahead; redo = redoIn b; marks = marksIn b }
+    record { held = h .held; worked = h .worked; next = h .next; used = h .used; journal = journalIn b; ahead = h .ahead; redo = redoIn b; marks = marksIn b; timer = h .timer }
 
 unfoldable pub sessionOf : List ℕ → Session
 sessionOf b = sessionIn (headIn b) b

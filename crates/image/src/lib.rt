@@ -1,10 +1,10 @@
-// A session as 4,401 bytes, its image: its head read and written at the fields' offsets, numbers big-endian, no padding.
+// A session as 4,410 bytes, its image: its head read and written at the fields' offsets, numbers big-endian, no padding.
 ghost use mathlib.Core.Path.{_≡_};
 ghost use Prim.Native.Nat.{_≤_, _+_};
 ghost use lib.ListN.{length};
 ghost use Rattle.wire.specs.Wire.{pasted, Bytes, joined};
-ghost use Rattle.image.specs.Image.{headRows, throttlesRows, thermalRows, logsRows, mailboxRows, workedRows, recordRows, imageOf, writtenTo, partAt, capsIn, throttlesIn, receivedIn, logAt, logsIn, deadmanIn, areasIn, recordIn, workedIn, headIn, headRenewed, storeAt, journalIn, redoIn, marksIn, sessionIn};
-ghost use Rattle.layout.specs.Layout.{journalAt, redoAt, imageLength};
+ghost use Rattle.image.specs.Image.{headRows, throttlesRows, thermalRows, logsRows, mailboxRows, workedRows, recordRows, imageOf, writtenTo, partAt, capsIn, throttlesIn, receivedIn, logAt, logsIn, deadmanIn, areasIn, recordIn, workedIn, timerRows, timerIn, headIn, headRenewed, headTimed, storeAt, journalIn, redoIn, marksIn, sessionIn};
+ghost use Rattle.layout.specs.Layout.{journalAt, timerAt, imageLength};
 use journal::Way;
 use record::Area;
 use record::Areas;
@@ -14,6 +14,7 @@ use record::Log;
 use record::Received;
 use record::Record;
 use record::Throttles;
+use record::Timer;
 use record::Worked;
 use session::Session;
 
@@ -24,6 +25,7 @@ pub struct Head {
     pub next: u16,
     pub used: u16,
     pub ahead: u16,
+    pub timer: Timer,
 }
 
 // A head from a head: this record, with what is worked out of it, this next id and these used lengths; the rest is kept.
@@ -37,6 +39,15 @@ pub fn renewed(h: Head, held: Record, next: u16, used: u16, ahead: u16) -> Head
     after.next = next;
     after.used = used;
     after.ahead = ahead;
+    after
+}
+
+// And one with another timer.
+pub fn with_timer(h: Head, timer: Timer) -> Head
+    ensures { λ x. ⌜ x ≡ headTimed h timer ⌝ }
+{
+    let mut after = h;
+    after.timer = timer;
     after
 }
 
@@ -151,6 +162,15 @@ fn put_record(d: &mut [u8], r: Record)
     put_mailbox(d, r.mask, deadman, areas);
 }
 
+fn put_timer(d: &mut [u8], timer: Timer)
+    requires { ⌜ imageLength ≤ length (now d) ⌝ }
+    ensures { λ _. ⌜ now (d .exit) ≡ pasted timerAt (joined (timerRows timer)) (now (d .entry)) ⌝ }
+{
+    let running = [timer.running];
+    wire::copy(&mut *d, layout::TIMER, &running);
+    wire::put_be(d, layout::TIMER + 1, 8, timer.left);
+}
+
 // The head, around the stores and marks that stand there.
 pub fn write_head(d: &mut [u8], h: Head)
     requires { ⌜ length (now d) ≡ imageLength ⌝ }
@@ -158,9 +178,11 @@ pub fn write_head(d: &mut [u8], h: Head)
 {
     let held = h.held;
     let worked = h.worked;
+    let timer = h.timer;
     put_record(&mut *d, held);
     put_worked(&mut *d, worked, h.next, h.used);
-    wire::put_be(d, layout::AHEAD, 2, h.ahead as u64);
+    wire::put_be(&mut *d, layout::AHEAD, 2, h.ahead as u64);
+    put_timer(d, timer);
 }
 
 fn put_stores(d: &mut [u8], journal: [u8; 2048], redo: [u8; 2048], marks: [u8; 64])
@@ -184,6 +206,7 @@ pub fn write(s: Session, d: &mut [u8])
     let marks = s.marks;
     let held = s.held;
     let worked = s.worked;
+    let timer = s.timer;
     put_stores(&mut *d, journal, redo, marks);
     write_head(
         d,
@@ -193,6 +216,7 @@ pub fn write(s: Session, d: &mut [u8])
             next: s.next,
             used: s.used,
             ahead: s.ahead,
+            timer: timer,
         },
     );
 }
@@ -339,10 +363,21 @@ fn worked_in(b: &[u8]) -> Worked
     }
 }
 
+fn timer_in(b: &[u8]) -> Timer
+    requires { ⌜ imageLength ≤ length (now b) ⌝ }
+    ensures { λ r. ⌜ r ≡ timerIn (now (b .entry)) ⌝ }
+{
+    let left = wire::be64(b, layout::TIMER + 1);
+    Timer {
+        running: b[layout::TIMER],
+        left: left,
+    }
+}
+
 // The head, by value; the stores stay where they stand. That lent bytes are bytes is said here, once: a call that writes nothing leaves
 // the image of what was read.
 pub fn read_head(b: &[u8]) -> Head
-    requires { ⌜ redoAt ≤ length (now b) ⌝ }
+    requires { ⌜ imageLength ≤ length (now b) ⌝ }
     ensures { λ h. ⌜ h ≡ headIn (now (b .entry)) ⌝ }
     ensures { λ _. ⌜ Bytes (now (b .entry)) ⌝ }
 {
@@ -357,5 +392,6 @@ pub fn read_head(b: &[u8]) -> Head
         next: next,
         used: used,
         ahead: ahead,
+        timer: timer_in(b),
     }
 }

@@ -9,15 +9,15 @@ use lib.Dec.{ltb, eqb}
 use lib.ListN.{length, replicate}
 use Rattle.wire.specs.laws.Cases.{cond-elim}
 use Rattle.record.specs.declared.Log.{Log}
-use Rattle.change.specs.Change.{madeBy, putOf, inverseOf}
+use Rattle.change.specs.Change.{madeBy, putOf, takesBack, timerAfter}
 use Rattle.change.specs.declared.Change.{Change}
-use Rattle.change.specs.declared.Change.the-variants.{Clear, Unclear, SetState, SetRole, SetCaps, SetUser, SetThermal, SetThrottles, Reset, Unreset, SetMask, SetDeadman, SetAreas}
+use Rattle.change.specs.declared.Change.the-variants.{Clear, Unclear, SetState, SetRole, SetCaps, SetUser, SetThermal, SetThrottles, Reset, Unreset, SetMask, SetDeadman, SetAreas, SetTimer}
 use Rattle.change.specs.declared.Edit.{Edit}
 use Rattle.journal.specs.Add.{entryLen, endOf, addedTo}
 use Rattle.journal.specs.declared.End.{End}
 use Rattle.journal.specs.declared.End.the-variants.{At, Full}
 use Rattle.session.specs.declared.Session.{Session}
-use Rattle.session.specs.Session.{Carried, madeOf, renewed, carriedTo, carriedOf}
+use Rattle.session.specs.Session.{Carried, madeOf, renewed, withTimer, carriedTo, carriedOf}
 
 made-by-one : (log : Log) → madeBy log ≤ 1
 unfolding madeBy
@@ -39,6 +39,7 @@ made-one (Unreset state made) = omega arith
 made-one (SetMask mask) = omega arith
 made-one (SetDeadman deadman) = omega arith
 made-one (SetAreas areas) = omega arith
+made-one (SetTimer timer) = omega arith
 
 pub made-fits : (n m : ℕ) (ch : Change) → m ≡ madeOf ch → n ≤ 256 → n + m ≤ 257
 made-fits n m ch e h = omega (arith, e, made-one ch)
@@ -61,8 +62,8 @@ pub end-fits : (n used m : ℕ) (e : Edit) (x : End) → x ≡ endOf n used e �
 unfolding Within
 end-fits n used m e x p q = subst (Within n) (sym p ∙ q) (end-within n used e)
 
-module _ (s : Session) (e back : Edit) (end : End) (made : end ≡ endOf (length (s .journal)) (s .used) back) (is : back ≡ inverseOf (s .held) e) where
-  carried-end : end ≡ endOf (length (s .journal)) (s .used) (inverseOf (s .held) e)
+module _ (s : Session) (e back : Edit) (end : End) (made : end ≡ endOf (length (s .journal)) (s .used) back) (is : back ≡ takesBack (s .held) (s .timer) e) where
+  carried-end : end ≡ endOf (length (s .journal)) (s .used) (takesBack (s .held) (s .timer) e)
   carried-end = made ∙ ap (endOf (length (s .journal)) (s .used)) is
 
   pub carried-full : end ≡ Full → _≡_ {A = Carried} (record { full = true; session = s }) (carriedOf s e)
@@ -71,10 +72,10 @@ module _ (s : Session) (e back : Edit) (end : End) (made : end ≡ endOf (length
 
   pub carried-at : (used : ℕ) (j : List ℕ) → end ≡ At used → j ≡ addedTo (s .used) back (s .journal)
       → _≡_ {A = Carried}
-      (record { full = false; session = renewed s (putOf (s .held) e .after) (s .next + madeOf (e .change)) j used (replicate 2048 0) 0 })
+      (record { full = false; session = renewed (withTimer s (timerAfter (s .timer) (e .change))) (putOf (s .held) e .after) (s .next + madeOf (e .change)) j used (replicate 2048 0) 0 })
       (carriedOf s e)
   unfolding carriedOf carriedTo
   carried-at used j f jp =
       let jq = jp ∙ ap (λ (b : Edit). addedTo (s .used) b (s .journal)) is in
-      (λ i. record { full = false; session = renewed s (putOf (s .held) e .after) (s .next + madeOf (e .change)) (jq i) used (replicate 2048 0) 0 })
+      (λ i. record { full = false; session = renewed (withTimer s (timerAfter (s .timer) (e .change))) (putOf (s .held) e .after) (s .next + madeOf (e .change)) (jq i) used (replicate 2048 0) 0 })
       ∙ ap (carriedTo s e) (sym f ∙ carried-end)

@@ -13,7 +13,7 @@ use Rattle.wire.specs.Wire.{allAre, pasted}
 use Rattle.wire.specs.laws.Cases.{else-lt}
 use Rattle.wire.specs.laws.Wire.{take-all-are}
 use Rattle.record.specs.Record.{workedOf}
-use Rattle.change.specs.Change.{putOf, inverseOf}
+use Rattle.change.specs.Change.{putOf, takesBack, timerAfter}
 use Rattle.change.specs.declared.Edit.{Edit}
 use Rattle.entries.specs.Entries.{Entry, Scan, entriesOf, scan}
 use Rattle.entries.specs.laws.Entries.{Sized}
@@ -26,10 +26,10 @@ use Rattle.journal.specs.declared.End.{End}
 use Rattle.journal.specs.declared.End.the-variants.{At, Full}
 use Rattle.journal.specs.declared.Way.{Way}
 use Rattle.journal.specs.declared.Way.the-variants.{Before, After}
-use Rattle.session.specs.Session.{Carried, entriesIn, marksFor, wellFormed, madeOf, renewed, carriedOf}
+use Rattle.session.specs.Session.{Carried, entriesIn, marksFor, wellFormed, madeOf, renewed, withTimer, carriedOf}
 use Rattle.session.specs.laws.Session.{formed, formed-next}
 use Rattle.image.specs.declared.Head.{Head}
-use Rattle.image.specs.Image.{imageOf, headRenewed, partAt, storeAt, storeIn, withPart, withStore, journalIn, redoIn, marksIn, sessionIn}
+use Rattle.image.specs.Image.{imageOf, headRenewed, headTimed, partAt, storeAt, storeIn, withPart, withStore, journalIn, redoIn, marksIn, sessionIn}
 use Rattle.layout.specs.Layout.{marksSize, journalAt, redoAt, marksAt, imageLength}
 use Rattle.image.specs.laws.Stores.{store-low, store-long, store-back, store-above, store-below, store-marks, store-same, marks-long, marks-back, marks-store, lent-part, lent-back}
 use Rattle.image.proofs.Standing.{length-store}
@@ -154,10 +154,10 @@ module _ (b : List ℕ) (long : length b ≡ imageLength) (used : ℕ) (is-marke
         marks-are = ap marksIn marks-are ∙ marks-back a new long-a wide-new ∙ new-is;
       }
 
--- ---- a change carried out: its entry was entered, back is the change's inverse
+-- ---- a change carried out: its entry was entered, back takes the change back
 
 module _ (b : List ℕ) (long : length b ≡ imageLength) (h : Head) (e back : Edit) (end : End) (g : List ℕ)
-    (is : back ≡ inverseOf (h .held) e) (made : end ≡ endOf 2048 (h .used) back) (entered : Entered (h .used) back b g end) where
+    (is : back ≡ takesBack (h .held) (h .timer) e) (made : end ≡ endOf 2048 (h .used) back) (entered : Entered (h .used) back b g end) where
   abbrev after : Carried
   after = carriedOf (sessionIn h b) e
 
@@ -209,15 +209,16 @@ module _ (b : List ℕ) (long : length b ≡ imageLength) (h : Head) (e back : E
       length-cut = ap length cut-is ∙ store-long g nothing (more .long) wide-nothing redoAt (omega arith)
 
       pub done-in : (head : Head) (y : List ℕ) → head ≡ headAfter h e used → y ≡ imageOf (sessionIn head z) → (false ≡ after .full) × (y ≡ carriedIn b after)
-      unfolding sessionIn carriedIn headAfter headRenewed renewed
+      unfolding sessionIn carriedIn headAfter headRenewed headTimed renewed withTimer
       done-in head y hp q =
           let j = addedTo (h .used) back (journalIn b) in
           let k = carried-at (sessionIn h b) e back end made-in is used j at refl in
           let there : y ≡ imageOf (sessionIn (headAfter h e used) z) = q ∙ ap (λ (k : Head). imageOf (sessionIn k z)) hp in
           let r = putOf (h .held) e .after in
           let n = h .next + madeOf (e .change) in
-          let stands : imageOf (sessionIn (headAfter h e used) z) ≡ imageOf (renewed (sessionIn h b) r n j used (replicate 2048 0) 0) =
-          λ i. imageOf (record { held = r; worked = workedOf r; next = n; used = used; journal = journal-is i; ahead = 0; redo = redo-is i; marks = marks-is i }) in
+          let timer = timerAfter (h .timer) (e .change) in
+          let stands : imageOf (sessionIn (headAfter h e used) z) ≡ imageOf (renewed (withTimer (sessionIn h b) timer) r n j used (replicate 2048 0) 0) =
+          λ i. imageOf (record { held = r; worked = workedOf r; next = n; used = used; journal = journal-is i; ahead = 0; redo = redo-is i; marks = marks-is i; timer = timer }) in
           (ap (λ (q : Carried). q .full) k, there ∙ stands ∙ ap (carriedIn b) k)
 
 pub added-in : (b : List ℕ) → length b ≡ imageLength → (used : ℕ) (e : Edit) (end : End) (x : List ℕ) → end ≡ endOf (length (journalIn b)) used e → x ≡ addedTo used e (journalIn b)

@@ -5,7 +5,7 @@ use mathlib.Core.Path.{_≡_}
 use lib.ListN.{length, take}
 use lib.Dec.{eqb}
 use Prim.Native.Nat.{ℕ, _+_, _≤_}
-use Rattle.change.specs.Change.{putOf}
+use Rattle.change.specs.Change.{putOf, timerAfter}
 use Rattle.change.specs.declared.Edit.{Edit}
 use Rattle.entries.specs.Entries.{Entry, written, between, scan}
 use Rattle.marks.specs.Marks.{marksOf}
@@ -13,9 +13,10 @@ use Rattle.journal.specs.Add.{addedTo}
 use Rattle.journal.specs.declared.End.{End}
 use Rattle.journal.specs.declared.End.the-variants.{At, Full}
 use Rattle.session.specs.Session.{Carried, entriesIn, marksFor, madeOf}
+use Rattle.session.specs.Road.{Said}
 use Rattle.session.specs.declared.Session.{Session}
 use Rattle.image.specs.declared.Head.{Head}
-use Rattle.image.specs.Image.{imageOf, headRenewed, withPart, journalIn, redoIn, marksIn, sessionIn, sessionOf}
+use Rattle.image.specs.Image.{imageOf, headRenewed, headTimed, withPart, journalIn, redoIn, marksIn, sessionIn, sessionOf}
 use Rattle.layout.specs.Layout.{marksSize, marksAt, imageLength}
 use Rattle.inplace.specs.declared.Told.{Told}
 
@@ -56,7 +57,7 @@ pub record MarkedTo (used at : ℕ) (b : List ℕ) : Type 0 where
 
 -- the head after a change whose entry ends at `used`: the redo store is empty then
 unfoldable pub headAfter : Head → Edit → ℕ → Head
-headAfter h e used = headRenewed h (putOf (h .held) e .after) (h .next + madeOf (e .change)) used 0
+headAfter h e used = headRenewed (headTimed h (timerAfter (h .timer) (e .change))) (putOf (h .held) e .after) (h .next + madeOf (e .change)) used 0
 
 -- the image of the session after it; the bytes as they were where its entry has no room
 unfoldable pub carriedIn : List ℕ → Carried → List ℕ
@@ -67,6 +68,10 @@ pub record Left : Type 0 where
   pub told : Told
   pub image : List ℕ
   pub reply : List ℕ
+
+-- of a call that rings: the doorbell stands beside the answer
+unfoldable pub rungLeft : Said → Left
+rungLeft q = record { told = record { answer = q .answer; small = 0; beside = q .bell }; image = imageOf (q .session); reply = q .reply }
 
 -- bytes of another length than an image's are no session: answer 1, and all is kept
 abbrev pub noImage : List ℕ → List ℕ → Left

@@ -49,7 +49,7 @@ fn stores_ok(lent: &[u8], h: Head) -> bool
     if layout::STORE < used + ahead {
         return false;
     }
-    let marks = &lent[layout::MARKS..layout::IMAGE];
+    let marks = &lent[layout::MARKS..layout::TIMER];
     if !session::store_ok(
         Way::Before,
         &lent[layout::JOURNAL..layout::AHEAD],
@@ -72,7 +72,11 @@ pub fn well_formed(lent: &[u8], h: Head) -> bool
 {
     let held = h.held;
     let worked = h.worked;
+    let timer = h.timer;
     if !session::held_ok(held, worked, h.next) {
+        return false;
+    }
+    if !formed::timer_ok(timer) {
         return false;
     }
     stores_ok(lent, h)
@@ -119,7 +123,7 @@ pub fn mark_added(lent: &mut [u8], used: usize)
     requires { ⌜ (length (now lent) ≡ imageLength) × Marked used (now lent) × (used + 2 ≤ 2048) ⌝ }
     ensures { λ _. ⌜ MarksMore used (now (lent .entry)) (now (lent .exit)) ⌝ }
 {
-    let last = marks::last(&lent[layout::MARKS..layout::IMAGE]);
+    let last = marks::last(&lent[layout::MARKS..layout::TIMER]);
     let start = layout::JOURNAL + last.place;
     let end = layout::JOURNAL + used;
     let found = marks::find_newest(&lent[start..end]);
@@ -131,7 +135,7 @@ pub fn mark_added(lent: &mut [u8], used: usize)
     }
     let next = 2 * (last.number + 1);
     wire::put_be(
-        &mut lent[layout::MARKS..layout::IMAGE],
+        &mut lent[layout::MARKS..layout::TIMER],
         next,
         2,
         used as u64,
@@ -143,12 +147,12 @@ pub fn mark_removed(lent: &mut [u8], used: usize, at: usize)
     requires { ⌜ (length (now lent) ≡ imageLength) × MarkedTo used at (now lent) ⌝ }
     ensures { λ _. ⌜ now (lent .exit) ≡ withPart marksSize marksAt (marksOf (entriesIn at (journalIn (now (lent .entry))))) (now (lent .entry)) ⌝ }
 {
-    let last = marks::last(&lent[layout::MARKS..layout::IMAGE]);
+    let last = marks::last(&lent[layout::MARKS..layout::TIMER]);
     if last.place != at {
         return;
     }
     wire::put_be(
-        &mut lent[layout::MARKS..layout::IMAGE],
+        &mut lent[layout::MARKS..layout::TIMER],
         2 * last.number,
         2,
         0,
@@ -177,20 +181,22 @@ fn head_after(h: Head, e: Edit, used: u16) -> Head
 {
     let held = h.held;
     let change = e.change;
+    let timer = h.timer;
     let put = change::put(held, e);
     let after = put.after;
     let next = h.next + session::made(change);
-    image::renewed(h, after, next, used, 0)
+    let timed = image::with_timer(h, change::timer_after(timer, change));
+    image::renewed(timed, after, next, used, 0)
 }
 
-// A change carried out: entry, record, worked-out values and next id, in one place, and the redo store is emptied. Nothing else writes a record
+// A change carried out: entry, record, worked-out values, next id and timer, in one place, and the redo store is emptied. Nothing else writes a record
 // but undo and redo, by the same road. The answer is whether the entry has no room; then nothing is written.
 pub fn carry(lent: &mut [u8], h: Head, e: Edit) -> bool
     requires { ⌜ (length (now lent) ≡ imageLength) × (wellFormed (sessionIn h (now lent)) ≡ true) ⌝ }
     ensures { λ x. ⌜ x ≡ carriedOf (sessionIn h (now (lent .entry))) e .full ⌝ }
     ensures { λ _. ⌜ now (lent .exit) ≡ carriedIn (now (lent .entry)) (carriedOf (sessionIn h (now (lent .entry))) e) ⌝ }
 {
-    let back = change::inverse(h.held, e);
+    let back = change::takes_back(h.held, h.timer, e);
     let end = enter(&mut *lent, h.used as usize, back);
     let End::At(used) = end else {
         return true;

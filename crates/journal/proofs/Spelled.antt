@@ -19,7 +19,7 @@ use Rattle.record.specs.declared.Caps.{Caps}
 use Rattle.change.proofs.Change.{the-type}
 use Rattle.change.specs.Change.{kindOf}
 use Rattle.change.specs.declared.Change.{Change}
-use Rattle.change.specs.declared.Change.the-variants.{Clear, Unclear, SetState, SetRole, SetCaps, SetUser, SetThermal, SetThrottles, Reset, Unreset, SetMask, SetDeadman, SetAreas}
+use Rattle.change.specs.declared.Change.the-variants.{Clear, Unclear, SetState, SetRole, SetCaps, SetUser, SetThermal, SetThrottles, Reset, Unreset, SetMask, SetDeadman, SetAreas, SetTimer}
 use Rattle.change.specs.declared.Edit.{Edit}
 use Rattle.entries.specs.Entries.{bodyLen, bytesOf}
 use Rattle.journal.specs.Bytes.{clearedBody, capsBody, bodyOf, Spells, entryFor, entryBytes}
@@ -108,7 +108,7 @@ one-of k (l ∷ ks) x (inl e) = sym (if-eq _ _ e refl)
 one-of k (l ∷ ks) x (inr h) = cond-cases (λ (t : Bool). t ≡ true) (eqb x k) (λ e. refl) (λ e. one-of l ks x h)
 
 abbrev wide : List ℕ
-wide = 6 ∷ 7 ∷ 11 ∷ 12 ∷ []
+wide = 6 ∷ 7 ∷ 11 ∷ 12 ∷ 13 ∷ []
 
 abbrev narrow : List ℕ
 narrow = 0 ∷ 1 ∷ 2 ∷ 3 ∷ 4 ∷ 5 ∷ 8 ∷ 9 ∷ 10 ∷ []
@@ -128,11 +128,12 @@ by-width (Unreset state made) = (refl, refl)
 by-width (SetMask mask) = (refl, refl)
 by-width (SetDeadman deadman) = (refl, refl)
 by-width (SetAreas areas) = (refl, refl)
+by-width (SetTimer timer) = (refl, refl)
 
 -- a wider body: any number will do
 pub wide-spells : (ch : Change) → OneOf wide (tagOf the-type ch) → Spells 0 ch
 wide-spells ch h =
-    let long : 8 < bodyLen (kindOf ch) = ltb-true 8 _ (sym (by-width ch .1) ∙ one-of 6 (7 ∷ 11 ∷ 12 ∷ []) (tagOf the-type ch) h) in
+    let long : 8 < bodyLen (kindOf ch) = ltb-true 8 _ (sym (by-width ch .1) ∙ one-of 6 (7 ∷ 11 ∷ 12 ∷ 13 ∷ []) (tagOf the-type ch) h) in
     record { body = λ t small. absurd (omega arith) }
 
 narrow-fits : (ch : Change) → OneOf narrow (tagOf the-type ch) → bodyLen (kindOf ch) ≤ 8

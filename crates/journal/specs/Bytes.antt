@@ -7,10 +7,9 @@ use Rattle.record.specs.declared.Log.{Log}
 use Rattle.record.specs.declared.Caps.{Caps}
 use Rattle.record.specs.declared.Area.{Area}
 use Rattle.record.specs.declared.Areas.{Areas}
-use Rattle.record.specs.declared.Deadman.{Deadman}
 use Rattle.record.specs.declared.Throttles.{Throttles}
 use Rattle.change.specs.declared.Change.{Change}
-use Rattle.change.specs.declared.Change.the-variants.{Clear, Unclear, SetState, SetRole, SetCaps, SetUser, SetThermal, SetThrottles, Reset, Unreset, SetMask, SetDeadman, SetAreas}
+use Rattle.change.specs.declared.Change.the-variants.{Clear, Unclear, SetState, SetRole, SetCaps, SetUser, SetThermal, SetThrottles, Reset, Unreset, SetMask, SetDeadman, SetAreas, SetTimer}
 use Rattle.change.specs.declared.Tables.{Tables}
 use Rattle.change.specs.declared.Edit.{Edit}
 use Rattle.change.specs.Change.{kindOf}
@@ -28,9 +27,9 @@ capsBody got caps = got ∷ (toBE 2 (caps .min) ++ (toBE 2 (caps .max) ++ toBE 2
 unfoldable pub throttlesBody : ℕ → Throttles → List ℕ
 throttlesBody got t = got ∷ (toBE 2 (t .present) ++ t .sets)
 
--- 0A running, time (9)
-unfoldable pub deadmanBody : Deadman → List ℕ
-deadmanBody deadman = deadman .running ∷ toBE 8 (deadman .time)
+-- 0A running, time (9); 0C, document 02, h: "running byte and 8 bytes left"
+unfoldable pub clockBody : ℕ → ℕ → List ℕ
+clockBody running time = running ∷ toBE 8 time
 
 -- 0B both areas, FFDC first, address then size (24)
 unfoldable pub areaBytes : Area → List ℕ
@@ -52,8 +51,9 @@ bodyOf t (SetThrottles got) = throttlesBody got (t .throttles)
 bodyOf t (Reset log) = log .id ∷ log .reason ∷ []
 bodyOf t (Unreset state made) = state ∷ made ∷ []
 bodyOf t (SetMask mask) = toBE 4 mask
-bodyOf t (SetDeadman deadman) = deadmanBody deadman
+bodyOf t (SetDeadman deadman) = clockBody (deadman .running) (deadman .time)
 bodyOf t (SetAreas areas) = areasBody areas
+bodyOf t (SetTimer timer) = clockBody (timer .running) (timer .left)
 
 -- n as bytes is the change's body, where that has eight bytes at most
 pub record Spells (n : ℕ) (ch : Change) : Type 0 where

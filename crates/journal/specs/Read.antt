@@ -12,7 +12,7 @@ use Rattle.record.specs.declared.Throttles.{Throttles}
 use Rattle.change.specs.Change.{noTables}
 use Rattle.record.specs.declared.Log.{Log}
 use Rattle.change.specs.declared.Change.{Change}
-use Rattle.change.specs.declared.Change.the-variants.{Clear, Unclear, SetState, SetRole, SetCaps, SetUser, SetThermal, SetThrottles, Reset, Unreset, SetMask, SetDeadman, SetAreas}
+use Rattle.change.specs.declared.Change.the-variants.{Clear, Unclear, SetState, SetRole, SetCaps, SetUser, SetThermal, SetThrottles, Reset, Unreset, SetMask, SetDeadman, SetAreas, SetTimer}
 use Rattle.change.specs.declared.Tables.{Tables}
 use Rattle.entries.specs.Entries.{Entry, bodyLen, Scan, between, within, unknown, entriesOf, scan}
 use Rattle.marks.specs.Marks.{marksOf, same}
@@ -59,7 +59,8 @@ foundFor w k b =
     (cond (eqb k 0x09) (Good (SetMask (beNat (take 4 (drop 0 b)))))
     (cond (eqb k 0x0A) (Good (SetDeadman (record { running = getD b 0 0; time = beNat (take 8 (drop 1 b)) })))
     (cond (eqb k 0x0B) (Good (SetAreas (record { ffdc = areaAt 0 b; pass = areaAt 12 b })))
-    Bad))))))))))
+    (cond (eqb k 0x0C) (Good (SetTimer (record { running = getD b 0 0; left = beNat (take 8 (drop 1 b)) })))
+    Bad)))))))))))
 
 -- the tables that stand beside it
 unfoldable pub tablesIn : ℕ → List ℕ → Tables

@@ -10,7 +10,7 @@ ghost use Rattle.change.specs.Change.{kindOf};
 ghost use Rattle.entries.specs.Entries.{bodyLen};
 ghost use Rattle.entries.specs.laws.Entries.{Sized};
 ghost use Rattle.marks.specs.Marks.{standsAt, restUnused};
-ghost use Rattle.journal.specs.Bytes.{throttlesBody, deadmanBody, areasBody, Spells, entryFor, entryBytes};
+ghost use Rattle.journal.specs.Bytes.{throttlesBody, clockBody, areasBody, Spells, entryFor, entryBytes};
 ghost use Rattle.journal.specs.Read.{capsAt, areaAt, throttlesFrom, clearedAs, resetAs, resetOk, foundFor, tablesIn, badGot, gotOf, entryOk, readOk};
 ghost use Rattle.journal.specs.Ways.{byWay};
 ghost use Rattle.journal.specs.Add.{entryLen, endOf, addedTo, cutFrom};
@@ -23,6 +23,7 @@ use record::Caps;
 use record::Deadman;
 use record::Log;
 use record::Throttles;
+use record::Timer;
 
 // What a store's entries hold: what was before (the journal), or what was after (the redo store). Kinds 01 and 08 read differently.
 pub enum Way {
@@ -81,12 +82,12 @@ fn put_throttles(d: &mut [u8], got: u8, throttles: Throttles)
     wire::copy(d, 4, &sets);
 }
 
-fn put_deadman(d: &mut [u8], deadman: Deadman)
+fn put_clock(d: &mut [u8], kind: u8, running: u8, time: u64)
     requires { ⌜ 10 ≤ length (now d) ⌝ }
-    ensures { λ _. ⌜ now (d .exit) ≡ pasted 0 (0x0A ∷ deadmanBody deadman) (now (d .entry)) ⌝ }
+    ensures { λ _. ⌜ now (d .exit) ≡ pasted 0 (kind ∷ clockBody running time) (now (d .entry)) ⌝ }
 {
-    put_number(&mut *d, 0x0A, 1, deadman.running as u64);
-    wire::put_be(d, 2, 8, deadman.time);
+    put_number(&mut *d, kind, 1, running as u64);
+    wire::put_be(d, 2, 8, time);
 }
 
 fn put_areas(d: &mut [u8], areas: Areas)
@@ -146,8 +147,9 @@ fn put(d: &mut [u8], e: Edit)
     match change {
         Change::SetThermal(got) => put_thermal(d, got, thermal),
         Change::SetThrottles(got) => put_throttles(d, got, throttles),
-        Change::SetDeadman(deadman) => put_deadman(d, deadman),
+        Change::SetDeadman(deadman) => put_clock(d, 0x0A, deadman.running, deadman.time),
         Change::SetAreas(areas) => put_areas(d, areas),
+        Change::SetTimer(timer) => put_clock(d, 0x0C, timer.running, timer.left),
         _ => put_number(d, kind, entries::body_len(kind), small(change)),
     }
 }
@@ -252,6 +254,10 @@ fn found_for(way: Way, kind: u8, b: &[u8]) -> Found
             ffdc: area_at(b, 0),
             pass: area_at(b, 12),
         })),
+        0x0C => Found::Good(Change::SetTimer(Timer {
+            running: b[0],
+            left: wire::be64(b, 1),
+        })),
         _ => Found::Bad,
     }
 }
@@ -350,6 +356,10 @@ fn body_ok(way: Way, kind: u8, b: &[u8]) -> bool
         0x0B => formed::areas_ok(Areas {
             ffdc: area_at(b, 0),
             pass: area_at(b, 12),
+        }),
+        0x0C => formed::timer_ok(Timer {
+            running: b[0],
+            left: wire::be64(b, 1),
         }),
         _ => false,
     }

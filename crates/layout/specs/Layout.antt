@@ -8,12 +8,12 @@ use Rattle.wire.specs.Wire.{sumOf}
 abbrev pub storeSize : ℕ
 storeSize = 2048
 
--- after the redo store: 32 marks of two bytes (document 02, i)
+-- after the redo store: 32 marks of two bytes (document 02, i); the timer (h): running, and what is left
 abbrev pub marksSize : ℕ
 marksSize = 64
 
 abbrev pub laterWidths : List ℕ
-laterWidths = marksSize ∷ []
+laterWidths = marksSize ∷ 1 ∷ 8 ∷ []
 
 -- the head (record, worked-out values, next id, used bytes of the journal), the journal, the used bytes of the redo store, the redo store, and what came later
 unfoldable pub partWidths : List ℕ
@@ -37,5 +37,8 @@ redoAt = 2289
 abbrev pub marksAt : ℕ
 marksAt = 4337
 
+abbrev pub timerAt : ℕ
+timerAt = 4401
+
 abbrev pub imageLength : ℕ
-imageLength = 4401
+imageLength = 4410

@@ -13,8 +13,10 @@ pub const REDO: usize = 2289;
 
 pub const REDO_END: usize = 4337;
 
-// The marks begin, and end where the image ends.
+// The marks begin, and end where the timer stands.
 pub const MARKS: usize = 4337;
 
+pub const TIMER: usize = 4401;
+
 // All of it.
-pub const IMAGE: usize = 4401;
+pub const IMAGE: usize = 4410;

@@ -19,7 +19,7 @@ pub record TypedRecord (r : Record) : Type 0 where
   pub ffdc : AreaFits (r .areas .ffdc)
   pub pass : AreaFits (r .areas .pass)
 
--- "a journal of 2,048 bytes .. with its used length", and a redo store likewise; 32 marks of two bytes
+-- "a journal of 2,048 bytes .. with its used length", and a redo store likewise; 32 marks of two bytes; the timer
 pub record TypedSession (s : Session) : Type 0 where
   pub held : TypedRecord (s .held)
   pub journal : length (s .journal) ≡ 2048
@@ -28,3 +28,4 @@ pub record TypedSession (s : Session) : Type 0 where
   pub redo : length (s .redo) ≡ 2048
   pub ahead : s .ahead < 65536
   pub marks : length (s .marks) ≡ 64
+  pub timer : s .timer .left < 256 ^ 8

@@ -21,16 +21,16 @@ use Rattle.text.specs.Text.{inWord, leading, pastBlanks, HexRun, hexRun, Takes}
 use Rattle.text.specs.Text.{digitAt}
 use Rattle.text.specs.Numbers.{valueFrom, decimal, numberBy, numberAt}
 use Rattle.orders.specs.declared.Call.{Call}
-use Rattle.orders.specs.declared.Call.the-variants.{Load, Forget}
+use Rattle.orders.specs.declared.Call.the-variants.{Load}
 use Rattle.orders.specs.declared.View.{View}
 use Rattle.orders.specs.declared.Buffer.{Buffer}
-use Rattle.orders.specs.declared.Buffer.the-variants.{Whole, Bytes}
+use Rattle.orders.specs.declared.Buffer.the-variants.{Whole}
 use Rattle.orders.specs.declared.Wrong.{Wrong}
-use Rattle.orders.specs.declared.Wrong.the-variants.{LongLine, MoreText, NoDigit, TooMany, NoImage, NoNumber, LongBuffer, GreatNumber}
+use Rattle.orders.specs.declared.Wrong.the-variants.{LongLine, MoreText, NoDigit, NoImage, NoNumber}
 use Rattle.orders.specs.declared.Word.{Word}
-use Rattle.orders.specs.declared.Word.the-variants.{Make, Look, Lend, Fail, Skip}
+use Rattle.orders.specs.declared.Word.the-variants.{Make, Look, Lend, Seeprom, Fail, Skip}
 use Rattle.orders.specs.declared.Order.{Order}
-use Rattle.orders.specs.Orders.{plainly, wrongAt, wordOf, aloneAt, aloneOf, bytesBy, imageBy, sizeBy, bufferAt, bufferOf, forgetBy, forgetAt, ReadsAs, Ordered, ordered, callOf, orderBy, wordLength, orderAt, remark, orderFrom, orderOf, lineLength, orderIn}
+use Rattle.orders.specs.Orders.{plainly, wrongAt, wordOf, aloneAt, aloneOf, bytesBy, imageBy, numberedBy, sizeBy, bufferAt, bufferOf, numberedAt, ReadsAs, Ordered, ordered, seepromOf, callOf, orderBy, wordLength, orderAt, remark, orderFrom, orderOf, lineLength, orderIn}
 
 -- ---- by what follows
 
@@ -45,18 +45,25 @@ module _ (w : Word) (line : List ℕ) {place place′ : ℕ} {r : Order} (e : pl
 
 -- ---- by the number
 
-module _ (line : List ℕ) (column : ℕ) {x : Number} {r : Order} where
-  pub size-none : x ≡ Missing → r ≡ wrongAt NoNumber column → r ≡ sizeBy x line column
-  unfolding sizeBy
-  size-none e h = h ∙ sym (ap (λ (y : Number). sizeBy y line column) e)
+module _ (over : Wrong) (w : ℕ → Word) (line : List ℕ) (column : ℕ) {x : Number} {r : Order} where
+  pub number-none : x ≡ Missing → r ≡ wrongAt NoNumber column → r ≡ numberedBy x over w line column
+  unfolding numberedBy
+  number-none e h = h ∙ sym (ap (λ (y : Number). numberedBy y over w line column) e)
 
-  pub size-over : x ≡ TooGreat → r ≡ wrongAt LongBuffer column → r ≡ sizeBy x line column
-  unfolding sizeBy
-  size-over e h = h ∙ sym (ap (λ (y : Number). sizeBy y line column) e)
+  pub number-over : x ≡ TooGreat → r ≡ wrongAt over column → r ≡ numberedBy x over w line column
+  unfolding numberedBy
+  number-over e h = h ∙ sym (ap (λ (y : Number). numberedBy y over w line column) e)
 
-  pub size-is : {n past : ℕ} → x ≡ Is n past → r ≡ aloneOf (Lend (Bytes n)) line past → r ≡ sizeBy x line column
-  unfolding sizeBy
-  size-is e h = h ∙ sym (ap (λ (y : Number). sizeBy y line column) e)
+  pub number-is : {n past : ℕ} → x ≡ Is n past → r ≡ aloneOf (w n) line past → r ≡ numberedBy x over w line column
+  unfolding numberedBy
+  number-is e h = h ∙ sym (ap (λ (y : Number). numberedBy y over w line column) e)
+
+-- a number that must be there was read, and what came of it is the order
+pub number-read : (most : ℕ) (over : Wrong) (w : ℕ → Word) (line : List ℕ) {place place′ : ℕ} {x : Number} {r : Order} → place ≡ place′
+    → x ≡ numberAt line place most → r ≡ numberedBy x over w line (place + 1) → r ≡ numberedAt most over w line place′
+unfolding numberedAt
+number-read most over w line {place} e is h =
+    h ∙ ap (λ (y : Number). numberedBy y over w line (place + 1)) is ∙ ap (λ (n : ℕ). numberedAt most over w line n) e
 
 module _ (line : List ℕ) {place place′ : ℕ} {r : Order} (e : place ≡ place′) where
   pub buffer-whole : length line ≤ place → r ≡ plainly (Lend Whole) → r ≡ bufferAt line place′
@@ -84,41 +91,24 @@ number-fits s at most {x} {n} {past} e is = go (ltb 9 (digitAt s at)) (sym is �
     go true k = let z : _≡_ {A = ℕ} 0 1 = cc in absurd (omega (arith, z))
     go false k = fitting (valueFrom 0 (drop at s)) (at + leading decimal (drop at s)) most k refl
 
-module _ (line : List ℕ) {place place′ : ℕ} {x : Number} {r : Order} (e : place ≡ place′) (is : x ≡ numberAt line place 4294967295) where
-  forget-by : (y : Number) → x ≡ y → r ≡ forgetBy y line (place + 1) → r ≡ forgetAt line place′
-  unfolding forgetAt
-  forget-by y k h = h ∙ ap (λ (z : Number). forgetBy z line (place + 1)) (sym k ∙ is) ∙ ap (λ (n : ℕ). forgetAt line n) e
-
-  pub forget-none : x ≡ Missing → r ≡ wrongAt NoNumber (place + 1) → r ≡ forgetAt line place′
-  unfolding forgetBy
-  forget-none k h = forget-by Missing k h
-
-  pub forget-over : x ≡ TooGreat → r ≡ wrongAt GreatNumber (place + 1) → r ≡ forgetAt line place′
-  unfolding forgetBy
-  forget-over k h = forget-by TooGreat k h
-
-  pub forget-is : {n past : ℕ} → x ≡ Is n past → r ≡ aloneOf (Make (Forget n)) line past → r ≡ forgetAt line place′
-  unfolding forgetBy
-  forget-is {n} {past} k h = forget-by (Is n past) k h
-
 -- ---- by the fault
 
-module _ (call : Call) (n due end : ℕ) {f : Fault} {r : Order} where
-  pub digit-bytes : {column : ℕ} → f ≡ Digit column → r ≡ wrongAt NoDigit column → r ≡ bytesBy f call n due end
+module _ (over : Wrong) (w : Word) (n due end : ℕ) {f : Fault} {r : Order} where
+  pub digit-bytes : {column : ℕ} → f ≡ Digit column → r ≡ wrongAt NoDigit column → r ≡ bytesBy f over w n due end
   unfolding bytesBy
-  digit-bytes e h = h ∙ sym (ap (λ (x : Fault). bytesBy x call n due end) e)
+  digit-bytes e h = h ∙ sym (ap (λ (x : Fault). bytesBy x over w n due end) e)
 
-  pub over-bytes : {column : ℕ} → f ≡ Over column → r ≡ wrongAt TooMany column → r ≡ bytesBy f call n due end
+  pub over-bytes : {column : ℕ} → f ≡ Over column → r ≡ wrongAt over column → r ≡ bytesBy f over w n due end
   unfolding bytesBy
-  over-bytes e h = h ∙ sym (ap (λ (x : Fault). bytesBy x call n due end) e)
+  over-bytes e h = h ∙ sym (ap (λ (x : Fault). bytesBy x over w n due end) e)
 
-  pub short-bytes : f ≡ Nothing → n < due → r ≡ wrongAt NoDigit end → r ≡ bytesBy f call n due end
+  pub short-bytes : f ≡ Nothing → n < due → r ≡ wrongAt NoDigit end → r ≡ bytesBy f over w n due end
   unfolding bytesBy
-  short-bytes e k h = if-lt _ _ k h ∙ sym (ap (λ (x : Fault). bytesBy x call n due end) e)
+  short-bytes e k h = if-lt _ _ k h ∙ sym (ap (λ (x : Fault). bytesBy x over w n due end) e)
 
-  pub good-bytes : f ≡ Nothing → due ≤ n → r ≡ record { word = Make call; count = n - due; column = 0 } → r ≡ bytesBy f call n due end
+  pub good-bytes : f ≡ Nothing → due ≤ n → r ≡ record { word = w; count = n - due; column = 0 } → r ≡ bytesBy f over w n due end
   unfolding bytesBy
-  good-bytes e k h = else-lt _ _ k h ∙ sym (ap (λ (x : Fault). bytesBy x call n due end) e)
+  good-bytes e k h = else-lt _ _ k h ∙ sym (ap (λ (x : Fault). bytesBy x over w n due end) e)
 
 module _ (n : ℕ) {f : Fault} {r : Order} where
   pub digit-image : {column : ℕ} → f ≡ Digit column → r ≡ wrongAt NoDigit column → r ≡ imageBy f n
@@ -164,10 +154,11 @@ part-read line from at room d h e k t =
     (reads, (part-pasted at room ((hexRun line from room) .bytes) d h (omega (arith, reads .count)) stands, k))
 
 module _ {q : HexRun} {n : ℕ} {f : Fault} {r : Order} {d d′ : List ℕ} (h : ReadsAs q n f) (p : d′ ≡ d) where
-  pub bytes-as : (call : Call) (due end : ℕ) → r ≡ bytesBy f call n due end → ordered r d′ ≡ ordered (bytesBy (q .fault) call (length (q .bytes)) due end) d
-  bytes-as call due end e =
-      let o : r ≡ bytesBy (q .fault) call (length (q .bytes)) due end =
-      e ∙ ap (λ (x : Fault). bytesBy x call n due end) (h .wrong) ∙ ap (λ (m : ℕ). bytesBy (q .fault) call m due end) (h .count) in
+  pub bytes-as : (over : Wrong) (w : Word) (due end : ℕ) → r ≡ bytesBy f over w n due end
+      → ordered r d′ ≡ ordered (bytesBy (q .fault) over w (length (q .bytes)) due end) d
+  bytes-as over w due end e =
+      let o : r ≡ bytesBy (q .fault) over w (length (q .bytes)) due end =
+      e ∙ ap (λ (x : Fault). bytesBy x over w n due end) (h .wrong) ∙ ap (λ (m : ℕ). bytesBy (q .fault) over w m due end) (h .count) in
       rw (o, p)
 
   pub image-as : r ≡ imageBy f n → ordered r d′ ≡ ordered (imageBy (q .fault) (length (q .bytes))) d
@@ -196,6 +187,10 @@ module _ (line : List ℕ) (at end : ℕ) (d : List ℕ) {w : Word} where
   pub order-lend : {b : Buffer} {r : Order} → w ≡ Lend b → r ≡ bufferOf line end → ordered r d ≡ orderBy w line at end d
   unfolding orderBy
   order-lend e h = kept d h ∙ sym (ap (λ (x : Word). orderBy x line at end d) e)
+
+  pub order-seeprom : {g : Ordered} → w ≡ Seeprom → g ≡ seepromOf line end d → g ≡ orderBy w line at end d
+  unfolding orderBy
+  order-seeprom e h = h ∙ sym (ap (λ (x : Word). orderBy x line at end d) e)
 
   pub order-fail : {x : Wrong} {r : Order} → w ≡ Fail x → r ≡ wrongAt x (at + 1) → ordered r d ≡ orderBy w line at end d
   unfolding orderBy

@@ -14,13 +14,13 @@ use Rattle.text.specs.declared.Number.the-variants.{Missing, TooGreat, Is}
 use Rattle.text.specs.Text.{ascii, inWord, leading, pastBlanks, sameText, HexRun, hexRun}
 use Rattle.text.specs.Numbers.{numberAt}
 use Rattle.orders.specs.declared.Call.{Call}
-use Rattle.orders.specs.declared.Call.the-variants.{Occ, Sbe, Send, Load, Undo, Redo, Forget, Fresh}
+use Rattle.orders.specs.declared.Call.the-variants.{Occ, Sbe, Send, Load, Undo, Redo, Forget, Time, Fresh}
 use Rattle.orders.specs.declared.View.the-variants.{Image, Why, Show, Journal, Help}
 use Rattle.orders.specs.declared.Buffer.the-variants.{Whole, Bytes}
 use Rattle.orders.specs.declared.Wrong.{Wrong}
-use Rattle.orders.specs.declared.Wrong.the-variants.{LongLine, NoWord, MoreText, NoDigit, TooMany, NoImage, NoNumber, LongBuffer, GreatNumber}
+use Rattle.orders.specs.declared.Wrong.the-variants.{LongLine, NoWord, MoreText, NoDigit, TooMany, NoImage, NoNumber, LongBuffer, GreatNumber, GreatTime, LongSeeprom}
 use Rattle.orders.specs.declared.Word.{Word}
-use Rattle.orders.specs.declared.Word.the-variants.{Make, Look, Lend, Fail, Skip}
+use Rattle.orders.specs.declared.Word.the-variants.{Make, Look, Lend, Seeprom, Fail, Skip}
 use Rattle.orders.specs.declared.Order.{Order}
 
 abbrev pub plainly : Word → Order
@@ -49,9 +49,11 @@ wordOf w =
     (cond (sameText w (ascii "undo")) (Make Undo)
     (cond (sameText w (ascii "redo")) (Make Redo)
     (cond (sameText w (ascii "forget")) (Make (Forget 0))
+    (cond (sameText w (ascii "time")) (Make (Time 0))
     (cond (sameText w (ascii "fresh")) (Make Fresh)
     (cond (sameText w (ascii "buffer")) (Lend Whole)
-    (viewOf w)))))))))
+    (cond (sameText w (ascii "seeprom")) Seeprom
+    (viewOf w)))))))))))
 
 -- ---- what follows a word
 
@@ -62,11 +64,14 @@ aloneAt w line place = cond (ltb place (length line)) (wrongAt MoreText (place +
 abbrev pub aloneOf : Word → List ℕ → ℕ → Order
 aloneOf w line from = aloneAt w line (pastBlanks line from)
 
--- what stands where the number is due, and then "only blanks may follow"
-unfoldable pub sizeBy : Number → List ℕ → ℕ → Order
-sizeBy Missing line column = wrongAt NoNumber column
-sizeBy TooGreat line column = wrongAt LongBuffer column
-sizeBy (Is n past) line column = aloneOf (Lend (Bytes n)) line past
+-- what stands where the number is due, what is wrong with one "over MAX", and then "only blanks may follow"
+unfoldable pub numberedBy : Number → Wrong → (ℕ → Word) → List ℕ → ℕ → Order
+numberedBy Missing over w line column = wrongAt NoNumber column
+numberedBy TooGreat over w line column = wrongAt over column
+numberedBy (Is n past) over w line column = aloneOf (w n) line past
+
+abbrev pub sizeBy : Number → List ℕ → ℕ → Order
+sizeBy x line column = numberedBy x LongBuffer (λ n. Lend (Bytes n)) line column
 
 -- "at most 8,192"; "`buffer` alone"
 unfoldable pub bufferAt : List ℕ → ℕ → Order
@@ -75,23 +80,23 @@ bufferAt line place = cond (leb (length line) place) (plainly (Lend Whole)) (siz
 abbrev pub bufferOf : List ℕ → ℕ → Order
 bufferOf line from = bufferAt line (pastBlanks line from)
 
--- `forget N`: "at most 4,294,967,295", and then "only blanks may follow"
-unfoldable pub forgetBy : Number → List ℕ → ℕ → Order
-forgetBy Missing line column = wrongAt NoNumber column
-forgetBy TooGreat line column = wrongAt GreatNumber column
-forgetBy (Is n past) line column = aloneOf (Make (Forget n)) line past
+-- a number that must be there
+unfoldable pub numberedAt : ℕ → Wrong → (ℕ → Word) → List ℕ → ℕ → Order
+numberedAt most over w line place = numberedBy (numberAt line place most) over w line (place + 1)
 
-unfoldable pub forgetAt : List ℕ → ℕ → Order
-forgetAt line place = forgetBy (numberAt line place 4294967295) line (place + 1)
-
+-- `forget N`: "at most 4,294,967,295"
 abbrev pub forgetOf : List ℕ → ℕ → Order
-forgetOf line from = forgetAt line (pastBlanks line from)
+forgetOf line from = numberedAt 4294967295 GreatNumber (λ n. Make (Forget n)) line (pastBlanks line from)
+
+-- `time N`: "at most 18,446,744,073,709,551,615"
+abbrev pub timeOf : List ℕ → ℕ → Order
+timeOf line from = numberedAt 18446744073709551615 GreatTime (λ n. Make (Time n)) line (pastBlanks line from)
 
 -- n bytes were read, and then a fault; "due are .. the bytes SS and TT themselves", at the column `end` if the line ends first
-unfoldable pub bytesBy : Fault → Call → ℕ → ℕ → ℕ → Order
-bytesBy Nothing call n due end = cond (ltb n due) (wrongAt NoDigit end) (record { word = Make call; count = n - due; column = 0 })
-bytesBy (Digit column) call n due end = wrongAt NoDigit column
-bytesBy (Over column) call n due end = wrongAt TooMany column
+unfoldable pub bytesBy : Fault → Wrong → Word → ℕ → ℕ → ℕ → Order
+bytesBy Nothing over w n due end = cond (ltb n due) (wrongAt NoDigit end) (record { word = w; count = n - due; column = 0 })
+bytesBy (Digit column) over w n due end = wrongAt NoDigit column
+bytesBy (Over column) over w n due end = wrongAt over column
 
 -- "another number of bytes"
 unfoldable pub imageBy : Fault → ℕ → Order
@@ -112,18 +117,25 @@ pub record Ordered : Type 0 where
 abbrev pub ordered : Order → List ℕ → Ordered
 ordered o d = record { order = o; sent = d }
 
-abbrev pub bytesOf : Call → ℕ → HexRun → List ℕ → Order
-bytesOf call due q line = bytesBy (q .fault) call (length (q .bytes)) due (length line + 1)
+abbrev pub bytesOf : Wrong → Word → ℕ → HexRun → List ℕ → Order
+bytesOf over w due q line = bytesBy (q .fault) over w (length (q .bytes)) due (length line + 1)
 
 -- "the most is 8,192 bytes for `occ` (SS not counted) and `sbe`, 8,186 bytes of DATA for `send`"; the data stand where they do in a packet
 unfoldable pub occOf : List ℕ → ℕ → List ℕ → Ordered
-occOf line from d = ordered (bytesOf Occ 1 (hexRun line from 8193) line) (pasted 0 ((hexRun line from 8193) .bytes) d)
+occOf line from d = ordered (bytesOf TooMany (Make Occ) 1 (hexRun line from 8193) line) (pasted 0 ((hexRun line from 8193) .bytes) d)
 
-unfoldable pub sbeOf : List ℕ → ℕ → List ℕ → Ordered
-sbeOf line from d = ordered (bytesOf Sbe 0 (hexRun line from 8192) line) (pasted 0 ((hexRun line from 8192) .bytes) d)
+unfoldable pub plainBytes : Wrong → Word → List ℕ → ℕ → List ℕ → Ordered
+plainBytes over w line from d = ordered (bytesOf over w 0 (hexRun line from 8192) line) (pasted 0 ((hexRun line from 8192) .bytes) d)
+
+abbrev pub sbeOf : List ℕ → ℕ → List ℕ → Ordered
+sbeOf line from d = plainBytes TooMany (Make Sbe) line from d
+
+-- "for `seeprom` it is 8,192 bytes, and the answer `? seeprom over 8192 bytes`"
+abbrev pub seepromOf : List ℕ → ℕ → List ℕ → Ordered
+seepromOf line from d = plainBytes LongSeeprom Seeprom line from d
 
 unfoldable pub sendOf : List ℕ → ℕ → List ℕ → Ordered
-sendOf line from d = ordered (bytesOf Send 2 (hexRun line from 8188) line) (pasted 2 ((hexRun line from 8188) .bytes) d)
+sendOf line from d = ordered (bytesOf TooMany (Make Send) 2 (hexRun line from 8188) line) (pasted 2 ((hexRun line from 8188) .bytes) d)
 
 unfoldable pub loadOf : List ℕ → ℕ → List ℕ → Ordered
 loadOf line from d =
@@ -138,6 +150,7 @@ callOf Load line from d = loadOf line from d
 callOf Undo line from d = ordered (aloneOf (Make Undo) line from) d
 callOf Redo line from d = ordered (aloneOf (Make Redo) line from) d
 callOf (Forget n) line from d = ordered (forgetOf line from) d
+callOf (Time n) line from d = ordered (timeOf line from) d
 callOf Fresh line from d = ordered (aloneOf (Make Fresh) line from) d
 
 -- ---- lines
@@ -147,6 +160,7 @@ unfoldable pub orderBy : Word → List ℕ → ℕ → ℕ → List ℕ → Orde
 orderBy (Make call) line at end d = callOf call line end d
 orderBy (Look view) line at end d = ordered (aloneOf (Look view) line end) d
 orderBy (Lend buffer) line at end d = ordered (bufferOf line end) d
+orderBy Seeprom line at end d = seepromOf line end d
 orderBy (Fail what) line at end d = ordered (wrongAt what (at + 1)) d
 orderBy Skip line at end d = ordered (plainly Skip) d
 

@@ -5,7 +5,7 @@ ghost use lib.ListN.{length};
 ghost use Rattle.io.specs.Counts.{Counts};
 ghost use Rattle.wire.specs.Wire.{pasted};
 ghost use Rattle.text.specs.Text.{hexRun};
-ghost use Rattle.orders.specs.Orders.{plainly, wrongAt, viewOf, wordOf, aloneOf, bytesBy, imageBy, sizeBy, bufferOf, ReadsAs, ordered, occOf, sbeOf, sendOf, loadOf, forgetOf, callOf, orderAt, remark, orderOf, lineLength, orderIn};
+ghost use Rattle.orders.specs.Orders.{plainly, wrongAt, viewOf, wordOf, aloneOf, bytesBy, imageBy, sizeBy, bufferOf, ReadsAs, ordered, occOf, plainBytes, sendOf, loadOf, forgetOf, timeOf, callOf, orderAt, remark, orderOf, lineLength, orderIn};
 use text::Fault;
 use text::Number;
 use text::Taken;
@@ -20,6 +20,9 @@ pub const MOST_BUFFER: usize = 8192;
 // The most changes that can be asked to be forgotten.
 pub const MOST_FORGOTTEN: u64 = 4294967295;
 
+// The most microseconds that can be reported.
+pub const MOST_TIME: u64 = 18446744073709551615;
+
 // What is made on a session.
 pub enum Call {
     Occ,
@@ -29,6 +32,7 @@ pub enum Call {
     Undo,
     Redo,
     Forget(u32),
+    Time(u64),
     Fresh,
 }
 
@@ -58,12 +62,16 @@ pub enum Wrong {
     NoNumber,
     LongBuffer,
     GreatNumber,
+    GreatTime,
+    LongSeeprom,
 }
 
+// `Seeprom`: the bytes become the SEEPROM's image.
 pub enum Word {
     Make(Call),
     Look(View),
     Lend(Buffer),
+    Seeprom,
     Fail(Wrong),
     Skip,
 }
@@ -144,11 +152,17 @@ fn word_of(word: &[u8]) -> Word
     if text::same(word, b"forget") {
         return Word::Make(Call::Forget(0));
     }
+    if text::same(word, b"time") {
+        return Word::Make(Call::Time(0));
+    }
     if text::same(word, b"fresh") {
         return Word::Make(Call::Fresh);
     }
     if text::same(word, b"buffer") {
         return Word::Lend(Buffer::Whole);
+    }
+    if text::same(word, b"seeprom") {
+        return Word::Seeprom;
     }
     view_of(word)
 }
@@ -206,22 +220,36 @@ fn read_forget(line: &[u8], from: usize) -> Order
     }
 }
 
-// Bytes, of which the first `due` must be there; `end` is the column past the line.
-fn with_bytes(call: Call, taken: Taken, due: usize, end: usize) -> Order
-    ensures { λ r. ⌜ r ≡ bytesBy (taken .fault) call (taken .count) due end ⌝ }
+// A number of microseconds.
+fn read_time(line: &[u8], from: usize) -> Order
+    ensures { λ r. ⌜ r ≡ timeOf (now (line .entry)) from ⌝ }
+    ensures { λ r. ⌜ r .count ≡ 0 ⌝ }
+{
+    let place = text::past_blanks(line, from);
+    let number = text::number_at(line, place, MOST_TIME);
+    match number {
+        Number::Missing => wrong_at(Wrong::NoNumber, place + 1),
+        Number::TooGreat => wrong_at(Wrong::GreatTime, place + 1),
+        Number::Is(n, past) => alone(Word::Make(Call::Time(n)), line, past),
+    }
+}
+
+// Bytes, of which the first `due` must be there; `over` is what more than the most are, `end` the column past the line.
+fn with_bytes(over: Wrong, word: Word, taken: Taken, due: usize, end: usize) -> Order
+    ensures { λ r. ⌜ r ≡ bytesBy (taken .fault) over word (taken .count) due end ⌝ }
     ensures { λ r. ⌜ r .count ≤ taken .count - due ⌝ }
 {
     let n = taken.count;
     let fault = taken.fault;
     match fault {
         Fault::Digit(column) => wrong_at(Wrong::NoDigit, column),
-        Fault::Over(column) => wrong_at(Wrong::TooMany, column),
+        Fault::Over(column) => wrong_at(over, column),
         Fault::Nothing => {
             if n < due {
                 return wrong_at(Wrong::NoDigit, end);
             }
             Order {
-                word: Word::Make(call),
+                word: word,
                 count: n - due,
                 column: 0,
             }
@@ -266,16 +294,23 @@ fn occ(line: &[u8], from: usize, sent: &mut [u8]) -> Order
     ensures { λ r. ⌜ r .count ≤ 8192 ⌝ }
 {
     let taken = take(line, from, sent, 0, 8193);
-    with_bytes(Call::Occ, taken, 1, line.len() + 1)
+    with_bytes(
+        Wrong::TooMany,
+        Word::Make(Call::Occ),
+        taken,
+        1,
+        line.len() + 1,
+    )
 }
 
-fn sbe(line: &[u8], from: usize, sent: &mut [u8]) -> Order
+// Bytes without any that must be there.
+fn plain_bytes(over: Wrong, word: Word, line: &[u8], from: usize, sent: &mut [u8]) -> Order
     requires { ⌜ (length (now line) ≤ 32768) × (8198 ≤ length (now sent)) ⌝ }
-    ensures { λ r. ⌜ ordered r (now (sent .exit)) ≡ sbeOf (now (line .entry)) from (now (sent .entry)) ⌝ }
+    ensures { λ r. ⌜ ordered r (now (sent .exit)) ≡ plainBytes over word (now (line .entry)) from (now (sent .entry)) ⌝ }
     ensures { λ r. ⌜ r .count ≤ 8192 ⌝ }
 {
     let taken = take(line, from, sent, 0, 8192);
-    with_bytes(Call::Sbe, taken, 0, line.len() + 1)
+    with_bytes(over, word, taken, 0, line.len() + 1)
 }
 
 // The sender stands at 2, the type at 3, and the data from 4 on, where they stand in a packet.
@@ -285,7 +320,13 @@ fn send(line: &[u8], from: usize, sent: &mut [u8]) -> Order
     ensures { λ r. ⌜ r .count ≤ 8192 ⌝ }
 {
     let taken = take(line, from, sent, 2, 8188);
-    with_bytes(Call::Send, taken, 2, line.len() + 1)
+    with_bytes(
+        Wrong::TooMany,
+        Word::Make(Call::Send),
+        taken,
+        2,
+        line.len() + 1,
+    )
 }
 
 fn load(line: &[u8], from: usize, sent: &mut [u8]) -> Order
@@ -303,12 +344,13 @@ fn read_call(call: Call, line: &[u8], from: usize, sent: &mut [u8]) -> Order
 {
     match call {
         Call::Occ => occ(line, from, sent),
-        Call::Sbe => sbe(line, from, sent),
+        Call::Sbe => plain_bytes(Wrong::TooMany, Word::Make(Call::Sbe), line, from, sent),
         Call::Send => send(line, from, sent),
         Call::Load => load(line, from, sent),
         Call::Undo => alone(Word::Make(Call::Undo), line, from),
         Call::Redo => alone(Word::Make(Call::Redo), line, from),
         Call::Forget(_) => read_forget(line, from),
+        Call::Time(_) => read_time(line, from),
         Call::Fresh => alone(Word::Make(Call::Fresh), line, from),
     }
 }
@@ -329,6 +371,7 @@ fn read_word(line: &[u8], at: usize, sent: &mut [u8]) -> Order
         Word::Make(call) => read_call(call, line, end, sent),
         Word::Look(view) => alone(Word::Look(view), line, end),
         Word::Lend(_) => read_buffer(line, end),
+        Word::Seeprom => plain_bytes(Wrong::LongSeeprom, Word::Seeprom, line, end, sent),
         Word::Fail(what) => wrong_at(what, at + 1),
         Word::Skip => plain(Word::Skip),
     }

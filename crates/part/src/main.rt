@@ -20,11 +20,10 @@ fn too_many(space: &[u8]) -> usize
     space.len()
 }
 
-// What an open file holds.
-fn read_open(fd: i32, name: &[u8], space: &mut [u8]) -> usize
+fn read_named(name: &[u8], space: &mut [u8]) -> usize
     ensures { λ r. ⌜ Counts r (now (space .exit)) ⌝ }
 {
-    let got = streams::read_full(fd, name, space);
+    let got = streams::read_named(name, space);
     if got.failed {
         return too_many(space);
     }
@@ -33,19 +32,6 @@ fn read_open(fd: i32, name: &[u8], space: &mut [u8]) -> usize
         complain(b": over 1048576 bytes\n");
     }
     got.count
-}
-
-fn read_named(name: &[u8], space: &mut [u8]) -> usize
-    ensures { λ r. ⌜ Counts r (now (space .exit)) ⌝ }
-{
-    let fd = os::open_read(name);
-    if fd < 0 {
-        os::fail(name);
-        return too_many(space);
-    }
-    let got = read_open(fd, name, space);
-    libc::close(fd);
-    got
 }
 
 // The trace that an argument names.

@@ -1,6 +1,6 @@
 -- The line of one entry: put piece by piece, by the call that the entry asks for. Assumes nothing.
 use Prim.Native.Nat.{ℕ, zero, suc, _-_, _≤_}
-use mathlib.Core.Bool.{Bool, true, false, false≢true}
+use mathlib.Core.Bool.{Bool, true, false≢true}
 use mathlib.Core.Path.{_≡_, refl, sym, ap, ap₂, subst, _∙_}
 use mathlib.Core.List.{List, [], _∷_}
 use native.Mathlib.Omega.{arith}
@@ -109,9 +109,9 @@ past-two : (e : List ℕ) → take (length e - 2) (drop 2 e) ≡ drop 1 (drop 1 
 past-two e = tail-part e 2 ∙ sym (drop-drop 1 1 e)
 
 module _ (b e : List ℕ) where
-  pub as-sbe : getD e 0 0 ≡ 0x03 → sbeHeard (sbeOn b (take (length e - 1) (drop 1 e)) (replicate 32 0)) ≡ heard b (entryOf e)
+  pub as-sbe : getD e 0 0 ≡ 0x03 → sbeHeard (sbeOn b (take (length e - 1) (drop 1 e)) (replicate 32 0) [] []) ≡ heard b (entryOf e)
   unfolding heard
-  as-sbe k = if-eq _ _ k (ap (λ (r : List ℕ). sbeHeard (sbeOn b r (replicate 32 0))) (tail-part e 1))
+  as-sbe k = if-eq _ _ k (ap (λ (r : List ℕ). sbeHeard (sbeOn b r (replicate 32 0) [] [])) (tail-part e 1))
 
   pub as-undo : (getD e 0 0 ≡ 0x03 → ⊥) → getD e 0 0 ≡ 0x04 → undoHeard (undoOn b) ≡ heard b (entryOf e)
   unfolding heard

@@ -54,7 +54,7 @@ undoHeard x = heardWith x []
 -- are long enough, and zero
 unfoldable pub heard : List ℕ → Entry → Heard
 heard b e =
-    cond (eqb (e .kind) 0x03) (sbeHeard (sbeOn b (e .body) (replicate 32 0)))
+    cond (eqb (e .kind) 0x03) (sbeHeard (sbeOn b (e .body) (replicate 32 0) [] []))
     (cond (eqb (e .kind) 0x04) (undoHeard (undoOn b))
     (occHeard (occOn b (getD (e .body) 0 0) (drop 1 (e .body)) (replicate 4096 0))))
 

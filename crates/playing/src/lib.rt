@@ -3,6 +3,7 @@ ghost use mathlib.Core.Bool.{true};
 ghost use mathlib.Core.Path.{_≡_};
 ghost use Prim.Native.Nat.{_≤_, _+_, _*_};
 ghost use lib.Dec.{leb};
+ghost use mathlib.Core.List.{[]};
 ghost use lib.ListN.{length, replicate};
 ghost use Rattle.wire.specs.Wire.{joined};
 ghost use Rattle.io.specs.Counts.{Counts};
@@ -71,10 +72,10 @@ fn play_occ(
 }
 
 fn play_sbe(lent: &mut [u8], number: u64, request: &[u8], out: &mut [u8], at: usize) -> usize
-    ensures { λ r. ⌜ Puts number (sbeHeard (sbeOn (now (lent .entry)) (now (request .entry)) (replicate 32 0))) at (now (out .entry)) (now (lent .exit)) (now (out .exit)) r ⌝ }
+    ensures { λ r. ⌜ Puts number (sbeHeard (sbeOn (now (lent .entry)) (now (request .entry)) (replicate 32 0) [] [])) at (now (out .entry)) (now (lent .exit)) (now (out .exit)) r ⌝ }
 {
     let mut reply = [0u8; 32];
-    let told = sbe_call::sbe(lent, request, &mut reply);
+    let told = sbe_call::alone(lent, request, &mut reply);
     put_line(out, at, number, told.answer, &reply[..4])
 }
 

@@ -1,11 +1,12 @@
 -- Demand 1, as document 01's tables, with document 02's additions: each session answer, and with answer 0 each status, when its row holds and none before it.
 use Prim.Native.Nat.{ℕ, _+_, _≤_, _<_}
 use mathlib.Core.Bool.{true}
+use mathlib.Core.Logic.{_⊎_}
 use mathlib.Core.Path.{_≡_}
 use mathlib.Core.List.{List, [], _∷_, _++_}
 use lib.ListN.{length, getD}
 use Rattle.wire.specs.Wire.{toBE, packetSum}
-use Rattle.wire.specs.Conditions.{_and_, is, row}
+use Rattle.wire.specs.Conditions.{_and_, is, none, row}
 use Rattle.record.specs.Record.{workedOf}
 use Rattle.change.specs.declared.Edit.{Edit}
 use Rattle.journal.specs.declared.Way.{Way}
@@ -13,13 +14,13 @@ use Rattle.journal.specs.declared.Way.the-variants.{Before, After}
 use Rattle.packet.specs.Packet.{dataOf}
 use Rattle.packet.specs.Conditions.{Overlong, Summed}
 use Rattle.occ.specs.Statuses.{CommandStatus}
-use Rattle.sbe.specs.Mailbox.{bellOf, responseBytes}
-use Rattle.sbe.specs.Conditions.{Accepted}
-use Rattle.sbe.specs.Statuses.{Status}
+use Rattle.sbe.specs.Mailbox.{wordAt, bellOf, responseBytes}
+use Rattle.sbe.specs.Conditions.{Changes, ReadAsked}
+use Rattle.sbe.specs.Statuses.{Status, RequestStatus}
 use Rattle.session.specs.Session.{wellFormed}
 use Rattle.session.specs.declared.Session.{Session}
 use Rattle.session.specs.Road.{usedOf, heldIn, Said, done}
-use Rattle.promises.specs.Demand2.{atFront, entryLength, KnownSender, WellAsked, occKind, NotPoll, sbeKind, Newest, Movable}
+use Rattle.promises.specs.Demand2.{atFront, entryLength, KnownSender, WellAsked, occKind, NotPoll, sbeKind, InImage, Newest, Movable}
 
 -- ---- session answers
 
@@ -41,8 +42,12 @@ SbeAnswer s r d =
     row 1 (wellFormed s ≡ true → ⊥)
     (row 3 (length d < 32)
     (row 4 (length r < 32)
-    (row 5 (Accepted r and NoRoom s (sbeKind r))
+    (row 5 (Changes r and NoRoom s (sbeKind r))
     (is 0))))
+
+-- document 02, h
+unfoldable pub TimeAnswer : Session → ℕ → Type 0
+TimeAnswer s = row 1 (wellFormed s ≡ true → ⊥) (is 0)
 
 -- undo and redo, each with its number for an empty store. 7: the newest entry is there, and one of the cases holds
 unfoldable pub MoveAnswer : Way → ℕ → Session → ℕ → Type 0
@@ -83,6 +88,17 @@ OccStatus s sender c =
     row 0x12 (Overlong c)
     (row 0x14 (Summed c → ⊥)
     (CommandStatus (s .held) (workedOf (s .held)) (s .next) sender (getD c 1 0) (dataOf c)))
+
+-- h, D7 03, where the request's own rows (sbe/specs/Statuses.antt) leave it: "02/19 an offset or size that is no multiple of 8 or leaves the image, 02/18 when the
+-- second buffer is shorter than the data"
+unfoldable pub ReadStatus : List ℕ → List ℕ → List ℕ → Status → Type 0
+ReadStatus r m x =
+    row (0x02, 0x19) (InImage r m → ⊥)
+    (row (0x02, 0x18) (length x < wordAt 12 r)
+    none)
+
+unfoldable pub SbeStatus : List ℕ → List ℕ → List ℕ → Status → Type 0
+SbeStatus r m x n = RequestStatus r n ⊎ (ReadAsked r and ReadStatus r m x n)
 
 -- "An error reply has one data byte, log id 0x00": sequence, type, status, 00 01, 00, and the checksum
 abbrev pub errorBytes : ℕ → ℕ → ℕ → List ℕ

@@ -1,5 +1,5 @@
--- Demand 2 of whole calls, in document 01's words: when a call is accepted, and what an accepted one replies.
-use Prim.Native.Nat.{ℕ, _+_, _<_, _≤_}
+-- Demand 2 of whole calls, in the words of document 01 and of document 02, h: when a call is accepted, and what an accepted one replies.
+use Prim.Native.Nat.{ℕ, _+_, _%_, _<_, _≤_}
 use mathlib.Core.Bool.{true, cond}
 use mathlib.Core.Logic.{_⊎_}
 use mathlib.Core.Path.{_≡_}
@@ -12,7 +12,7 @@ use Rattle.record.specs.declared.Record.{Record}
 use Rattle.change.specs.Change.{putOf}
 use Rattle.change.specs.Logs.{pendingOf, pendsAt}
 use Rattle.change.specs.declared.Change.{Change}
-use Rattle.change.specs.declared.Change.the-variants.{Clear, Unclear, SetState, SetRole, SetCaps, SetUser, SetThermal, SetThrottles, Reset, Unreset, SetMask, SetDeadman, SetAreas}
+use Rattle.change.specs.declared.Change.the-variants.{Clear, Unclear, SetState, SetRole, SetCaps, SetUser, SetThermal, SetThrottles, Reset, Unreset, SetMask, SetDeadman, SetAreas, SetTimer}
 use Rattle.change.specs.declared.Edit.{Edit}
 use Rattle.formed.specs.Formed.{recordOk}
 use Rattle.entries.specs.Entries.{Entry, bodyLen, between, scan}
@@ -24,8 +24,8 @@ use Rattle.packet.specs.Packet.{dataOf, replyBytes}
 use Rattle.packet.specs.Conditions.{Fits, Summed}
 use Rattle.poll.specs.Poll.{pollData}
 use Rattle.occ.specs.Conditions.{CommandOk}
-use Rattle.sbe.specs.Mailbox.{responseBytes}
-use Rattle.sbe.specs.Conditions.{Accepted}
+use Rattle.sbe.specs.Mailbox.{wordAt, responseBytes}
+use Rattle.sbe.specs.Conditions.{Changes, Plainly, ReadAsked}
 use Rattle.session.specs.declared.Session.{Session}
 use Rattle.occ_call.specs.Occ.{occCall}
 use Rattle.sbe_call.specs.Sbe.{sbeCall}
@@ -85,15 +85,24 @@ OccSucceeds s sender c d =
 
 -- ---- SBE
 
--- D1 01 adds an entry of kind 0A, D1 03 one of 09, D7 04 one of 0B
+-- D1 01 adds an entry of kind 0A, D1 03 one of 09, D4 01 one of 0C, D7 04 one of 0B
 unfoldable pub sbeKind : List ℕ → ℕ
-sbeKind r = cond (eqb (getD r 6 0) 0xD7) 0x0B (cond (eqb (getD r 7 0) 0x01) 0x0A 0x09)
+sbeKind r = cond (eqb (getD r 6 0) 0xD7) 0x0B (cond (eqb (getD r 6 0) 0xD4) 0x0C (cond (eqb (getD r 7 0) 0x01) 0x0A 0x09))
 
-unfoldable pub SbeAccepted : Session → List ℕ → List ℕ → Type 0
-SbeAccepted s r d = (32 ≤ length d) and (32 ≤ length r) and Accepted r and HasRoom s (sbeKind r)
+-- document 02, h, D7 03: offset and size are multiples of 8 and stay within the lent image m, "of which only the first 65,536 bytes count"
+abbrev pub InImage : List ℕ → List ℕ → Type 0
+InImage r m = (wordAt 8 r % 8 ≡ 0) and (wordAt 12 r % 8 ≡ 0) and (wordAt 8 r + wordAt 12 r ≤ 65536) and (wordAt 8 r + wordAt 12 r ≤ length m)
 
-unfoldable pub SbeSucceeds : Session → List ℕ → List ℕ → Type 0
-SbeSucceeds s r d = (sbeCall s r d .answer ≡ 0) and (sbeCall s r d .reply ≡ atFront (responseBytes 0x00 0x00 r) d)
+-- and the second buffer x holds the data
+abbrev pub Served : List ℕ → List ℕ → List ℕ → Type 0
+Served r m x = ReadAsked r and InImage r m and (wordAt 12 r ≤ length x)
+
+-- a change that has room; what is answered without one (D1 02, D3 01); a read that is served
+unfoldable pub SbeAccepted : Session → List ℕ → List ℕ → List ℕ → List ℕ → Type 0
+SbeAccepted s r d m x = (32 ≤ length d) and (32 ≤ length r) and ((Changes r and HasRoom s (sbeKind r)) ⊎ (Plainly r ⊎ Served r m x))
+
+unfoldable pub SbeSucceeds : Session → List ℕ → List ℕ → List ℕ → List ℕ → Type 0
+SbeSucceeds s r d m x = (sbeCall s r d m x .answer ≡ 0) and (sbeCall s r d m x .reply ≡ atFront (responseBytes 0x00 0x00 r) d)
 
 -- ---- undo and redo (document 02, d): one road walked both ways, Before is undo and After redo (undo_call/specs/Undo.antt)
 
@@ -121,6 +130,7 @@ GoesIn r (SetThrottles got) = Unit {0}
 GoesIn r (SetMask mask) = Unit {0}
 GoesIn r (SetDeadman deadman) = Unit {0}
 GoesIn r (SetAreas areas) = Unit {0}
+GoesIn r (SetTimer timer) = Unit {0}
 
 -- none of answer 7's cases: what the entry says goes in, and the record that it gives is well formed
 abbrev pub Movable : Session → Edit → Type 0

@@ -8,50 +8,56 @@ use lib.ListN.{length, take, drop}
 use Rattle.wire.specs.Wire.{Bytes}
 use Rattle.record.specs.Record.{workedOf}
 use Rattle.record.specs.declared.Record.{Record}
-use Rattle.change.specs.Change.{putOf}
+use Rattle.record.specs.declared.Timer.{Timer}
+use Rattle.change.specs.Change.{putOf, timed, timerAfter}
 use Rattle.change.specs.declared.Edit.{Edit}
 use Rattle.journal.specs.Ways.{byWay}
-use Rattle.session.specs.Road.{Asks, refuses, tells, makes, moves, forgets}
+use Rattle.session.specs.Road.{Asks, refuses, tells, makes, moves, forgets, passes, ticked}
 use Rattle.session.specs.Session.{carriedOf}
 use Rattle.session.specs.declared.Session.{Session}
 use Rattle.undo_call.specs.Undo.{undoCall, redoCall}
 use Rattle.forget_call.specs.Forget.{forgetCall}
-use Rattle.promises.specs.Calls.{Call, occ, sbe, undo, redo, forget, asks, said}
-use Rattle.promises.specs.Marks.{Mark, strike, latest, unstrike, left, logsMade, undoAnswer, redoAnswer}
+use Rattle.promises.specs.Calls.{Call, occ, sbe, undo, redo, forget, time, asks, said}
+use Rattle.promises.specs.Marks.{Mark, strike, latest, unstrike, struckBy, left, logsMade, undoAnswer, redoAnswer}
 
 -- ---- the change that a call makes
 
--- a call keeps the record, adds a change (with the id that its log drew), strikes the newest one out, unstrikes the one last struck, or forgets the oldest ones
+-- a call keeps the record, adds a change (with the id that its log drew), strikes the newest one out, unstrikes the one last struck, forgets the oldest ones, or
+-- takes microseconds off the timer
 pub data Deed : Type 0 where
   keeps : Deed
   adds : Edit → Deed
   strikes : Deed
   unstrikes : Deed
   drops : ℕ → Deed
+  ticks : ℕ → Deed
 
 -- a change that has room in the journal is made
 unfoldable pub adding : Session → Edit → Deed
 adding s e = cond (carriedOf s e .full) keeps (adds e)
 
--- by what the call asks: the accepted calls that make an entry, the accepted undos and redos, and forgetting
+-- by what the call asks: the accepted calls that make an entry, the accepted undos and redos, forgetting, and time reports
 unfoldable pub deedBy : Session → Asks → Deed
 deedBy s (refuses n) = keeps
 deedBy s (tells bell reply) = keeps
 deedBy s (makes e bell reply) = adding s e
 deedBy s (moves w at e) = byWay w strikes unstrikes
 deedBy s (forgets n) = drops n
+deedBy s (passes n) = ticks n
 
 unfoldable pub deed : Session → Call → Deed
 deed s c = deedBy s (asks s c)
 
--- ---- the changes, newest first, and which of them are struck out (Marks.antt): so many undos were accepted before the call
+-- ---- the changes, newest first, and which of them are struck out (Marks.antt): so many undos were accepted before the call, and the timer
+-- stood so
 
-unfoldable pub marked : ℕ → List Mark → Deed → List Mark
-marked undos ms keeps = ms
-marked undos ms (adds e) = record { edit = e; stroke = 0 } ∷ ms
-marked undos ms strikes = strike (suc undos) ms
-marked undos ms unstrikes = unstrike (latest ms) ms
-marked undos ms (drops n) = ms
+unfoldable pub marked : Timer → ℕ → List Mark → Deed → List Mark
+marked t undos ms keeps = ms
+marked t undos ms (adds e) = record { edit = timed t e; stroke = 0 } ∷ ms
+marked t undos ms strikes = strike t (suc undos) ms
+marked t undos ms unstrikes = unstrike t (latest ms) ms
+marked t undos ms (drops n) = ms
+marked t undos ms (ticks n) = ms
 
 unfoldable pub undosAfter : ℕ → Deed → ℕ
 undosAfter undos keeps = undos
@@ -59,6 +65,7 @@ undosAfter undos (adds e) = undos
 undosAfter undos strikes = suc undos
 undosAfter undos unstrikes = undos
 undosAfter undos (drops n) = undos
+undosAfter undos (ticks n) = undos
 
 -- the undos accepted before the last accepted change
 unfoldable pub sinceAfter : ℕ → ℕ → Deed → ℕ
@@ -67,6 +74,7 @@ sinceAfter undos since (adds e) = undos
 sinceAfter undos since strikes = since
 sinceAfter undos since unstrikes = since
 sinceAfter undos since (drops n) = since
+sinceAfter undos since (ticks n) = since
 
 -- j: how many of the changes left, the oldest, are forgotten
 unfoldable pub goneAfter : ℕ → Deed → ℕ
@@ -75,6 +83,7 @@ goneAfter gone (adds e) = gone
 goneAfter gone strikes = gone
 goneAfter gone unstrikes = gone
 goneAfter gone (drops n) = gone + n
+goneAfter gone (ticks n) = gone
 
 -- "The record equals what the remaining changes give, applied in order" to a starting record
 unfoldable pub applied : Record → List Edit → Record
@@ -99,7 +108,7 @@ pub record Run : Type 0 where
   pub gone : ℕ
 
 unfoldable pub did : Run → Session → Deed → Run
-did p s d = record { session = s; marks = marked (p .undos) (p .marks) d; undos = undosAfter (p .undos) d; since = sinceAfter (p .undos) (p .since) d; gone = goneAfter (p .gone) d }
+did p s d = record { session = s; marks = marked (p .session .timer) (p .undos) (p .marks) d; undos = undosAfter (p .undos) d; since = sinceAfter (p .undos) (p .since) d; gone = goneAfter (p .gone) d }
 
 unfoldable pub next-run : Run → Call → Run
 next-run p c = did p (said (p .session) c .session) (deed (p .session) c)
@@ -114,10 +123,11 @@ start s = record { session = s; marks = []; undos = 0; since = 0; gone = 0 }
 -- what is handed in is bytes
 abbrev pub OfBytes : Call → Type 0
 OfBytes (occ sender c d) = Bytes c
-OfBytes (sbe r d) = Bytes r
+OfBytes (sbe r d m x) = Bytes r
 OfBytes undo = Unit {0}
 OfBytes redo = Unit {0}
 OfBytes (forget n) = Unit {0}
+OfBytes (time n) = Unit {0}
 
 abbrev pub AllOfBytes : List Call → Type 0
 AllOfBytes [] = Unit {0}
@@ -134,15 +144,31 @@ startOf base p = applied base (oldestOf (p .gone) (left (p .marks)))
 unfoldable pub forgetAnswer : ℕ → List Edit → ℕ
 forgetAnswer n es = cond (ltb (length es) n) 9 0
 
--- ---- the demand, after calls that started from the record base
+-- ---- the demand, after calls that started from the record base with the next id first
 
-pub record Demand3 (base : Record) (p : Run) : Type 0 where
+pub record Demand3 (base : Record) (first : ℕ) (p : Run) : Type 0 where
   pub record-is : p .session .held ≡ applied base (left (p .marks))
   pub worked-is : p .session .worked ≡ workedOf (applied base (left (p .marks)))
-  pub next-is : p .session .next ≡ suc (logsMade (p .marks))
+  pub next-is : p .session .next ≡ first + logsMade (p .marks)
   -- j: "Demand 3 then starts from the record as it stood after the forgotten changes"
   pub starts-from : p .session .held ≡ applied (startOf base p) (keptOf p)
   pub undo-is : undoCall (p .session) .answer ≡ undoAnswer (keptOf p)
   pub redo-is : redoCall (p .session) .answer ≡ redoAnswer (p .since) (p .marks)
   pub forget-is : (n : ℕ) → forgetCall n (p .session) .answer ≡ forgetAnswer n (keptOf p)
   pub never : (c : Call) → OfBytes c → (said (p .session) c .answer ≡ 1 → ⊥) × (said (p .session) c .answer ≡ 7 → ⊥)
+
+-- ---- the timer, which the demand leaves out (document 02, h)
+
+-- of an undo or redo of one of these changes
+unfoldable pub givenBack : Timer → List Edit → Timer
+givenBack t [] = t
+givenBack t (e ∷ es) = timerAfter t (e .change)
+
+-- after a call, by what it counts as: a timer command sets it, undo and redo of one give back what its mark holds, "no other undo or redo touches it"
+unfoldable pub clockAfter : Run → Deed → Timer
+clockAfter p keeps = p .session .timer
+clockAfter p (adds e) = timerAfter (p .session .timer) (e .change)
+clockAfter p strikes = givenBack (p .session .timer) (left (p .marks))
+clockAfter p unstrikes = givenBack (p .session .timer) (struckBy (latest (p .marks)) (p .marks))
+clockAfter p (drops n) = p .session .timer
+clockAfter p (ticks n) = ticked n (p .session .timer)

@@ -14,7 +14,7 @@ use Rattle.occ.specs.declared.Verdict.the-variants.{Refuse, Make}
 use Rattle.session.specs.Road.{Said}
 use Rattle.session.specs.declared.Session.{Session}
 use Rattle.occ_call.specs.Occ.{occRefusal, askedOf}
-use Rattle.promises.specs.Calls.{Call, occ, sbe, undo, said}
+use Rattle.promises.specs.Calls.{Call, occ, sbe, undo, time, said, secondOf}
 use Rattle.promises.specs.Lent.{told}
 use Rattle.promises.specs.History.{OfBytes}
 use Rattle.promises.specs.Shifted.{shifted, shiftedRecord}
@@ -43,8 +43,9 @@ pub record Clears (k : ℕ) (c c′ : List ℕ) : Type 0 where
 pub data SameWish (k : ℕ) : Call → Call → Type 0 where
   occ-same : (sender : ℕ) (c d : List ℕ) → named c < k → SameWish k (occ sender c d) (occ sender c d)
   occ-clears : (sender : ℕ) (c c′ d : List ℕ) → Clears k c c′ → SameWish k (occ sender c d) (occ sender c′ d)
-  sbe-same : (r d : List ℕ) → SameWish k (sbe r d) (sbe r d)
+  sbe-same : (r d m x : List ℕ) → SameWish k (sbe r d m x) (sbe r d m x)
   undo-same : SameWish k undo undo
+  time-same : (n : ℕ) → SameWish k (time n) (time n)
 
 pub record Wish (k : ℕ) : Type 0 where
   pub here : Call
@@ -66,6 +67,7 @@ pub record Twins (k : ℕ) (s t : Session) : Type 0 where
   pub worked-is : t .worked ≡ s .worked
   pub next-is : t .next ≡ suc (s .next)
   pub used-is : t .used ≡ s .used
+  pub timer-is : t .timer ≡ s .timer
 
 -- what came of a call on s, and of the one on its twin
 pub record Alike (k : ℕ) (s : Session) (a b : Said) : Type 0 where
@@ -86,5 +88,5 @@ abbrev pub AsIf : (k : ℕ) → Session → Session → List (Wish k) → Type 0
 AsIf k s t [] = Unit {0}
 AsIf k s t (w ∷ ws) =
     IdsEnd s t (w .here) (w .there)
-    ⊎ (Alike k s (said s (w .here)) (said t (w .there)) × (told t (w .there) ≡ told s (w .here)) × Twins k (said s (w .here) .session) (said t (w .there) .session)
-    × AsIf k (said s (w .here) .session) (said t (w .there) .session) ws)
+    ⊎ (Alike k s (said s (w .here)) (said t (w .there)) × (told t (w .there) ≡ told s (w .here)) × (secondOf t (w .there) ≡ secondOf s (w .here))
+    × Twins k (said s (w .here) .session) (said t (w .there) .session) × AsIf k (said s (w .here) .session) (said t (w .there) .session) ws)

@@ -3,20 +3,23 @@ use Prim.Native.Nat.{ℕ, _+_}
 use mathlib.Core.Bool.{cond}
 use mathlib.Core.List.{List, [], _∷_}
 use lib.Dec.{eqb, ltb}
+use Rattle.record.specs.declared.Timer.{Timer}
+use Rattle.change.specs.Change.{timed}
 use Rattle.change.specs.declared.Edit.{Edit}
 use Rattle.session.specs.Session.{madeOf}
 
--- a change, and by which accepted undo it is struck out, counted from 1; 0: it is not
+-- a change, and by which accepted undo it is struck out, counted from 1; 0: it is not. Document 02, h: a timer change holds the timer that its undo, or its redo, gives
+-- back: "as it stood just before that command or, if it was redone since, just before its last redo", and struck out, "as it stood just before that undo"
 pub record Mark : Type 0 where
   pub edit : Edit
   pub stroke : ℕ
 
 -- ---- the changes, newest first
 
--- "For each accepted undo, strike out the newest change not yet struck": undo number n
-unfoldable pub strike : ℕ → List Mark → List Mark
-strike n [] = []
-strike n (m ∷ ms) = cond (eqb (m .stroke) 0) (record { edit = m .edit; stroke = n } ∷ ms) (m ∷ strike n ms)
+-- "For each accepted undo, strike out the newest change not yet struck": undo number n, when the timer stands at t
+unfoldable pub strike : Timer → ℕ → List Mark → List Mark
+strike t n [] = []
+strike t n (m ∷ ms) = cond (eqb (m .stroke) 0) (record { edit = timed t (m .edit); stroke = n } ∷ ms) (m ∷ strike t n ms)
 
 -- the latest stroke of those still struck, 0 where none is
 unfoldable pub latest : List Mark → ℕ
@@ -24,9 +27,14 @@ latest [] = 0
 latest (m ∷ ms) = cond (ltb (latest ms) (m .stroke)) (m .stroke) (latest ms)
 
 -- "an accepted redo unstrikes the change last struck and still struck": the one struck by undo n is struck no longer
-unfoldable pub unstrike : ℕ → List Mark → List Mark
-unstrike n [] = []
-unstrike n (m ∷ ms) = cond (eqb (m .stroke) n) (record { edit = m .edit; stroke = 0 } ∷ ms) (m ∷ unstrike n ms)
+unfoldable pub unstrike : Timer → ℕ → List Mark → List Mark
+unstrike t n [] = []
+unstrike t n (m ∷ ms) = cond (eqb (m .stroke) n) (record { edit = timed t (m .edit); stroke = 0 } ∷ ms) (m ∷ unstrike t n ms)
+
+-- that one
+unfoldable pub struckBy : ℕ → List Mark → List Edit
+struckBy n [] = []
+struckBy n (m ∷ ms) = cond (eqb (m .stroke) n) (m .edit ∷ []) (struckBy n ms)
 
 -- the changes that are left
 unfoldable pub left : List Mark → List Edit

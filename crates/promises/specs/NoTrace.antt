@@ -11,7 +11,7 @@ use Rattle.journal.specs.Bytes.{entryBytes}
 use Rattle.session.specs.Session.{freshSession, madeOf, renewed}
 use Rattle.session.specs.Road.{Said}
 use Rattle.session.specs.declared.Session.{Session}
-use Rattle.promises.specs.Calls.{Call, occ, sbe, undo, redo, forget, said}
+use Rattle.promises.specs.Calls.{Call, occ, sbe, undo, redo, forget, time, said, secondOf}
 use Rattle.promises.specs.Lent.{told}
 use Rattle.promises.specs.History.{keeps, deed, Run, run, next-run, start, OfBytes}
 
@@ -23,7 +23,7 @@ leaves s e = renewed s (s .held) (s .next + madeOf (e .change)) (s .journal) (s 
 abbrev pub after : List Call → Run
 after cs = run (start freshSession) cs
 
--- calls handed on from a session, and such as keep it: polls, refusals, error replies
+-- calls handed on from a session, and such as keep it: polls, the requests that make no entry, refusals, error replies
 abbrev pub handedOn : Session → List Call → Session
 handedOn s [] = s
 handedOn s (k ∷ ks) = handedOn (said s k .session) ks
@@ -44,10 +44,11 @@ triedAndLooked cs c ks = said (handedOn (next-run (after cs) c .session) ks) und
 
 abbrev pub ButRedo : Call → Type 0
 ButRedo (occ sender c d) = Unit {0}
-ButRedo (sbe r d) = Unit {0}
+ButRedo (sbe r d m x) = Unit {0}
 ButRedo undo = Unit {0}
 ButRedo redo = ⊥
 ButRedo (forget n) = Unit {0}
+ButRedo (time n) = Unit {0}
 
 -- what a call tells and writes
 pub record SameSaid (a b : Said) : Type 0 where
@@ -56,10 +57,11 @@ pub record SameSaid (a b : Said) : Type 0 where
   pub kind : b .kind ≡ a .kind
   pub reply : b .reply ≡ a .reply
 
--- calls one after the other on s, where nobody tried, and on t; what C gets back beside the answer is the same, too
+-- calls one after the other on s, where nobody tried, and on t; what C gets back beside the answer is the same, too, and what a read of the SEEPROM serves
 abbrev pub AsBefore : Session → Session → List Call → Type 0
 AsBefore s t [] = Unit {0}
-AsBefore s t (c ∷ cs) = SameSaid (said s c) (said t c) and (told t c ≡ told s c) and AsBefore (said s c .session) (said t c .session) cs
+AsBefore s t (c ∷ cs) =
+    SameSaid (said s c) (said t c) and (told t c ≡ told s c) and (secondOf t c ≡ secondOf s c) and AsBefore (said s c .session) (said t c .session) cs
 
 abbrev pub AllButRedo : List Call → Type 0
 AllButRedo [] = Unit {0}

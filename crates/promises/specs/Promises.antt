@@ -5,11 +5,11 @@ use mathlib.Core.Bool.{true, false}
 use mathlib.Core.Logic.{_↔_, _⊎_, Iff·trans}
 use mathlib.Core.Path.{_≡_, ap, _∙_}
 use mathlib.Core.List.{List, [], _++_}
-use lib.ListN.{length, getD}
+use lib.ListN.{length, getD, take, drop}
 use Rattle.wire.specs.Wire.{Bytes, pasted, joined}
 use Rattle.record.specs.Record.{freshRecord, workedOf}
 use Rattle.wire.specs.Conditions.{_and_}
-use Rattle.change.specs.Change.{putOf}
+use Rattle.change.specs.Change.{putOf, timerAfter}
 use Rattle.change.specs.declared.Edit.{Edit}
 use Rattle.entries.specs.Entries.{Entry, bytesOf, written, between, entriesOf, readingOf}
 use Rattle.journal.specs.Ways.{other}
@@ -17,7 +17,7 @@ use Rattle.journal.specs.declared.Way.{Way}
 use Rattle.journal.specs.declared.Way.the-variants.{Before, After}
 use Rattle.packet.specs.Packet.{dataOf, replied}
 use Rattle.sbe.specs.Mailbox as mailbox
-use Rattle.sbe.specs.Statuses.{Status, RequestStatus}
+use Rattle.sbe.specs.Statuses.{Status}
 use Rattle.session.specs.Session.{freshSession, wellFormed, madeOf}
 use Rattle.session.specs.declared.Session.{Session}
 use Rattle.inplace.specs.declared.Told.{Told}
@@ -28,11 +28,12 @@ use Rattle.session.specs.Road.{usedOf}
 use Rattle.session.specs.laws.Road.{refusal-keeps, worked-after, error-keeps, bell-rung}
 use Rattle.occ_call.specs.Occ.{occAsks, occCall, occWhy, OccAllows}
 use Rattle.occ_call.specs.laws.Speaks.{occ-speaks}
-use Rattle.sbe_call.specs.Sbe.{sbeAsks, sbeCall, SbeAllows}
+use Rattle.sbe_call.specs.Sbe.{sbeAsks, sbeCall, sbeData, dataOn, SbeAllows, AloneAllows}
 use Rattle.sbe_call.specs.laws.Speaks.{sbe-speaks}
 use Rattle.undo_call.specs.Undo.{moveAsks, moveCall, undoCall, redoCall, UndoAllows, RedoAllows}
 use Rattle.forget_call.specs.Forget.{forgetAsks, forgetCall, ForgetAllows}
-use Rattle.sbe.specs.Conditions.{Accepted}
+use Rattle.time_call.specs.Time.{timeAsks, timeCall, TimeAllows}
+use Rattle.sbe.specs.Conditions.{Changes}
 use Rattle.trace.specs.Trace.{traceScan}
 use Rattle.text.specs.Text.{Sheet, sheet, putAll}
 use Rattle.entries.specs.declared.Reading.{Reading}
@@ -52,26 +53,30 @@ use Rattle.formed.specs.Formed.{inOrder}
 use Rattle.formed.specs.laws.Thresholds.{out-of-order}
 use Rattle.promises.specs.WellFormed.{WellFormed}
 use Rattle.promises.specs.laws.Plainly.{plainly-formed}
-use Rattle.promises.specs.Demand1.{OccAnswer, SbeAnswer, UndoAnswer, RedoAnswer, ForgetAnswer, OccDue, SbeDue, OccStatus, occError, sbeError}
-use Rattle.promises.specs.Demand2.{KnownSender, entryLength, WellAsked, occKind, sbeKind, atFront, NotPoll, successReply, OccSucceeds, OccAccepted, SbeSucceeds, SbeAccepted, Newest, UndoAccepted, RedoAccepted}
-use Rattle.promises.specs.Effects.{OccEffect, SbeEffect, entryBack, UndoEffect, RedoEffect, ForgetEffect}
+use Rattle.promises.specs.Demand1.{OccAnswer, SbeAnswer, UndoAnswer, RedoAnswer, ForgetAnswer, TimeAnswer, OccDue, SbeDue, OccStatus, SbeStatus, occError, sbeError}
+use Rattle.promises.specs.Demand2.{KnownSender, entryLength, WellAsked, occKind, sbeKind, atFront, NotPoll, successReply, OccSucceeds, OccAccepted, Served, SbeSucceeds, SbeAccepted, Newest, UndoAccepted, RedoAccepted}
+use Rattle.promises.specs.Effects.{OccEffect, SbeEffect, entryBack, UndoEffect, RedoEffect, ForgetEffect, TimeEffect}
 use Rattle.promises.specs.laws.ForgetDemands.{forget-answers, forget-effect, occ-fits-freed, sbe-fits-freed}
+use Rattle.promises.specs.laws.TimeDemands.{time-answers, time-effect}
 use Rattle.promises.specs.laws.OccDemands.{occ-answers, occ-statuses, occ-reply, occ-accepted}
 use Rattle.promises.specs.laws.Why.{byte-told, byte-least}
+use Rattle.promises.specs.laws.Served.{data-served, data-kept, data-refused, data-on-image, data-no-image}
 use Rattle.promises.specs.laws.SbeDemands.{sbe-answers, sbe-statuses, sbe-reply, sbe-accepted}
 use Rattle.promises.specs.laws.UndoDemands.{undo-answers, redo-answers, undo-accepted, redo-accepted}
 use Rattle.promises.specs.laws.Moves.{move-effect, room-left}
 use Rattle.promises.specs.laws.Answers.{one-exactly}
 use Rattle.promises.specs.laws.Effects.{occ-effect, sbe-effect, occ-deed, sbe-deed, deed-shown}
 use Rattle.promises.specs.Marks.{logsMade}
-use Rattle.promises.specs.History.{keeps, adds, deed, did, next-run, run, start, OfBytes, AllOfBytes, Demand3}
+use Rattle.promises.specs.History.{keeps, adds, deed, did, next-run, run, start, OfBytes, AllOfBytes, Demand3, clockAfter}
 use Rattle.promises.specs.Ids.{idsMade, countdown}
 use Rattle.promises.specs.Outcomes.{OneOutcome}
-use Rattle.promises.specs.laws.Outcomes.{one-value, one-pair, one-triple}
+use Rattle.promises.specs.laws.Outcomes.{one-value, one-pair, one-triple, one-four}
+use Rattle.promises.specs.laws.Opened.{opened-start}
 use Rattle.promises.specs.laws.Fresh.{fresh-start}
 use Rattle.promises.specs.laws.Demand3.{demand3, ids-in-order, invariant}
+use Rattle.promises.specs.laws.Clocks.{clock-is, other-kind-keeps}
 use Rattle.links.specs.Typed.{TypedSession}
-use Rattle.promises.specs.laws.WellFormed.{occ-formed, sbe-formed, undo-formed, redo-formed, forget-formed}
+use Rattle.promises.specs.laws.WellFormed.{occ-formed, sbe-formed, undo-formed, redo-formed, forget-formed, time-formed}
 use Rattle.promises.specs.Later.{Wish, AsIf}
 use Rattle.promises.specs.laws.NoTrace.{trace-free, later-as-before, later-alike, redo-brings-back, redo-undone}
 use Rattle.promises.specs.NoTrace.{leaves, after, tried, triedAndLooked, AllKeep, AllButRedo, AsBefore}
@@ -79,7 +84,7 @@ use Rattle.promises.specs.laws.Kept.{kept-session, handed-same}
 use Rattle.image.specs.Image.{imageOf, sessionOf}
 use Rattle.image.specs.laws.Typed.{typed-image}
 use Rattle.layout.specs.Layout.{imageLength}
-use Rattle.bjargolsk.specs.Calls.{answerIn, freshOn, FreshReturns, OccReturns, SbeReturns, UndoReturns, RedoReturns, ForgetReturns}
+use Rattle.bjargolsk.specs.Calls.{answerIn, freshOn, FreshReturns, OccReturns, SbeReturns, UndoReturns, RedoReturns, ForgetReturns, SeepromReturns, TimeReturns}
 use Rattle.promises.specs.laws.Lent.{every-image, every-byte, no-session, fresh-image, lent-run, lent-next}
 use Rattle.promises.specs.Lent.{lent, told as told-beside, carriedOver, lentRun}
 use Rattle.promises.specs.Passed.{MarksStand, PassedAsHeld}
@@ -97,7 +102,8 @@ use Rattle.promises.specs.laws.Examples.{examples}
 pub answer-of-occ : (s : Session) → TypedSession s → (sender : ℕ) (c d : List ℕ) (n : ℕ) → (occCall s sender c d .answer ≡ n) ↔ OccAnswer s sender c d n
 answer-of-occ = occ-answers
 
-pub answer-of-sbe : (s : Session) → TypedSession s → (r d : List ℕ) (n : ℕ) → (sbeCall s r d .answer ≡ n) ↔ SbeAnswer s r d n
+-- m: the SEEPROM's image, x: the second buffer, both lent
+pub answer-of-sbe : (s : Session) → TypedSession s → (r d m x : List ℕ) (n : ℕ) → (sbeCall s r d m x .answer ≡ n) ↔ SbeAnswer s r d n
 answer-of-sbe = sbe-answers
 
 pub answer-of-undo : (s : Session) (n : ℕ) → (undoCall s .answer ≡ n) ↔ UndoAnswer s n
@@ -109,6 +115,10 @@ answer-of-redo = redo-answers
 -- document 02, j
 pub answer-of-forget : (n : ℕ) (s : Session) (k : ℕ) → (forgetCall n s .answer ≡ k) ↔ ForgetAnswer n s k
 answer-of-forget = forget-answers
+
+-- document 02, h: n microseconds reported
+pub answer-of-time : (n : ℕ) (s : Session) (k : ℕ) → (timeCall n s .answer ≡ k) ↔ TimeAnswer s k
+answer-of-time = time-answers
 
 -- well formed: document 01's sentences as plain conditions (WellFormed.antt) are what is tested
 pub well-formed-exactly-when : (s : Session) → (wellFormed s ≡ true) ↔ WellFormed s
@@ -127,8 +137,9 @@ pub status-of-occ : (s : Session) → TypedSession s → (sender : ℕ) (c d : L
     → (occCall s sender c d ≡ occError s c d n) ↔ OccStatus s sender c n
 status-of-occ = occ-statuses
 
-pub status-of-sbe : (s : Session) → TypedSession s → (r d : List ℕ) → SbeDue s r d → (p q : ℕ) → p < 65536 → q < 65536
-    → (sbeCall s r d ≡ sbeError s r d (p, q)) ↔ RequestStatus r (p, q)
+-- 00/00 is success and no error
+pub status-of-sbe : (s : Session) → TypedSession s → (r d m x : List ℕ) → SbeDue s r d → (p q : ℕ) → p < 65536 → q < 65536 → ((p ≡ 0) and (q ≡ 0) → ⊥)
+    → (sbeCall s r d m x ≡ sbeError s r d (p, q)) ↔ SbeStatus r m x (p, q)
 status-of-sbe = sbe-statuses
 
 -- document 02, c: a data byte is told exactly where the status is 0x13; it is wrong, and no other that is wrong comes before it, by number
@@ -146,8 +157,8 @@ pub reply-of-occ : (s : Session) → TypedSession s → (sender : ℕ) (c d : Li
     → (occCall s sender c d .reply ≡ atFront (successReply s c) d) ⊎ ((n : ℕ) × (occCall s sender c d ≡ occError s c d n))
 reply-of-occ = occ-reply
 
-pub reply-of-sbe : (s : Session) → TypedSession s → (r d : List ℕ) → sbeCall s r d .answer ≡ 0
-    → (sbeCall s r d .reply ≡ atFront (mailbox.responseBytes 0x00 0x00 r) d) ⊎ ((n : Status) × (sbeCall s r d ≡ sbeError s r d n))
+pub reply-of-sbe : (s : Session) → TypedSession s → (r d m x : List ℕ) → sbeCall s r d m x .answer ≡ 0
+    → (sbeCall s r d m x .reply ≡ atFront (mailbox.responseBytes 0x00 0x00 r) d) ⊎ ((n : Status) × (sbeCall s r d m x ≡ sbeError s r d n))
 reply-of-sbe = sbe-reply
 
 -- ---- demand 1: a refusal changes nothing, for every session, right or damaged
@@ -157,10 +168,10 @@ pub refusal-of-occ-keeps : (s : Session) (sender : ℕ) (c d : List ℕ) → (oc
 unfolding occCall
 refusal-of-occ-keeps s sender c d h = let k = refusal-keeps s d (occAsks s sender c d) h in (k .0, k .1)
 
-pub refusal-of-sbe-keeps : (s : Session) (r d : List ℕ) → (sbeCall s r d .answer ≡ 0 → ⊥)
-    → (sbeCall s r d .session ≡ s) × (sbeCall s r d .reply ≡ d) × (sbeCall s r d .bell ≡ 0)
+pub refusal-of-sbe-keeps : (s : Session) (r d m x : List ℕ) → (sbeCall s r d m x .answer ≡ 0 → ⊥)
+    → (sbeCall s r d m x .session ≡ s) × (sbeCall s r d m x .reply ≡ d) × (sbeCall s r d m x .bell ≡ 0)
 unfolding sbeCall
-refusal-of-sbe-keeps s r d h = let k = refusal-keeps s d (sbeAsks s r d) h in (k .0, k .1, k .2)
+refusal-of-sbe-keeps s r d m x h = let k = refusal-keeps s d (sbeAsks s r d m x) h in (k .0, k .1, k .2)
 
 pub refusal-of-undo-keeps : (s : Session) → (undoCall s .answer ≡ 0 → ⊥) → (undoCall s .session ≡ s) × (undoCall s .kind ≡ 0)
 unfolding moveCall
@@ -174,6 +185,10 @@ pub refusal-of-forget-keeps : (n : ℕ) (s : Session) → (forgetCall n s .answe
 unfolding forgetCall
 refusal-of-forget-keeps n s h = refusal-keeps s [] (forgetAsks n s) h .0
 
+pub refusal-of-time-keeps : (n : ℕ) (s : Session) → (timeCall n s .answer ≡ 0 → ⊥) → (timeCall n s .session ≡ s) × (timeCall n s .bell ≡ 0)
+unfolding timeCall
+refusal-of-time-keeps n s h = let k = refusal-keeps s [] (timeAsks n s) h in (k .0, k .2)
+
 -- a session that isn't the one handed in comes with the reply of success, so every error reply returns it as it was
 pub error-of-occ-keeps : (s : Session) (sender : ℕ) (c d : List ℕ)
     → (occCall s sender c d .session ≡ s) ⊎ (occCall s sender c d .reply ≡ replied (getD c 0 0) (getD c 1 0) 0x00 [] d)
@@ -181,16 +196,16 @@ unfolding occCall
 error-of-occ-keeps s sender c d = error-keeps s d 0 _ (occAsks s sender c d) (occ-speaks s sender c d)
 
 -- the same of the SBE's error statuses
-pub error-of-sbe-keeps : (s : Session) (r d : List ℕ)
-    → (sbeCall s r d .session ≡ s) ⊎ (sbeCall s r d .reply ≡ pasted 0 (mailbox.responseBytes 0x00 0x00 r) d)
+pub error-of-sbe-keeps : (s : Session) (r d m x : List ℕ)
+    → (sbeCall s r d m x .session ≡ s) ⊎ (sbeCall s r d m x .reply ≡ pasted 0 (mailbox.responseBytes 0x00 0x00 r) d)
 unfolding sbeCall
-error-of-sbe-keeps s r d = error-keeps s d _ _ (sbeAsks s r d) (sbe-speaks s r d)
+error-of-sbe-keeps s r d m x = error-keeps s d _ _ (sbeAsks s r d m x) (sbe-speaks s r d m x)
 
 -- the doorbell is rung as asked on every answer 0, refused or not, and never else
-pub bell-rung-as-asked : (s : Session) (r d : List ℕ)
-    → (sbeCall s r d .answer ≡ 0 → sbeCall s r d .bell ≡ mailbox.bellOf r) × ((sbeCall s r d .answer ≡ 0 → ⊥) → sbeCall s r d .bell ≡ 0)
+pub bell-rung-as-asked : (s : Session) (r d m x : List ℕ)
+    → (sbeCall s r d m x .answer ≡ 0 → sbeCall s r d m x .bell ≡ mailbox.bellOf r) × ((sbeCall s r d m x .answer ≡ 0 → ⊥) → sbeCall s r d m x .bell ≡ 0)
 unfolding sbeCall
-bell-rung-as-asked s r d = (bell-rung s d _ _ (sbeAsks s r d) (sbe-speaks s r d), λ h. refusal-of-sbe-keeps s r d h .2)
+bell-rung-as-asked s r d m x = (bell-rung s d _ _ (sbeAsks s r d m x) (sbe-speaks s r d m x), λ h. refusal-of-sbe-keeps s r d m x h .2)
 
 -- ---- the contracts determine everything: two outcomes that one allows are equal. b is the lent session; for C the result is one number
 
@@ -200,8 +215,13 @@ one-outcome-of-fresh = one-value freshSession
 pub one-outcome-of-occ : (b : List ℕ) (sender : ℕ) (c d : List ℕ) → OneOutcome (λ (o : Told × List ℕ × List ℕ). OccAllows b sender c d (o .0) (o .1) (o .2))
 one-outcome-of-occ b sender c d = one-triple _ _ _
 
-pub one-outcome-of-sbe : (b r d : List ℕ) → OneOutcome (λ (o : Told × List ℕ × List ℕ). SbeAllows b r d (o .0) (o .1) (o .2))
-one-outcome-of-sbe b r d = one-triple _ _ _
+-- the second buffer is its fourth part
+pub one-outcome-of-sbe : (b r d m x : List ℕ) → OneOutcome (λ (o : Told × List ℕ × List ℕ × List ℕ). SbeAllows b r d m x (o .0) (o .1) (o .2) (o .3))
+one-outcome-of-sbe b r d m x = one-four _ _ _ _
+
+-- the same with no image and no second buffer
+pub one-outcome-of-sbe-alone : (b r d : List ℕ) → OneOutcome (λ (o : Told × List ℕ × List ℕ). AloneAllows b r d (o .0) (o .1) (o .2))
+one-outcome-of-sbe-alone b r d = one-triple _ _ _
 
 pub one-outcome-of-undo : (b : List ℕ) → OneOutcome (λ (o : Told × List ℕ). UndoAllows b (o .0) (o .1))
 one-outcome-of-undo b = one-pair _ _
@@ -212,6 +232,9 @@ one-outcome-of-redo b = one-pair _ _
 pub one-outcome-of-forget : (n : ℕ) (b : List ℕ) → OneOutcome (λ (o : Told × List ℕ). ForgetAllows n b (o .0) (o .1))
 one-outcome-of-forget n b = one-pair _ _
 
+pub one-outcome-of-time : (n : ℕ) (b : List ℕ) → OneOutcome (λ (o : Told × List ℕ). TimeAllows n b (o .0) (o .1))
+one-outcome-of-time n b = one-pair _ _
+
 pub one-outcome-of-fresh-for-c : (b : List ℕ) → OneOutcome (λ (o : ℕ × List ℕ). FreshReturns b (o .0) (o .1))
 one-outcome-of-fresh-for-c b = one-pair _ _
 
@@ -221,6 +244,9 @@ one-outcome-of-occ-for-c b sender c d = one-triple _ _ _
 pub one-outcome-of-sbe-for-c : (b r d : List ℕ) → OneOutcome (λ (o : ℕ × List ℕ × List ℕ). SbeReturns b r d (o .0) (o .1) (o .2))
 one-outcome-of-sbe-for-c b r d = one-triple _ _ _
 
+pub one-outcome-of-sbe-seeprom-for-c : (b r d m x : List ℕ) → OneOutcome (λ (o : ℕ × List ℕ × List ℕ × List ℕ). SeepromReturns b r d m x (o .0) (o .1) (o .2) (o .3))
+one-outcome-of-sbe-seeprom-for-c b r d m x = one-four _ _ _ _
+
 pub one-outcome-of-undo-for-c : (b : List ℕ) → OneOutcome (λ (o : ℕ × List ℕ). UndoReturns b (o .0) (o .1))
 one-outcome-of-undo-for-c b = one-pair _ _
 
@@ -229,6 +255,9 @@ one-outcome-of-redo-for-c b = one-pair _ _
 
 pub one-outcome-of-forget-for-c : (b : List ℕ) (n : ℕ) → OneOutcome (λ (o : ℕ × List ℕ). ForgetReturns b n (o .0) (o .1))
 one-outcome-of-forget-for-c b n = one-pair _ _
+
+pub one-outcome-of-time-for-c : (b : List ℕ) (n : ℕ) → OneOutcome (λ (o : ℕ × List ℕ). TimeReturns b n (o .0) (o .1))
+one-outcome-of-time-for-c b n = one-pair _ _
 
 pub one-outcome-of-step : (b : List ℕ) (number : ℕ) (e d : List ℕ) → OneOutcome (λ (o : ℕ × List ℕ × List ℕ). StepAllows b number e d (o .0) (o .1) (o .2))
 one-outcome-of-step b number e d = one-triple _ _ _
@@ -256,7 +285,7 @@ one-outcome-of-list j d = one-pair _ _
 pub occ-stays-well-formed : (s : Session) → TypedSession s → wellFormed s ≡ true → (sender : ℕ) (c d : List ℕ) → Bytes c → wellFormed (occCall s sender c d .session) ≡ true
 occ-stays-well-formed = occ-formed
 
-pub sbe-stays-well-formed : (s : Session) → TypedSession s → wellFormed s ≡ true → (r d : List ℕ) → Bytes r → wellFormed (sbeCall s r d .session) ≡ true
+pub sbe-stays-well-formed : (s : Session) → TypedSession s → wellFormed s ≡ true → (r d m x : List ℕ) → Bytes r → wellFormed (sbeCall s r d m x .session) ≡ true
 sbe-stays-well-formed = sbe-formed
 
 pub undo-stays-well-formed : (s : Session) → TypedSession s → wellFormed s ≡ true → wellFormed (undoCall s .session) ≡ true
@@ -270,9 +299,9 @@ pub worked-out-after-occ : (s : Session) (sender : ℕ) (c d : List ℕ) → wel
 unfolding occCall
 worked-out-after-occ s sender c d w = worked-after s d w (occAsks s sender c d)
 
-pub worked-out-after-sbe : (s : Session) (r d : List ℕ) → wellFormed s ≡ true → sbeCall s r d .session .worked ≡ workedOf (sbeCall s r d .session .held)
+pub worked-out-after-sbe : (s : Session) (r d m x : List ℕ) → wellFormed s ≡ true → sbeCall s r d m x .session .worked ≡ workedOf (sbeCall s r d m x .session .held)
 unfolding sbeCall
-worked-out-after-sbe s r d w = worked-after s d w (sbeAsks s r d)
+worked-out-after-sbe s r d m x w = worked-after s d w (sbeAsks s r d m x)
 
 pub worked-out-after-undo : (s : Session) → wellFormed s ≡ true → undoCall s .session .worked ≡ workedOf (undoCall s .session .held)
 unfolding moveCall
@@ -289,13 +318,20 @@ pub worked-out-after-forget : (n : ℕ) (s : Session) → wellFormed s ≡ true 
 unfolding forgetCall
 worked-out-after-forget n s w = worked-after s [] w (forgetAsks n s)
 
+pub time-stays-well-formed : (s : Session) → wellFormed s ≡ true → (n : ℕ) → wellFormed (timeCall n s .session) ≡ true
+time-stays-well-formed = time-formed
+
+pub worked-out-after-time : (n : ℕ) (s : Session) → wellFormed s ≡ true → timeCall n s .session .worked ≡ workedOf (timeCall n s .session .held)
+unfolding timeCall
+worked-out-after-time n s w = worked-after s [] w (timeAsks n s)
+
 -- ---- demand 2: accepted exactly when (the conditions: Demand2.antt), and what is then done (Effects.antt)
 
 pub occ-accepted-exactly-when : (s : Session) → TypedSession s → (sender : ℕ) (c d : List ℕ) → wellFormed s ≡ true
     → OccSucceeds s sender c d ↔ OccAccepted s sender c d
 occ-accepted-exactly-when = occ-accepted
 
-pub sbe-accepted-exactly-when : (s : Session) → TypedSession s → (r d : List ℕ) → wellFormed s ≡ true → SbeSucceeds s r d ↔ SbeAccepted s r d
+pub sbe-accepted-exactly-when : (s : Session) → TypedSession s → (r d m x : List ℕ) → wellFormed s ≡ true → SbeSucceeds s r d m x ↔ SbeAccepted s r d m x
 sbe-accepted-exactly-when = sbe-accepted
 
 pub undo-accepted-exactly-when : (s : Session) → wellFormed s ≡ true → (undoCall s .answer ≡ 0) ↔ UndoAccepted s
@@ -308,8 +344,25 @@ pub effect-of-occ : (s : Session) → TypedSession s → (sender : ℕ) (c d : L
     → OccEffect s (getD c 1 0) (dataOf c) (occCall s sender c d .session)
 effect-of-occ = occ-effect
 
-pub effect-of-sbe : (s : Session) → TypedSession s → (r d : List ℕ) → Bytes r → SbeSucceeds s r d → SbeEffect s r (sbeCall s r d .session)
+pub effect-of-sbe : (s : Session) → TypedSession s → (r d m x : List ℕ) → Bytes r → SbeSucceeds s r d m x → SbeEffect s r (sbeCall s r d m x .session)
 effect-of-sbe = sbe-effect
+
+-- document 02, h: "SEEPROM serves from an image the caller lends .. into a second lent buffer, kept .. past the data"
+pub second-buffer-holds : (s : Session) (r d m x : List ℕ) → SbeDue s r d → Served r m x
+    → sbeData s r d m x ≡ atFront (take (mailbox.wordAt 12 r) (drop (mailbox.wordAt 8 r) m)) x
+second-buffer-holds = data-served
+
+-- by every other call it is kept, so also "kept on refusal", by an answer or a status
+pub second-buffer-kept : (s : Session) (r d m x : List ℕ) → (SbeDue s r d and Served r m x → ⊥) → sbeData s r d m x ≡ x
+second-buffer-kept = data-kept
+
+pub second-buffer-kept-on-refusal : (s : Session) (r d m x : List ℕ) → (SbeSucceeds s r d m x → ⊥) → sbeData s r d m x ≡ x
+second-buffer-kept-on-refusal = data-refused
+
+-- on lent bytes b: as on the session, and kept where they are none
+pub second-buffer-on-lent-bytes : (b r d m x : List ℕ)
+    → (length b ≡ imageLength → dataOn b r d m x ≡ sbeData (sessionOf b) r d m x) and ((length b ≡ imageLength → ⊥) → dataOn b r d m x ≡ x)
+second-buffer-on-lent-bytes b r d m x = (data-on-image b r d m x, data-no-image b r d m x)
 
 pub effect-of-undo : (s : Session) → TypedSession s → undoCall s .answer ≡ 0 → UndoEffect s (undoCall s)
 effect-of-undo = move-effect Before
@@ -326,9 +379,14 @@ pub next-occ-change-fits-freed-room : (n : ℕ) (s : Session) → TypedSession s
     → OccSucceeds (forgetCall n s .session) sender c d
 next-occ-change-fits-freed-room = occ-fits-freed
 
-pub next-sbe-change-fits-freed-room : (n : ℕ) (s : Session) → TypedSession s → forgetCall n s .answer ≡ 0 → (e : ForgetEffect n s (forgetCall n s)) (r d : List ℕ)
-    → 32 ≤ length d → 32 ≤ length r → Accepted r → s .used + entryLength (sbeKind r) ≤ 2048 + length (written (e .forgotten)) → SbeSucceeds (forgetCall n s .session) r d
+pub next-sbe-change-fits-freed-room : (n : ℕ) (s : Session) → TypedSession s → forgetCall n s .answer ≡ 0 → (e : ForgetEffect n s (forgetCall n s)) (r d m x : List ℕ)
+    → 32 ≤ length d → 32 ≤ length r → Changes r → s .used + entryLength (sbeKind r) ≤ 2048 + length (written (e .forgotten)) → SbeSucceeds (forgetCall n s .session) r d m x
 next-sbe-change-fits-freed-room = sbe-fits-freed
+
+-- document 02, h: the timer "expires only when the bench reports as many microseconds as are left, or more (fewer are taken off; off means 0 left); doorbell bit 14
+-- then comes once"
+pub effect-of-time : (n : ℕ) (s : Session) → timeCall n s .answer ≡ 0 → TimeEffect n s (timeCall n s)
+effect-of-time = time-effect
 
 -- document 02, i (Passed.antt): the marks of every well-formed session, so that of each call's session too, stand at every 32nd entry of its journal, counting
 -- the first, and the unused ones are 0
@@ -351,28 +409,52 @@ pub never-lacks-room : (w : Way) (s : Session) → TypedSession s → wellFormed
     → (usedOf (other w) s + length (bytesOf (entryBack s e)) ≤ 2048) and (moveCall w s .session .used + moveCall w s .session .ahead ≡ s .used + s .ahead)
 never-lacks-room = room-left
 
--- the changes that demand 3 counts: those calls that succeed, but for polls; and what a call counts as is what its record shows
+-- the changes that demand 3 counts: those calls that succeed, but for polls and the requests that "make no journal entry"; and what a call counts as is what its
+-- record and its timer show
 pub counted-of-occ : (s : Session) → TypedSession s → (sender : ℕ) (c d : List ℕ)
     → ((e : Edit) × (deed s (occ sender c d) ≡ adds e)) ↔ (OccSucceeds s sender c d and NotPoll c)
 counted-of-occ = occ-deed
 
-pub counted-of-sbe : (s : Session) → TypedSession s → (r d : List ℕ) → ((e : Edit) × (deed s (sbe r d) ≡ adds e)) ↔ SbeSucceeds s r d
+pub counted-of-sbe : (s : Session) → TypedSession s → (r d m x : List ℕ) → ((e : Edit) × (deed s (sbe r d m x) ≡ adds e)) ↔ (SbeSucceeds s r d m x and Changes r)
 counted-of-sbe = sbe-deed
 
-pub counted-is-shown : (s : Session) → TypedSession s → (e : Edit) (c : Call) → deed s c ≡ adds e → said s c .session .held ≡ putOf (s .held) e .after
+pub counted-is-shown : (s : Session) → TypedSession s → (e : Edit) (c : Call) → deed s c ≡ adds e
+    → (said s c .session .held ≡ putOf (s .held) e .after) and (said s c .session .timer ≡ timerAfter (s .timer) (e .change))
 counted-is-shown s typed e c = deed-shown s e c
 
 -- ---- demand 3: start fresh, and hand each session on unchanged through any calls, forgetting among them
 
-pub undo-over-any-calls : (cs : List Call) → AllOfBytes cs → Demand3 freshRecord (run (start freshSession) cs)
-undo-over-any-calls cs b = demand3 freshRecord cs (start freshSession) b fresh-start
+pub undo-over-any-calls : (cs : List Call) → AllOfBytes cs → Demand3 freshRecord 1 (run (start freshSession) cs)
+undo-over-any-calls cs b = demand3 freshRecord 1 cs (start freshSession) b fresh-start
 
--- ---- no trace: a change followed by its undo leaves all as it was, but for the redo store, which holds that change, and the next id, where a log was made
+-- the same from any well-formed session with nothing in its journal and its redo store, say one that was saved so: from its record and its next id on
+pub undo-over-any-calls-from : (s : Session) → TypedSession s → wellFormed s ≡ true → s .used ≡ 0 → s .ahead ≡ 0 → (cs : List Call) → AllOfBytes cs
+    → Demand3 (s .held) (s .next) (run (start s) cs)
+undo-over-any-calls-from s typed ok none none-ahead cs b = demand3 (s .held) (s .next) cs (start s) b (opened-start s typed ok none none-ahead)
+
+-- and no id twice: its logs have the ids from that one on
+pub no-id-twice-from : (s : Session) → TypedSession s → wellFormed s ≡ true → s .used ≡ 0 → s .ahead ≡ 0 → (cs : List Call) → AllOfBytes cs
+    → idsMade (run (start s) cs .marks) ≡ countdown (s .next) (logsMade (run (start s) cs .marks))
+no-id-twice-from s typed ok none none-ahead cs b = ids-in-order (s .held) (s .next) cs (start s) b (opened-start s typed ok none none-ahead)
+
+-- document 02, h: "Demand 3 reads from then on with the timer left out". The timer after a call is the one that a timer command sets; undo and redo of one give back
+-- what its mark holds, "as it stood just before that command or, if it was redone since, just before its last redo", and "as it stood just before that undo" (Marks.antt,
+-- `marked` and `clockAfter` in History.antt); a time report takes microseconds off
+pub timer-over-any-calls : (cs : List Call) → AllOfBytes cs → (c : Call) → OfBytes c → said (after cs .session) c .session .timer ≡ clockAfter (after cs) (deed (after cs .session) c)
+unfolding next-run did
+timer-over-any-calls cs b = clock-is freshRecord 1 (after cs) (invariant freshRecord 1 cs (start freshSession) b fresh-start)
+
+-- "no other undo or redo touches it", on every session: one that reports another kind, or none
+pub no-other-undo-or-redo-touches-the-timer : (w : Way) (s : Session) → (moveCall w s .kind ≡ 0x0C → ⊥) → moveCall w s .session .timer ≡ s .timer
+no-other-undo-or-redo-touches-the-timer = other-kind-keeps
+
+-- ---- no trace: a change followed by its undo leaves all as it was, the timer too, but for the redo store, which holds that change, and the next id, where a log was made
 
 pub no-trace : (cs : List Call) → AllOfBytes cs → (c : Call) → OfBytes c → (e : Edit) → deed (after cs .session) c ≡ adds e → tried cs c ≡ leaves (after cs .session) e
-no-trace cs b c bc e = trace-free freshRecord (after cs) (invariant freshRecord cs (start freshSession) b fresh-start) c bc e
+no-trace cs b c bc e = trace-free freshRecord 1 (after cs) (invariant freshRecord 1 cs (start freshSession) b fresh-start) c bc e
 
--- the same as people use it: between the change and its undo any calls that keep the session, polls, refusals and error replies; so what follows holds of that, too
+-- the same as people use it: between the change and its undo any calls that keep the session, polls, D1 02, D3 01 and D7 03, refusals and error replies, but no
+-- time report; so what follows holds of that, too
 pub no-trace-with-looks-between : (cs : List Call) (c : Call) (ks : List Call) → AllKeep (said (after cs .session) c .session) ks → triedAndLooked cs c ks ≡ tried cs c
 unfolding next-run did
 no-trace-with-looks-between cs c ks h = ap (λ (s : Session). said s undo .session) (handed-same (said (after cs .session) c .session) ks h)
@@ -383,29 +465,29 @@ kept-by-what-counts-as-nothing = kept-session
 -- without a log, every later reply is as if nobody had tried, as long as nobody redoes: any calls but redo (NoTrace.antt)
 pub no-trace-without-log : (cs : List Call) → AllOfBytes cs → (c : Call) → OfBytes c → (e : Edit) → deed (after cs .session) c ≡ adds e → madeOf (e .change) ≡ 0
     → (later : List Call) → AllButRedo later → AsBefore (after cs .session) (tried cs c) later
-no-trace-without-log cs b c bc e = later-as-before freshRecord (after cs) (invariant freshRecord cs (start freshSession) b fresh-start) c bc e
+no-trace-without-log cs b c bc e = later-as-before freshRecord 1 (after cs) (invariant freshRecord 1 cs (start freshSession) b fresh-start) c bc e
 
 -- after a log that was taken back, every later reply is as if nobody had tried, but for log ids, as long as ids last and nobody redoes (Later.antt)
 pub no-trace-later : (cs : List Call) → AllOfBytes cs → (c : Call) → OfBytes c → (e : Edit) → deed (after cs .session) c ≡ adds e → madeOf (e .change) ≡ 1
     → (ws : List (Wish (after cs .session .next))) → AsIf (after cs .session .next) (after cs .session) (tried cs c) ws
 no-trace-later cs b c bc e d =
-    later-alike freshRecord (after cs) (invariant freshRecord cs (start freshSession) b fresh-start) c bc e d
+    later-alike freshRecord 1 (after cs) (invariant freshRecord 1 cs (start freshSession) b fresh-start) c bc e d
 
 -- what a redo then gives: the change again, and the session that it had made, all of it
 pub redo-brings-the-try-back : (cs : List Call) → AllOfBytes cs → (c : Call) → OfBytes c → (e : Edit) → deed (after cs .session) c ≡ adds e
     → said (tried cs c) redo .session ≡ said (after cs .session) c .session
 unfolding next-run did
-redo-brings-the-try-back cs b c bc e = redo-brings-back freshRecord (after cs) (invariant freshRecord cs (start freshSession) b fresh-start) c bc e
+redo-brings-the-try-back cs b c bc e = redo-brings-back freshRecord 1 (after cs) (invariant freshRecord 1 cs (start freshSession) b fresh-start) c bc e
 
 -- ---- redo after undo gives back the session from before the undo, all of it
 
 pub redo-after-undo : (cs : List Call) → AllOfBytes cs → undoCall (after cs .session) .answer ≡ 0 → redoCall (undoCall (after cs .session) .session) .session ≡ after cs .session
-redo-after-undo cs b = redo-undone freshRecord (after cs) (invariant freshRecord cs (start freshSession) b fresh-start)
+redo-after-undo cs b = redo-undone freshRecord 1 (after cs) (invariant freshRecord 1 cs (start freshSession) b fresh-start)
 
 -- ---- no id twice: the logs ever made, struck out or not, have the ids 1, 2, 3, .. in the order they were made
 
-pub no-id-twice : (cs : List Call) → AllOfBytes cs → idsMade (run (start freshSession) cs .marks) ≡ countdown (logsMade (run (start freshSession) cs .marks))
-no-id-twice cs b = ids-in-order freshRecord cs (start freshSession) b fresh-start
+pub no-id-twice : (cs : List Call) → AllOfBytes cs → idsMade (run (start freshSession) cs .marks) ≡ countdown 1 (logsMade (run (start freshSession) cs .marks))
+no-id-twice cs b = ids-in-order freshRecord 1 cs (start freshSession) b fresh-start
 
 -- ---- every session handed in, right or damaged, at the bytes that are lent: b is any bytes, and those of an image's length are one of a session. So what is
 -- promised above of every session s with `TypedSession s` holds of every image, at `sessionOf b`
@@ -417,7 +499,7 @@ every-image-is-a-session b bytes long = typed-image b bytes long .session
 pub same-on-every-image : (b : List ℕ) → Bytes b → length b ≡ imageLength → (c : Call) → lent b c ≡ carriedOver (sessionOf b) c
 same-on-every-image = every-image
 
--- an answer other than 0 leaves every byte of image and reply buffer, whatever was lent
+-- an answer other than 0 leaves every byte of image and reply buffer, whatever was lent; the second buffer: second-buffer-on-lent-bytes
 pub refusal-keeps-every-byte : (b : List ℕ) → Bytes b → (c : Call) → (answerIn (lent b c .result) ≡ 0 → ⊥) → (lent b c .image ≡ b) × (lent b c .reply ≡ bufferOf c)
 refusal-keeps-every-byte = every-byte
 
@@ -431,8 +513,8 @@ pub same-on-images : (b : List ℕ) → length b ≡ imageLength → (cs : List 
     → (lentRun (freshOn b .image) cs ≡ imageOf (after cs .session)) × ((c : Call) → lent (imageOf (after cs .session)) c ≡ carriedOver (after cs .session) c)
 unfolding start
 same-on-images b long cs bs = (
-  ap (λ (i : List ℕ). lentRun i cs) (fresh-image b long) ∙ lent-run freshRecord cs (start freshSession) bs fresh-start,
-  lent-next freshRecord (after cs) (invariant freshRecord cs (start freshSession) bs fresh-start),
+  ap (λ (i : List ℕ). lentRun i cs) (fresh-image b long) ∙ lent-run freshRecord 1 cs (start freshSession) bs fresh-start,
+  lent-next freshRecord 1 (after cs) (invariant freshRecord 1 cs (start freshSession) bs fresh-start),
 )
 
 -- ---- document 02, a: a trace of bytes, played from a fresh session (Replays.antt)
@@ -442,7 +524,7 @@ pub replay-is-its-calls : (t : List ℕ) → Bytes t
     → (imageAfter (entriesOf (traceScan t)) ≡ imageOf (after (callsIn t) .session)) and (piecesOf t ≡ linesBy (start freshSession) 1 (callsIn t) ++ stopLine (readingOf (traceScan t)))
 replay-is-its-calls t bytes = (replay-run t bytes, replay-lines t bytes)
 
-pub replay-meets-demand-3 : (t : List ℕ) → Bytes t → Demand3 freshRecord (run (start freshSession) (callsIn t))
+pub replay-meets-demand-3 : (t : List ℕ) → Bytes t → Demand3 freshRecord 1 (run (start freshSession) (callsIn t))
 replay-meets-demand-3 t bytes = undo-over-any-calls (callsIn t) (trace-bytes t bytes)
 
 -- said of the bytes: the whole entries are a beginning of the trace, each as long as its kind fixes; they are played; what stands where they end is no kind, or a kind whose

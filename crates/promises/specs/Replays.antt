@@ -13,13 +13,13 @@ use Rattle.image.specs.Image.{imageOf}
 use Rattle.playing.specs.Playing.{Heard, ifWritten, line, imageAfter, piecesOf}
 use Rattle.playing.specs.Steps.{oldestFirst}
 use Rattle.session.specs.Road.{Said}
-use Rattle.promises.specs.Calls.{Call, occ, sbe, undo, redo, forget, said}
+use Rattle.promises.specs.Calls.{Call, occ, sbe, undo, redo, forget, time, said}
 use Rattle.promises.specs.History.{Run, next-run, run, start}
 
 -- "01 is sender and 64 command bytes, 02 sender and 4,096 command bytes, 03 the 32 request bytes, 04 undo with no body"
 unfoldable pub callOf : Entry → Call
 callOf e =
-    cond (eqb (e .kind) 0x03) (sbe (e .body) (replicate 32 0))
+    cond (eqb (e .kind) 0x03) (sbe (e .body) (replicate 32 0) [] [])
     (cond (eqb (e .kind) 0x04) undo
     (occ (getD (e .body) 0 0) (drop 1 (e .body)) (replicate 4096 0)))
 
@@ -38,10 +38,11 @@ wholePart t = written (entriesOf (traceScan t))
 -- the status of a reply: the OCC's third byte, the SBE's primary and secondary
 unfoldable pub statusOf : Call → List ℕ → List ℕ
 statusOf (occ sender c d) reply = take 1 (drop 2 reply)
-statusOf (sbe r d) reply = take 4 reply
+statusOf (sbe r d m x) reply = take 4 reply
 statusOf undo reply = []
 statusOf redo reply = []
 statusOf (forget n) reply = []
+statusOf (time n) reply = []
 
 unfoldable pub heardOf : Call → Said → Heard
 heardOf c x = record { answer = x .answer; image = imageOf (x .session); status = ifWritten (x .answer) (statusOf c (x .reply)) }

@@ -1,4 +1,5 @@
--- "A session is well formed if": document 01's sentences, one after the other, as plain conditions; the redo store's from document 02, d, the marks' from i.
+-- "A session is well formed if": document 01's sentences, one after the other, as plain conditions; the redo store's from document 02, d, the marks' from i, the
+-- timer's from h.
 use Prim.Native.Nat.{ℕ, zero, suc, _+_, _/_, _%_, _^_, _≤_, _<_}
 use mathlib.Core.List.{List, [], _∷_}
 use mathlib.Core.Logic.{_⊎_}
@@ -11,8 +12,9 @@ use Rattle.record.specs.declared.Caps.{Caps}
 use Rattle.record.specs.declared.Deadman.{Deadman}
 use Rattle.record.specs.declared.Log.{Log}
 use Rattle.record.specs.declared.Throttles.{Throttles}
+use Rattle.record.specs.declared.Timer.{Timer}
 use Rattle.change.specs.declared.Change.{Change}
-use Rattle.change.specs.declared.Change.the-variants.{Clear, Unclear, SetState, SetRole, SetCaps, SetUser, SetThermal, SetThrottles, Reset, Unreset, SetMask, SetDeadman, SetAreas}
+use Rattle.change.specs.declared.Change.the-variants.{Clear, Unclear, SetState, SetRole, SetCaps, SetUser, SetThermal, SetThrottles, Reset, Unreset, SetMask, SetDeadman, SetAreas, SetTimer}
 use Rattle.change.specs.declared.Tables.{Tables}
 use Rattle.formed.specs.Formed.{InOrder}
 use Rattle.entries.specs.Entries.{Entry, written, bodyLen}
@@ -47,6 +49,10 @@ CapsHold got caps = Flag got and ((got ≡ 0 → ⊥) → caps .min ≤ caps .ma
 
 abbrev pub DeadmanHolds : Deadman → Type 0
 DeadmanHolds d = Flag (d .running) and (d .running ≡ 0 → d .time ≡ 0)
+
+-- document 02, h, outside the record: "off means 0 left"
+abbrev pub TimerHolds : Timer → Type 0
+TimerHolds t = Flag (t .running) and (t .running ≡ 0 → t .left ≡ 0)
 
 -- so many pairs of ten bytes, the first one's bit the lowest
 abbrev pub PairsHold : ℕ → ℕ → List ℕ → Type 0
@@ -98,6 +104,7 @@ ChangeHolds t (Unreset state made) = StateHolds state and Flag made
 ChangeHolds t (SetMask mask) = Unit {0}
 ChangeHolds t (SetDeadman deadman) = DeadmanHolds deadman
 ChangeHolds t (SetAreas areas) = AreaHolds (areas .ffdc) and AreaHolds (areas .pass)
+ChangeHolds t (SetTimer timer) = TimerHolds timer
 
 -- what a body of that kind says
 abbrev pub SaysWell : Tables → Found → Type 0
@@ -133,6 +140,8 @@ pub record WellFormed (s : Session) : Type 0 where
   pub logs : LogsRise 0 (s .next) (s .held .logs)
   -- "worked-out values fit the record"
   pub worked : s .worked ≡ workedOf (s .held)
+  -- h
+  pub timer : TimerHolds (s .timer)
   pub journal : StoreHolds Before (s .journal) (s .used)
   -- i: "one not at its entry, or unused and not 0, makes it ill formed": they are those of the journal's entries
   pub marks : s .marks ≡ marksOf (journal .entries)

@@ -4,11 +4,13 @@ pub mod Steps
 pub mod Forgetting
 pub mod Asked
 pub mod Ids
+pub mod Timed
 pub mod Struck
 pub mod Marks
 pub mod Sound
 pub mod Settled
 pub mod Demand3
+pub mod Clocks
 pub mod Aside
 pub mod NoTrace
 pub mod Kept
@@ -23,6 +25,7 @@ pub mod AsIf
 pub mod WellFormed
 pub mod Plainly
 pub mod Passed
+pub mod Opened
 pub mod Fresh
 pub mod Examples
 pub mod Unset
@@ -37,9 +40,11 @@ pub mod Room
 pub mod Replies
 pub mod OccDemands
 pub mod Why
+pub mod Served
 pub mod SbeDemands
 pub mod UndoDemands
 pub mod ForgetDemands
+pub mod TimeDemands
 pub mod Moved
 pub mod Moves
 pub mod Effects

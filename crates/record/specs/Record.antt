@@ -9,6 +9,7 @@ use Rattle.record.specs.declared.Caps.{Caps}
 use Rattle.record.specs.declared.Area.{Area}
 use Rattle.record.specs.declared.Received.{Received}
 use Rattle.record.specs.declared.Throttles.{Throttles}
+use Rattle.record.specs.declared.Timer.{Timer}
 use Rattle.record.specs.declared.Record.{Record}
 use Rattle.record.specs.declared.Worked.{Worked}
 
@@ -44,6 +45,10 @@ freshRecord =
       deadman = record { running = 0; time = 0 };
       areas = record { ffdc = noArea; pass = noArea };
     }
+
+-- document 02, h: "off means 0 left"; the timer is no part of the record
+abbrev pub timerOff : Timer
+timerOff = record { running = 0; left = 0 }
 
 -- ---- "Worked out"
 

@@ -30,6 +30,12 @@ pub struct Deadman {
     pub time: u64,
 }
 
+// The one timer of the mailbox (document 02, h), outside the record: off, or the microseconds left.
+pub struct Timer {
+    pub running: u8,
+    pub left: u64,
+}
+
 // What was received: 0 or 1 each.
 pub struct Received {
     pub role: u8,

@@ -1,17 +1,18 @@
 -- What each test of a request shows, with the numbers that were read from it. Assumes nothing.
 use Prim.Native.Nat.{ℕ, _%_, _<_, _≤_}
 use mathlib.Core.Bool.{Bool}
-use mathlib.Core.Path.{_≡_, refl, sym, ap, _∙_}
+use mathlib.Core.Path.{_≡_, refl, sym, ap, ap₂, _∙_}
 use mathlib.Core.List.{List}
 use native.Mathlib.Omega.{arith}
 use lib.ListN.{take, drop}
 use Rattle.wire.specs.Wire.{beNat}
-use Rattle.wire.specs.laws.Cases.{if-le, else-le, if-lt, else-lt, else-eq, if-ne, else-ne}
+use Rattle.wire.specs.laws.Cases.{if-le, else-le, if-lt, else-lt, if-eq, else-eq, if-ne, else-ne}
 use Rattle.record.specs.declared.Area.{Area}
+use Rattle.change.specs.declared.Change.{Change}
 use Rattle.change.specs.declared.Change.the-variants.{SetAreas}
 use Rattle.sbe.specs.declared.Ruling.{Ruling}
 use Rattle.sbe.specs.declared.Ruling.the-variants.{Decline, Grant}
-use Rattle.sbe.specs.Mailbox.{flagsOf, wordAt, registerAt, plainFlags, deadmanAt, deadmanOf, areaStatus, areaOf, areasAt, requestFor}
+use Rattle.sbe.specs.Mailbox.{flagsOf, wordAt, registerAt, plainFlags, startOrStop, ringAt, targetOf, areaStatus, areaOf, areasAt, requestFor}
 
 -- a value given at a number that is known
 pub by-key : {A : Type 0} (f : ℕ → A) {k n : ℕ} {x : A} → k ≡ n → x ≡ f n → x ≡ f k
@@ -25,15 +26,37 @@ module _ (r : List ℕ) {n : ℕ} (e : n ≡ beNat (take 2 (drop 2 r))) where
   pub plain-read : {t : Bool} → t ≡ plainFlags n → t ≡ plainFlags (flagsOf r)
   plain-read p = p ∙ ap plainFlags read
 
-  pub deadman-refused : 0x0400 ≤ n → Decline 0x02 0x19 ≡ deadmanOf r
-  unfolding deadmanOf
-  deadman-refused h = let k : 0x0400 ≤ flagsOf r = omega (arith, read) in if-le _ _ k refl
+  -- with the value that starting takes, which was read too
+  pub asked-read : (start : ℕ → Change) (stop : Change) {v w : ℕ} {x : Ruling} → v ≡ w → x ≡ startOrStop n (Grant (start v)) (Grant stop) → x ≡ startOrStop (flagsOf r) (Grant (start w)) (Grant stop)
+  asked-read start stop q p = p ∙ ap₂ (λ (m k : ℕ). startOrStop m (Grant (start k)) (Grant stop)) read q
 
-  pub deadman-asked : {asked : ℕ} {x : Ruling} → n < 0x0400 → n % 0x0100 ≡ asked → x ≡ deadmanAt asked r → x ≡ deadmanOf r
-  unfolding deadmanOf
-  deadman-asked h a p =
-      let k : flagsOf r < 0x0400 = omega (arith, read) in
-      else-le _ _ k (p ∙ ap (λ (m : ℕ). deadmanAt m r) (sym a ∙ ap (λ (m : ℕ). m % 0x0100) read))
+-- ---- exactly one of two flags
+
+module _ (flags : ℕ) (start stop : Ruling) where
+  pub flags-unknown : 0x0400 ≤ flags → Decline 0x02 0x19 ≡ startOrStop flags start stop
+  unfolding startOrStop
+  flags-unknown h = if-le _ _ h refl
+
+  pub flags-start : {x : Ruling} → flags < 0x0400 → flags % 0x0100 ≡ 0x01 → x ≡ start → x ≡ startOrStop flags start stop
+  unfolding startOrStop
+  flags-start h e p = else-le _ _ h (if-eq _ _ e p)
+
+  pub flags-stop : {x : Ruling} → flags < 0x0400 → flags % 0x0100 ≡ 0x02 → x ≡ stop → x ≡ startOrStop flags start stop
+  unfolding startOrStop
+  flags-stop h e p = let k : flags % 0x0100 ≡ 0x01 → ⊥ = λ z. omega (arith, e) in else-le _ _ h (else-eq _ _ k (if-eq _ _ e p))
+
+  pub flags-neither : flags < 0x0400 → (flags % 0x0100 ≡ 0x01 → ⊥) → (flags % 0x0100 ≡ 0x02 → ⊥) → Decline 0x02 0x19 ≡ startOrStop flags start stop
+  unfolding startOrStop
+  flags-neither h m n = else-le _ _ h (else-eq _ _ m (else-eq _ _ n refl))
+
+  pub flags-none : flags < 0x0400 → flags % 0x0100 ≡ 0x00 → Decline 0x02 0x19 ≡ startOrStop flags start stop
+  flags-none h e = flags-neither h (λ z. omega (arith, e)) (λ z. omega (arith, e))
+
+-- ---- the ring's target and chiplet
+
+pub ring-read : (r : List ℕ) (chiplet : ℕ) {target : ℕ} {x : Ruling} → target ≡ beNat (take 2 (drop 8 r)) → x ≡ ringAt target chiplet → x ≡ ringAt (targetOf r) chiplet
+unfolding targetOf
+ring-read r chiplet e p = p ∙ ap (λ (n : ℕ). ringAt n chiplet) e
 
 -- ---- the areas
 
@@ -64,13 +87,13 @@ module _ (class command : ℕ) (r : List ℕ) (other : class ≡ 0xD1 → ⊥) w
   unfolding requestFor
   class-below h = let k : class < 0xD3 = omega arith in else-eq _ _ other (if-lt _ _ k refl)
 
-  pub class-between : (class ≡ 0xD2 → ⊥) → 0xD1 ≤ class → class < 0xD7 → Decline 0x01 0x02 ≡ requestFor class command r
+  pub class-between : (class ≡ 0xD2 → ⊥) → (class ≡ 0xD3 → ⊥) → (class ≡ 0xD4 → ⊥) → 0xD1 ≤ class → class < 0xD7 → Decline 0x01 0x02 ≡ requestFor class command r
   unfolding requestFor
-  class-between n h m =
+  class-between n ring timer h m =
       let k : 0xD3 ≤ class = omega (arith, other, n) in
       let l : class ≤ 0xD7 = omega arith in
       let d : class ≡ 0xD7 → ⊥ = λ z. omega arith in
-      else-eq _ _ other (else-lt _ _ k (else-lt _ _ l (else-eq _ _ d refl)))
+      else-eq _ _ other (else-lt _ _ k (else-lt _ _ l (else-eq _ _ ring (else-eq _ _ timer (else-eq _ _ d refl)))))
 
   pub class-above : (class ≡ 0xD7 → ⊥) → 0xD7 ≤ class → Decline 0x01 0x01 ≡ requestFor class command r
   unfolding requestFor

@@ -1,4 +1,4 @@
--- Document 01, "What the stand-in holds", with the redo store of document 02, d: the session, when it is well formed, and what carrying a change
+-- Document 01, "What the stand-in holds", with document 02's redo store (d), marks (i) and timer (h): the session, when it is well formed, and what carrying a change
 -- out makes of it.
 use Prim.Native.Nat.{ℕ, _+_}
 use mathlib.Core.Bool.{Bool, true, false, cond, not}
@@ -6,14 +6,15 @@ use mathlib.Core.List.{List}
 use lib.ListN.{length, take, drop, replicate}
 use lib.Dec.{ltb, eqb}
 use Rattle.wire.specs.Wire.{allAre}
-use Rattle.record.specs.Record.{freshRecord, workedOf}
+use Rattle.record.specs.Record.{freshRecord, timerOff, workedOf}
 use Rattle.record.specs.declared.Record.{Record}
+use Rattle.record.specs.declared.Timer.{Timer}
 use Rattle.record.specs.declared.Worked.{Worked}
-use Rattle.change.specs.Change.{madeBy, putOf, inverseOf}
+use Rattle.change.specs.Change.{madeBy, putOf, takesBack, timerAfter}
 use Rattle.change.specs.declared.Change.{Change}
-use Rattle.change.specs.declared.Change.the-variants.{Clear, Unclear, SetState, SetRole, SetCaps, SetUser, SetThermal, SetThrottles, Reset, Unreset, SetMask, SetDeadman, SetAreas}
+use Rattle.change.specs.declared.Change.the-variants.{Clear, Unclear, SetState, SetRole, SetCaps, SetUser, SetThermal, SetThrottles, Reset, Unreset, SetMask, SetDeadman, SetAreas, SetTimer}
 use Rattle.change.specs.declared.Edit.{Edit}
-use Rattle.formed.specs.Formed.{recordOk}
+use Rattle.formed.specs.Formed.{timerOk, recordOk}
 use Rattle.entries.specs.Entries.{Entry, entriesOf, scan}
 use Rattle.marks.specs.Marks.{marksOf, same}
 use Rattle.journal.specs.Read.{entriesOk}
@@ -25,10 +26,11 @@ use Rattle.journal.specs.declared.Way.the-variants.{Before, After}
 use Rattle.session.specs.declared.Session.{Session}
 
 -- "A session is one value: record, worked-out values, next log id, and a journal of 2,048 bytes, all zero when fresh, with its used length"
--- and "a redo store of 2,048 bytes in the session" (d), with its own; "Marks are part of the session" (i): 32 of two bytes
+-- and "a redo store of 2,048 bytes in the session" (d), with its own; "Marks are part of the session" (i): 32 of two bytes;
+-- the timer (h), off
 unfoldable pub freshSession : Session
 freshSession =
-    record { held = freshRecord; worked = workedOf freshRecord; next = 1; journal = replicate 2048 0; used = 0; redo = replicate 2048 0; ahead = 0; marks = replicate 64 0 }
+    record { held = freshRecord; worked = workedOf freshRecord; next = 1; journal = replicate 2048 0; used = 0; redo = replicate 2048 0; ahead = 0; marks = replicate 64 0; timer = timerOff }
 
 -- ---- "A session is well formed if"
 
@@ -64,8 +66,9 @@ storesOk s =
     (cond (not (same (s .marks) (marksFor (s .journal) (s .used)))) false
     (storeOk After (s .redo) (s .ahead))))
 
+-- h: running is 0 or 1; "off means 0 left"
 unfoldable pub wellFormed : Session → Bool
-wellFormed s = cond (not (heldOk (s .held) (s .worked) (s .next))) false (storesOk s)
+wellFormed s = cond (not (heldOk (s .held) (s .worked) (s .next))) false (cond (not (timerOk (s .timer))) false (storesOk s))
 
 -- ---- carrying a change out
 
@@ -84,12 +87,17 @@ madeOf (Unreset state made) = 0
 madeOf (SetMask mask) = 0
 madeOf (SetDeadman deadman) = 0
 madeOf (SetAreas areas) = 0
+madeOf (SetTimer timer) = 0
 
 -- a session from a session: this record, with the limit, readiness and wanted format that are worked out of it, this next id and these two
 -- stores, with the journal's marks; whatever isn't named here is kept
 unfoldable pub renewed : Session → Record → ℕ → List ℕ → ℕ → List ℕ → ℕ → Session
 renewed s held next journal used redo ahead =
-    record { held = held; worked = workedOf held; next = next; journal = journal; used = used; redo = redo; ahead = ahead; marks = marksFor journal used }
+    record { held = held; worked = workedOf held; next = next; journal = journal; used = used; redo = redo; ahead = ahead; marks = marksFor journal used; timer = s .timer }
+
+-- and one with another timer
+unfoldable pub withTimer : Session → Timer → Session
+withTimer s timer = record { held = s .held; worked = s .worked; next = s .next; journal = s .journal; used = s .used; redo = s .redo; ahead = s .ahead; marks = s .marks; timer = timer }
 
 -- the session after a change, or that its entry has no room
 pub record Carried : Type 0 where
@@ -97,15 +105,16 @@ pub record Carried : Type 0 where
   pub session : Session
 
 -- "Each accepted command but poll adds one entry, holding what was before"; answer 5: the entry is longer than the unused journal.
--- d: "Any accepted change empties the store"
+-- d: "Any accepted change empties the store"; h: a timer command sets the timer, which the entry holds as it stood before
 unfoldable pub carriedTo : Session → Edit → End → Carried
 carriedTo s e Full = record { full = true; session = s }
 carriedTo s e (At used) =
     record {
       full = false;
       session =
-          renewed s (putOf (s .held) e .after) (s .next + madeOf (e .change)) (addedTo (s .used) (inverseOf (s .held) e) (s .journal)) used (replicate 2048 0) 0;
+          renewed (withTimer s (timerAfter (s .timer) (e .change))) (putOf (s .held) e .after) (s .next + madeOf (e .change))
+          (addedTo (s .used) (takesBack (s .held) (s .timer) e) (s .journal)) used (replicate 2048 0) 0;
     }
 
 unfoldable pub carriedOf : Session → Edit → Carried
-carriedOf s e = carriedTo s e (endOf (length (s .journal)) (s .used) (inverseOf (s .held) e))
+carriedOf s e = carriedTo s e (endOf (length (s .journal)) (s .used) (takesBack (s .held) (s .timer) e))

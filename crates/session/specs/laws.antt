@@ -2,3 +2,4 @@ pub mod Reads
 pub mod Session
 pub mod Road
 pub mod Forgotten
+pub mod Timer

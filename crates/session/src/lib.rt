@@ -7,6 +7,7 @@ ghost use Rattle.journal.specs.Read.{marksOk};
 use change::Change;
 use journal::Way;
 use record::Record;
+use record::Timer;
 use record::Worked;
 
 pub struct Session {
@@ -18,6 +19,7 @@ pub struct Session {
     pub redo: [u8; 2048],
     pub ahead: u16,
     pub marks: [u8; 64],
+    pub timer: Timer,
 }
 
 pub fn fresh() -> Session
@@ -34,6 +36,10 @@ pub fn fresh() -> Session
         redo: [0; 2048],
         ahead: 0,
         marks: [0; 64],
+        timer: Timer {
+            running: 0,
+            left: 0,
+        },
     }
 }
 
@@ -98,5 +104,6 @@ pub fn made(change: Change) -> u16
         Change::SetMask(_) => 0,
         Change::SetDeadman(_) => 0,
         Change::SetAreas(_) => 0,
+        Change::SetTimer(_) => 0,
     }
 }

@@ -12,6 +12,7 @@ use Rattle.record.specs.declared.Caps.{Caps}
 use Rattle.record.specs.declared.Deadman.{Deadman}
 use Rattle.record.specs.declared.Log.{Log}
 use Rattle.record.specs.declared.Record.{Record}
+use Rattle.record.specs.declared.Timer.{Timer}
 use Rattle.record.specs.declared.Worked.{Worked}
 use Rattle.entries.specs.declared.Reading.{Reading}
 use Rattle.entries.specs.declared.Reading.the-variants.{Whole, Unknown, Cut}
@@ -175,11 +176,16 @@ unfoldable pub journalText : List ℕ → ℕ → List (List ℕ)
 journalText j used =
     storeText (ascii "journal") (ascii "damaged at") (ascii "too long\n") j used ++ namedText (ascii "room") (length j - used)
 
-unfoldable pub sessionText : Record → Worked → ℕ → List ℕ → ℕ → List ℕ → ℕ → List (List ℕ)
-sessionText r w next j used redo ahead =
+-- "`timer off` or `timer on N`"; "off for running 0, whatever is left"
+unfoldable pub timerText : Timer → List (List ℕ)
+timerText t = cond (eqb (t .running) 0) (ascii "timer off\n" ∷ []) (namedText (ascii "timer on") (t .left))
+
+unfoldable pub sessionText : Record → Worked → ℕ → List ℕ → ℕ → List ℕ → ℕ → Timer → List (List ℕ)
+sessionText r w next j used redo ahead timer =
     settingsText r w
     ++ (restText r
     ++ (redoText redo ahead
+    ++ (timerText timer
     ++ (namedText (ascii "next id") next
     ++ (journalText j used
-    ++ (ascii ".\n" ∷ [])))))
+    ++ (ascii ".\n" ∷ []))))))

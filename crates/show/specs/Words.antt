@@ -11,7 +11,8 @@ allWords =
     ascii ":" ∷ ascii "." ∷ ascii "state" ∷ ascii "role" ∷ ascii "caps" ∷ ascii "wanted format " ∷ ascii "limit" ∷ ascii "observation-ready" ∷
     ascii "active-ready" ∷ ascii "thresholds" ∷ ascii "throttles" ∷ ascii "logs" ∷ ascii "cores out" ∷ ascii "deadman off" ∷
     ascii "deadman on" ∷ ascii "area ffdc " ∷ ascii "area pass " ∷ ascii "redo" ∷ ascii "redo damaged at" ∷ ascii "redo too long\n" ∷
-    ascii "journal" ∷ ascii "damaged at" ∷ ascii "too long\n" ∷ ascii "room" ∷ ascii "user cap" ∷ ascii "next id" ∷ ascii ".\n" ∷ []
+    ascii "journal" ∷ ascii "damaged at" ∷ ascii "too long\n" ∷ ascii "room" ∷ ascii "user cap" ∷ ascii "next id" ∷ ascii ".\n" ∷
+    ascii "timer off\n" ∷ ascii "timer on" ∷ []
 
 unfoldable pub wordNumber : ℕ → List ℕ
 wordNumber n = getD allWords n []

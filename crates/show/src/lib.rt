@@ -7,7 +7,7 @@ ghost use lib.Dec.{eqb};
 ghost use Rattle.io.specs.Counts.{Counts};
 ghost use Rattle.text.specs.Text.{sheet, putOn, putAll, fromFront};
 ghost use Rattle.show.specs.Words.{wordNumber};
-ghost use Rattle.show.specs.Show.{numberText, numbersText, namedText, markText, yesText, stateWord, stateText, roleWord, roleText, capsText, wantedText, workedText, settingsText, thresholdsText, pairText, pairsText, throttlesText, logText, placesText, logsText, coresText, maskText, deadmanText, areaText, areasText, restText, readingText, storeText, redoText, journalText, sessionText};
+ghost use Rattle.show.specs.Show.{numberText, numbersText, namedText, markText, yesText, stateWord, stateText, roleWord, roleText, capsText, wantedText, workedText, settingsText, thresholdsText, pairText, pairsText, throttlesText, logText, placesText, logsText, coresText, maskText, deadmanText, areaText, areasText, restText, readingText, storeText, redoText, journalText, timerText, sessionText};
 use entries::Reading;
 use record::Area;
 use record::Areas;
@@ -15,6 +15,7 @@ use record::Caps;
 use record::Deadman;
 use record::Log;
 use record::Record;
+use record::Timer;
 use record::Worked;
 
 // ---- words, by their place in one text
@@ -101,6 +102,10 @@ const NEXT_ID: usize = 39;
 
 const END: usize = 40;
 
+const TIMER_OFF: usize = 41;
+
+const TIMER_ON: usize = 42;
+
 fn put_word(out: &mut [u8], at: usize, n: usize) -> usize
     ensures { λ r. ⌜ Counts r (now (out .exit)) ⌝ }
     ensures { λ r. ⌜ sheet (now (out .exit)) r ≡ putOn (sheet (now (out .entry)) at) (wordNumber n) ⌝ }
@@ -109,7 +114,7 @@ fn put_word(out: &mut [u8], at: usize, n: usize) -> usize
         b" |\n| not received\n| received\n| no\n| yes\n| standby\n| observation\n| active\n| unknown\n| slave| master| unknown| none|:|.|\
           state|role|caps|wanted format |limit|observation-ready|active-ready|thresholds|throttles|logs|\
           cores out|deadman off|deadman on|area ffdc |area pass |redo|redo damaged at|redo too long\n|journal|\
-          damaged at|too long\n|room|user cap|next id|.\n|",
+          damaged at|too long\n|room|user cap|next id|.\n|timer off\n|timer on|",
         n,
     );
     text::put(out, at, word)
@@ -459,6 +464,16 @@ fn put_journal(out: &mut [u8], at: usize, j: &[u8], used: usize) -> usize
     put_named(out, first, ROOM, room(j.len(), used) as u64)
 }
 
+// Every running byte but 0 is on.
+fn put_timer(out: &mut [u8], at: usize, timer: Timer) -> usize
+    ensures { λ r. ⌜ sheet (now (out .exit)) r ≡ putAll (sheet (now (out .entry)) at) (timerText timer) ⌝ }
+{
+    if timer.running == 0 {
+        return put_word(out, at, TIMER_OFF);
+    }
+    put_named(out, at, TIMER_ON, timer.left)
+}
+
 fn put_settings(out: &mut [u8], at: usize, held: Record, worked: Worked) -> usize
     ensures { λ r. ⌜ sheet (now (out .exit)) r ≡ putAll (sheet (now (out .entry)) at) (settingsText held worked) ⌝ }
 {
@@ -498,14 +513,16 @@ pub fn put_session(
     used: usize,
     redo: &[u8],
     ahead: usize,
+    timer: Timer,
 ) -> usize
     ensures { λ r. ⌜ Counts r (now (out .exit)) ⌝ }
-    ensures { λ r. ⌜ sheet (now (out .exit)) r ≡ fromFront (now (out .entry)) (sessionText held worked next (now (j .entry)) used (now (redo .entry)) ahead) ⌝ }
+    ensures { λ r. ⌜ sheet (now (out .exit)) r ≡ fromFront (now (out .entry)) (sessionText held worked next (now (j .entry)) used (now (redo .entry)) ahead timer) ⌝ }
 {
     let settings = put_settings(out, 0, held, worked);
     let rest = put_rest(out, settings, held);
     let stored = put_redo(out, rest, redo, ahead);
-    let id = put_named(out, stored, NEXT_ID, next as u64);
+    let clock = put_timer(out, stored, timer);
+    let id = put_named(out, clock, NEXT_ID, next as u64);
     let end = put_journal(out, id, j, used);
     put_word(out, end, END)
 }

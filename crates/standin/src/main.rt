@@ -10,6 +10,16 @@ use orders::Call;
 use orders::Order;
 use orders::View;
 use orders::Word;
+use streams::Got;
+
+// The bytes of a SEEPROM's image that count.
+const MOST_SEEPROM: usize = 65536;
+
+// What lines give: a line's bytes, as `orders` puts them, and behind them the SEEPROM's image. One buffer that is lent costs the prover less than two.
+const GIVEN: usize = orders::ROOM + MOST_SEEPROM;
+
+// The longest answer: a read of a whole image.
+const LONGEST: usize = 131186;
 
 // ---- calls, on the session that is lent as its image's bytes
 
@@ -34,8 +44,39 @@ fn send(lent: &mut [u8], packet: &mut [u8], sequence: u8, reply: &mut [u8]) -> T
     occ_call::occ(lent, sender, packet, reply)
 }
 
+// The first `n` bytes of what stands behind a line's. That no more were ever lent isn't known here, so it is tested.
+fn seeprom_in<'a>(sent: &'a [u8], n: usize) -> &'a [u8]
+    requires { ⌜ 73734 ≤ length (now sent) ⌝ }
+{
+    let room = &sent[orders::ROOM..];
+    if room.len() < n {
+        return room;
+    }
+    &room[..n]
+}
+
+// A function, since the request and the image are two parts of one buffer, which can't be lent twice from a `&mut`.
+fn sbe(
+    lent: &mut [u8],
+    sent: &[u8],
+    count: usize,
+    seeprom: usize,
+    reply: &mut [u8],
+    second: &mut [u8],
+) -> Told
+    requires { ⌜ (count ≤ 8192) × (73734 ≤ length (now sent)) ⌝ }
+{
+    sbe_call::sbe(
+        lent,
+        &sent[..count],
+        reply,
+        seeprom_in(sent, seeprom),
+        second,
+    )
+}
+
 fn load(lent: &mut [u8], sent: &[u8]) -> Told
-    requires { ⌜ (length (now lent) ≡ imageLength) × (8198 ≤ length (now sent)) ⌝ }
+    requires { ⌜ (length (now lent) ≡ imageLength) × (73734 ≤ length (now sent)) ⌝ }
 {
     wire::copy(lent, 0, &sent[..layout::IMAGE]);
     inplace::answer_with(0, 0)
@@ -46,25 +87,26 @@ fn fresh(lent: &mut [u8]) -> Told {
     inplace::answer_with(0, 0)
 }
 
-// `sent` holds the bytes as `orders` puts them.
 fn carry_out(
     lent: &mut [u8],
     call: Call,
     count: usize,
-    sequence: u8,
+    b: Bench,
     sent: &mut [u8],
     reply: &mut [u8],
+    second: &mut [u8],
 ) -> Told
-    requires { ⌜ (length (now lent) ≡ imageLength) × (count ≤ 8192) × (8198 ≤ length (now sent)) ⌝ }
+    requires { ⌜ (length (now lent) ≡ imageLength) × (count ≤ 8192) × (73734 ≤ length (now sent)) ⌝ }
 {
     match call {
         Call::Occ => occ_call::occ(lent, sent[0], &sent[1..count + 1], reply),
-        Call::Send => send(lent, &mut sent[..count + 6], sequence, reply),
-        Call::Sbe => sbe_call::sbe(lent, &sent[..count], reply),
+        Call::Send => send(lent, &mut sent[..count + 6], b.sequence, reply),
+        Call::Sbe => sbe(lent, sent, count, b.seeprom, reply, second),
         Call::Load => load(lent, sent),
         Call::Undo => undo_call::undo(lent),
         Call::Redo => undo_call::redo(lent),
         Call::Forget(n) => forget_call::forget(lent, n),
+        Call::Time(n) => time_call::time(lent, n),
         Call::Fresh => fresh(lent),
     }
 }
@@ -77,6 +119,7 @@ enum Form {
     Response,
     Kind,
     Answer,
+    Bell,
     Passed,
     Ok,
 }
@@ -90,6 +133,7 @@ fn form_of(call: Call) -> Form {
         Call::Undo => Form::Passed,
         Call::Redo => Form::Kind,
         Call::Forget(_) => Form::Answer,
+        Call::Time(_) => Form::Bell,
         Call::Fresh => Form::Ok,
     }
 }
@@ -109,15 +153,25 @@ fn kind_of(beside: u16) -> u8 {
     (beside % 256) as u8
 }
 
-fn put_told(call: Call, told: Told, reply: &[u8], out: &mut [u8]) -> usize
+fn put_told(
+    call: Call,
+    told: Told,
+    request: &[u8],
+    reply: &[u8],
+    second: &[u8],
+    out: &mut [u8],
+) -> usize
     ensures { λ r. ⌜ Counts r (now (out .exit)) ⌝ }
 {
     let n = response_len(reply);
     match form_of(call) {
         Form::Reply => answers::reply(out, told.answer, reply),
-        Form::Response => answers::rung(out, told.answer, &reply[..n], told.beside),
+        Form::Response => {
+            answers::rung(out, told.answer, request, &reply[..n], told.beside, second)
+        }
         Form::Kind => answers::with_kind(out, told.answer, kind_of(told.beside)),
         Form::Answer => answers::reply(out, told.answer, &reply[..0]),
+        Form::Bell => answers::timed(out, told.answer, told.beside),
         Form::Passed => { answers::with_passed(out, told.answer, kind_of(told.beside), told.small) }
         Form::Ok => answers::line(out, b"ok"),
     }
@@ -150,11 +204,12 @@ fn reply_len(buffer: Buffer, call: Call) -> usize
     orders::MOST_BUFFER
 }
 
-// What is kept beside the session: the sequence of the last packet sent, the reply buffers that are lent, what the last OCC call told, and
-// whether answers can still be written.
+// What is kept beside the session: the sequence of the last packet sent, the reply buffers that are lent, the bytes that the SEEPROM's image has,
+// what the last OCC call told, and whether answers can still be written.
 struct Bench {
     sequence: u8,
     buffer: Buffer,
+    seeprom: usize,
     last: Told,
     heard: bool,
 }
@@ -173,7 +228,7 @@ fn next_last(call: Call, told: Told, last: Told) -> Told {
     told
 }
 
-// Lends the call its part of a reply buffer.
+// Lends the call its part of a reply buffer, and a second buffer that takes a whole image.
 fn call_with(
     lent: &mut [u8],
     call: Call,
@@ -182,7 +237,7 @@ fn call_with(
     sent: &mut [u8],
     out: &mut [u8],
 ) -> Said
-    requires { ⌜ (length (now lent) ≡ imageLength) × (count ≤ 8192) × (8198 ≤ length (now sent)) ⌝ }
+    requires { ⌜ (length (now lent) ≡ imageLength) × (count ≤ 8192) × (73734 ≤ length (now sent)) ⌝ }
     ensures { λ r. ⌜ Counts (r .length) (now (out .exit)) ⌝ }
 {
     let mut reply = reply_buffer();
@@ -190,8 +245,9 @@ fn call_with(
     let before = b.last;
     let room = reply_len(buffer, call);
     let part = &mut reply[..room];
-    let told = carry_out(lent, call, count, b.sequence, sent, part);
-    let n = put_told(call, told, part, out);
+    let mut second = io::large_buffer();
+    let told = carry_out(lent, call, count, b, sent, part, &mut second);
+    let n = put_told(call, told, &sent[..count], part, &second, out);
     Said {
         length: n,
         last: next_last(call, told, before),
@@ -207,6 +263,7 @@ fn put_show(lent: &[u8], out: &mut [u8]) -> usize
     let h = image::read_head(lent);
     let held = h.held;
     let worked = h.worked;
+    let timer = h.timer;
     show::put_session(
         out,
         held,
@@ -216,6 +273,7 @@ fn put_show(lent: &[u8], out: &mut [u8]) -> usize
         h.used as usize,
         &lent[layout::REDO..layout::REDO_END],
         h.ahead as usize,
+        timer,
     )
 }
 
@@ -250,14 +308,14 @@ fn put_other(lent: &[u8], order: Order, last: Told, out: &mut [u8]) -> usize
     let word = order.word;
     match word {
         Word::Look(view) => look(lent, view, last, out),
-        Word::Lend(_) => answers::line(out, b"ok"),
+        Word::Lend(_) | Word::Seeprom => answers::line(out, b"ok"),
         Word::Fail(what) => answers::complaint(out, what, order.column),
         _ => 0,
     }
 }
 
 fn obey(lent: &mut [u8], order: Order, b: Bench, sent: &mut [u8], out: &mut [u8]) -> Said
-    requires { ⌜ (length (now lent) ≡ imageLength) × (order .count ≤ 8192) × (8198 ≤ length (now sent)) ⌝ }
+    requires { ⌜ (length (now lent) ≡ imageLength) × (order .count ≤ 8192) × (73734 ≤ length (now sent)) ⌝ }
     ensures { λ r. ⌜ Counts (r .length) (now (out .exit)) ⌝ }
 {
     let word = order.word;
@@ -290,14 +348,33 @@ fn next_buffer(word: Word, buffer: Buffer) -> Buffer {
     buffer
 }
 
+// The bytes that the SEEPROM's image has from now on. Those of a line that gives it are put in their place.
+fn next_seeprom(word: Word, count: usize, sent: &mut [u8], seeprom: usize) -> usize
+    requires { ⌜ (count ≤ 8192) × (73734 ≤ length (now sent)) ⌝ }
+{
+    let Word::Seeprom = word else {
+        return seeprom;
+    };
+    let mut i = 0;
+    while i < count {
+        sent[orders::ROOM + i] = sent[i];
+        i += 1;
+    }
+    count
+}
+
 // The bench that a line is obeyed on.
-fn ready(b: Bench, word: Word) -> Bench {
+fn ready(b: Bench, order: Order, sent: &mut [u8]) -> Bench
+    requires { ⌜ (order .count ≤ 8192) × (73734 ≤ length (now sent)) ⌝ }
+{
+    let word = order.word;
     let held = b.buffer;
     let last = b.last;
     let buffer = next_buffer(word, held);
     Bench {
         sequence: next_sequence(word, b.sequence),
         buffer: buffer,
+        seeprom: next_seeprom(word, order.count, sent, b.seeprom),
         last: last,
         heard: b.heard,
     }
@@ -305,11 +382,10 @@ fn ready(b: Bench, word: Word) -> Bench {
 
 // An answer is written as soon as it is there.
 fn answer(lent: &mut [u8], b: Bench, line: &[u8], sent: &mut [u8], out: &mut [u8]) -> Bench
-    requires { ⌜ (length (now lent) ≡ imageLength) × (8198 ≤ length (now sent)) ⌝ }
+    requires { ⌜ (length (now lent) ≡ imageLength) × (73734 ≤ length (now sent)) ⌝ }
 {
     let order = orders::read(line, sent);
-    let word = order.word;
-    let now = ready(b, word);
+    let now = ready(b, order, sent);
     let said = obey(lent, order, now, sent, out);
     let n = said.length;
     let last = said.last;
@@ -317,6 +393,7 @@ fn answer(lent: &mut [u8], b: Bench, line: &[u8], sent: &mut [u8], out: &mut [u8
     Bench {
         sequence: now.sequence,
         buffer: buffer,
+        seeprom: now.seeprom,
         last: last,
         heard: streams::write(&out[..n]),
     }
@@ -356,7 +433,7 @@ fn serve_piece(
     sent: &mut [u8],
     out: &mut [u8],
 ) -> Served
-    requires { ⌜ (length (now lent) ≡ imageLength) × (8198 ≤ length (now sent)) ⌝ }
+    requires { ⌜ (length (now lent) ≡ imageLength) × (73734 ≤ length (now sent)) ⌝ }
 {
     let mut bench = b;
     let mut held = before;
@@ -408,12 +485,20 @@ fn fetch(piece: &mut [u8]) -> Piece
 }
 
 // A proved loop has to end: it counts down from a number that no run uses up.
-fn serve(lent: &mut [u8], piece: &mut [u8], line: &mut [u8], sent: &mut [u8], out: &mut [u8])
-    requires { ⌜ (length (now lent) ≡ imageLength) × (1 ≤ length (now piece)) × (8198 ≤ length (now sent)) ⌝ }
+fn serve(
+    lent: &mut [u8],
+    seeprom: usize,
+    piece: &mut [u8],
+    line: &mut [u8],
+    sent: &mut [u8],
+    out: &mut [u8],
+)
+    requires { ⌜ (length (now lent) ≡ imageLength) × (1 ≤ length (now piece)) × (73734 ≤ length (now sent)) ⌝ }
 {
     let mut bench = Bench {
         sequence: 0,
         buffer: Buffer::Whole,
+        seeprom: seeprom,
         last: inplace::answer_with(0, 0),
         heard: true,
     };
@@ -433,13 +518,39 @@ fn serve(lent: &mut [u8], piece: &mut [u8], line: &mut [u8], sent: &mut [u8], ou
     }
 }
 
+// The file that the argument names, as the SEEPROM's image at the start; an empty one where none is named.
+fn first_seeprom(sent: &mut [u8]) -> Got
+    requires { ⌜ 73734 ≤ length (now sent) ⌝ }
+{
+    if os::arg_count() < 2 {
+        return Got {
+            count: 0,
+            failed: false,
+        };
+    }
+    let mut name = io::large_buffer();
+    let n = os::arg(1, &mut name);
+    streams::read_named(&name[..n], &mut sent[orders::ROOM..])
+}
+
 // A line is held with a byte more than the longest and its carriage return, so that a longer one is seen.
-fn main() {
+fn serve_fresh(sent: &mut [u8], seeprom: usize)
+    requires { ⌜ 73734 ≤ length (now sent) ⌝ }
+{
     let mut lent = [0u8; layout::IMAGE];
     image::write(session::fresh(), &mut lent);
     let mut piece = io::large_buffer();
     let mut line = [0u8; 32770];
-    let mut sent = [0u8; orders::ROOM];
-    let mut out = [0u8; 16384];
-    serve(&mut lent, &mut piece, &mut line, &mut sent, &mut out);
+    let mut out = [0u8; LONGEST];
+    serve(&mut lent, seeprom, &mut piece, &mut line, sent, &mut out);
+}
+
+// A file that can't be read has been told of, and no line is answered.
+fn main() {
+    let mut sent = [0u8; GIVEN];
+    let seeprom = first_seeprom(&mut sent);
+    if seeprom.failed {
+        return;
+    }
+    serve_fresh(&mut sent, seeprom.count);
 }

@@ -105,3 +105,20 @@ pub fn read_full(fd: i32, name: &[u8], space: &mut [u8]) -> Got
         failed: false,
     }
 }
+
+// What the file of that name holds, as far as there is space for it. One that can't be opened is said.
+pub fn read_named(name: &[u8], space: &mut [u8]) -> Got
+    ensures { λ r. ⌜ Counts (r .count) (now (space .exit)) ⌝ }
+{
+    let fd = os::open_read(name);
+    if fd < 0 {
+        os::fail(name);
+        return Got {
+            count: 0,
+            failed: true,
+        };
+    }
+    let got = read_full(fd, name, space);
+    libc::close(fd);
+    got
+}

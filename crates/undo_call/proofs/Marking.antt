@@ -7,7 +7,7 @@ use lib.ListN.{length, take, length-take}
 use lib.Seq.{take-at, length-take-le}
 use Rattle.wire.specs.Wire.{pasted}
 use Rattle.wire.specs.laws.Cases.{else-lt}
-use Rattle.change.specs.Change.{inverseOf}
+use Rattle.change.specs.Change.{takesBack}
 use Rattle.change.specs.declared.Edit.{Edit}
 use Rattle.entries.specs.Entries.{Entry, Scan, entriesOf, scan}
 use Rattle.entries.specs.laws.Entries.{Sized}
@@ -65,7 +65,7 @@ grown-marks b long used m back sized room =
     ap (λ (es : List Entry). marksOf (entryFor back ∷ es)) (entries-are b long used m) ∙ sym (ap (λ (s : Scan). marksOf (entriesOf s)) read)
 
 -- the bytes with the marks, by the way
-pub marked-again : (w : Way) (h : Head) (b : List ℕ) → length b ≡ imageLength → (at : ℕ) (e back : Edit) → back ≡ inverseOf (h .held) e → Sized (entryFor back)
+pub marked-again : (w : Way) (h : Head) (b : List ℕ) → length b ≡ imageLength → (at : ℕ) (e back : Edit) → back ≡ takesBack (h .held) (h .timer) e → Sized (entryFor back)
     → at + entryLen e ≡ byWay w (h .used) (h .ahead) → h .used + h .ahead ≤ 2048 → byWay w (h .ahead) (h .used) + entryLen back ≤ 2048
     → MarksBefore w (h .used) at b → (g : List ℕ) → MarksAfter w (h .used) at b g
     → (length g ≡ imageLength) × (storeIn w g ≡ storeIn w b) × (storeIn (other w) g ≡ storeIn (other w) b)

@@ -12,7 +12,8 @@ use Rattle.wire.specs.laws.Cases.{cond-cases, if-b, else-b, if-eq, else-eq}
 use Rattle.wire.specs.Wire.{pasted, Bytes}
 use Rattle.wire.specs.laws.Wire.{part-of-part, length-pasted}
 use Rattle.record.specs.declared.Record.{Record}
-use Rattle.change.specs.Change.{kindOf, putOf, inverseOf}
+use Rattle.record.specs.declared.Timer.{Timer}
+use Rattle.change.specs.Change.{kindOf, putOf, backOf, inverseOf, timed, takesBack, timerAfter}
 use Rattle.change.specs.declared.Change.{Change}
 use Rattle.change.specs.declared.Changed.{Changed}
 use Rattle.change.specs.declared.Edit.{Edit}
@@ -31,13 +32,13 @@ use Rattle.journal.specs.declared.Way.the-variants.{Before, After}
 use Rattle.journal.specs.declared.Found.the-variants.{Good, Bad}
 use Rattle.journal.specs.declared.Got.{Got}
 use Rattle.record.specs.Record.{workedOf}
-use Rattle.session.specs.Session.{marksFor, wellFormed, renewed}
+use Rattle.session.specs.Session.{marksFor, wellFormed, renewed, withTimer}
 use Rattle.session.specs.Road.{Asks, refuses, moves, storeOf, usedOf, lessened, grown, grownTo, sessionMoved, kept, done, settled}
 use Rattle.session.specs.laws.Session.{formed}
 use Rattle.session.specs.declared.Session.{Session}
-use Rattle.links.specs.laws.Links.{kind-of-back}
+use Rattle.change.specs.laws.Timed.{kind-of-back, timed-kind}
 use Rattle.image.specs.declared.Head.{Head}
-use Rattle.image.specs.Image.{headRenewed, imageOf, partAt, headIn, storeAt, storeIn, withStore, journalIn, redoIn, marksIn, sessionIn}
+use Rattle.image.specs.Image.{headRenewed, headTimed, imageOf, partAt, headIn, storeAt, storeIn, withStore, journalIn, redoIn, marksIn, sessionIn}
 use Rattle.layout.specs.Layout.{journalAt, redoAt, imageLength}
 use Rattle.image.specs.laws.Stores.{store-low, store-long, store-back, store-above, store-below, store-marks}
 use Rattle.image.proofs.Standing.{length-store}
@@ -160,14 +161,14 @@ module _ (w : Way) (h : Head) (b : List ℕ) (at : ℕ) (e : Edit) (after : Reco
   abbrev before : Session
   before = sessionIn h b
 
-  pub room : (n : ℕ) (back : Edit) → n ≡ byWay w (h .ahead) (h .used) → back ≡ inverseOf (h .held) e → at + entryLen e ≡ byWay w (h .used) (h .ahead) → h .used + h .ahead ≤ 2048
+  pub room : (n : ℕ) (back : Edit) → n ≡ byWay w (h .ahead) (h .used) → back ≡ takesBack (h .held) (h .timer) e → at + entryLen e ≡ byWay w (h .used) (h .ahead) → h .used + h .ahead ≤ 2048
       → n + entryLen back ≤ 2048
-  unfolding inverseOf
+  unfolding inverseOf timed takesBack
   room n back p is fits sum =
-      let kind = ap (λ (x : Edit). bodyLen (kindOf (x .change)) + 1) is ∙ ap (λ (k : ℕ). bodyLen k + 1) (kind-of-back (h .held) (e .change)) in
+      let kind = ap (λ (x : Edit). bodyLen (kindOf (x .change)) + 1) is ∙ ap (λ (k : ℕ). bodyLen k + 1) (timed-kind (h .timer) (backOf (h .held) (e .change)) ∙ kind-of-back (h .held) (e .change)) in
       omega (arith, p, kind, fits, sum, by-sum w (h .used) (h .ahead))
 
-  module _ (from to n : ℕ) (back : Edit) (p : from ≡ byWay w (h .used) (h .ahead)) (q : to ≡ byWay w (h .ahead) (h .used)) (is : back ≡ inverseOf (h .held) e) (np : n ≡ entryLen back) where
+  module _ (from to n : ℕ) (back : Edit) (p : from ≡ byWay w (h .used) (h .ahead)) (q : to ≡ byWay w (h .ahead) (h .used)) (is : back ≡ takesBack (h .held) (h .timer) e) (np : n ≡ entryLen back) where
     less-is : cutFrom at from (storeIn w b) ≡ lessened w before at
     unfolding lessened
     less-is = λ i. cutFrom at ((p ∙ sym (used-is w h b)) i) (sym (store-is w h b) i)
@@ -183,9 +184,9 @@ module _ (w : Way) (h : Head) (b : List ℕ) (at : ℕ) (e : Edit) (after : Reco
     -- g are the lent bytes with the new marks, d with the entry moved too
     module _ (g d : List ℕ) (moved : Moved w at from to back g d) (journal-kept : storeIn w g ≡ storeIn w b) (other-kept : storeIn (other w) g ≡ storeIn (other w) b)
         (marks-are : marksIn g ≡ marksFor (byWay w (lessened w before at) (grown w before e)) (byWay w at (grownTo w before e))) where
-      pub session-moved : (y : List ℕ) (head : Head) → head ≡ headMoved h w after at (to + n) → y ≡ imageOf (sessionIn head d) → y ≡ imageOf (sessionMoved w before at e after)
-      unfolding sessionIn headMoved headRenewed sessionMoved renewed
-      session-moved y head hp yp =
+      pub session-moved : (y : List ℕ) (head : Head) (timer : Timer) → timer ≡ timerAfter (h .timer) (e .change) → head ≡ headMoved h w timer after at (to + n) → y ≡ imageOf (sessionIn head d) → y ≡ imageOf (sessionMoved w before at e after)
+      unfolding sessionIn headMoved headRenewed headTimed sessionMoved renewed withTimer
+      session-moved y head timer tp hp yp =
           let one = moved .less ∙ ap (cutFrom at from) journal-kept ∙ less-is in
           let two = moved .more ∙ ap (pasted to (entryBytes back)) other-kept ∙ more-is in
           let js = stores-are w d (lessened w before at) (grown w before e) one two in
@@ -199,6 +200,7 @@ module _ (w : Way) (h : Head) (b : List ℕ) (at : ℕ) (e : Edit) (after : Reco
             redo = js .1 i;
             ahead = byWay w (end-is i) at;
             marks = (moved .marks-kept ∙ marks-are) i;
+            timer = tp i;
           }))
 
 some-number : (w : Way) → eqb (noneLeft w) 0 ≡ false

@@ -8,6 +8,7 @@ use lib.ListN.{length, take, drop}
 use lib.Dec.{eqb}
 use Rattle.wire.specs.Conditions.{_and_}
 use Rattle.record.specs.declared.Record.{Record}
+use Rattle.record.specs.declared.Timer.{Timer}
 use Rattle.change.specs.Change.{putOf}
 use Rattle.change.specs.declared.Tables.{Tables}
 use Rattle.change.specs.declared.Edit.{Edit}
@@ -34,7 +35,7 @@ use Rattle.session.specs.Session.{entriesIn, wellFormed}
 use Rattle.session.specs.Road.{Asks, refuses, moves, storeOf, usedOf, Said, settled}
 use Rattle.session.specs.declared.Session.{Session}
 use Rattle.image.specs.declared.Head.{Head}
-use Rattle.image.specs.Image.{imageOf, headRenewed, storeIn, withPart, journalIn, marksIn}
+use Rattle.image.specs.Image.{imageOf, headRenewed, headTimed, storeIn, withPart, journalIn, marksIn}
 use Rattle.layout.specs.Layout.{marksSize, marksAt, imageLength}
 use Rattle.inplace.specs.declared.Told.{Told}
 use Rattle.inplace.specs.InPlace.{Left, Marked, MarkedTo, MarksMore, onImage}
@@ -87,9 +88,9 @@ redoCall s = moveCall After s
 
 -- ---- on a session that is lent as its image's bytes: kind and number passed stand beside the answer
 
--- the head with the record after it; its entry's store ends at `at` then, the other one at `end`
-unfoldable pub headMoved : Head → Way → Record → ℕ → ℕ → Head
-headMoved h w held at end = headRenewed h held (h .next) (byWay w at end) (byWay w end at)
+-- the head with the timer and the record after it; its entry's store ends at `at` then, the other one at `end`
+unfoldable pub headMoved : Head → Way → Timer → Record → ℕ → ℕ → Head
+headMoved h w timer held at end = headRenewed (headTimed h timer) held (h .next) (byWay w at end) (byWay w end at)
 
 -- i: "Report the number passed (0 when refused)", of the entries that the journal holds; redo reports none
 unfoldable pub passedBy : Way → Session → ℕ

@@ -1,5 +1,5 @@
 // The calls `undo` and `redo`: the newest change is taken back, or the one last taken back put in again. The record and all that is worked out from
-// it; the next id stays. Both walk one road; the way says which store an entry is taken from.
+// it, or the timer; the next id stays. Both walk one road; the way says which store an entry is taken from.
 ghost use mathlib.Core.Bool.{true};
 ghost use mathlib.Core.Path.{_≡_};
 ghost use Prim.Native.Nat.{_≤_, _+_};
@@ -20,6 +20,7 @@ use journal::Found;
 use journal::Way;
 use marks::Newest;
 use record::Record;
+use record::Timer;
 
 // ---- by the way
 
@@ -61,7 +62,7 @@ fn look_from(lent: &[u8], way: Way) -> usize
 {
     match way {
         Way::Before => {
-            let last = marks::last(&lent[layout::MARKS..layout::IMAGE]);
+            let last = marks::last(&lent[layout::MARKS..layout::TIMER]);
             last.place
         }
         Way::After => 0,
@@ -90,27 +91,31 @@ fn move_entry(lent: &mut [u8], way: Way, at: usize, from: usize, to: usize, back
     inplace::append(lent, other(way), to, back);
 }
 
-// The head with the record after it; its entry's store ends at `at` then, the other one at `end`.
-fn head_moved(h: Head, way: Way, after: Record, at: usize, end: usize) -> Head
+// The head with the timer and the record after it; its entry's store ends at `at` then, the other one at `end`.
+fn head_moved(h: Head, way: Way, timer: Timer, after: Record, at: usize, end: usize) -> Head
     requires { ⌜ (at ≤ 2048) × (end ≤ 2048) ⌝ }
-    ensures { λ x. ⌜ x ≡ headMoved h way after at end ⌝ }
+    ensures { λ x. ⌜ x ≡ headMoved h way timer after at end ⌝ }
 {
     let used = by_way(way, at, end);
     let ahead = by_way(way, end, at);
-    image::renewed(h, after, h.next, used as u16, ahead as u16)
+    let timed = image::with_timer(h, timer);
+    image::renewed(timed, after, h.next, used as u16, ahead as u16)
 }
 
 fn carry_on(lent: &mut [u8], h: Head, way: Way, at: usize, e: Edit, after: Record)
     requires { ⌜ (length (now lent) ≡ imageLength) × (at + entryLen e ≡ byWay way (h .used) (h .ahead)) × (h .used + h .ahead ≤ 2048) × MarksBefore way (h .used) at (now lent) ⌝ }
     ensures { λ _. ⌜ now (lent .exit) ≡ imageOf (sessionMoved way (sessionIn h (now (lent .entry))) at e after) ⌝ }
 {
-    let back = change::inverse(h.held, e);
+    let now = h.timer;
+    let change = e.change;
+    let back = change::takes_back(h.held, now, e);
+    let timer = change::timer_after(now, change);
     let n = journal::entry_len(back);
     let from = by_way(way, h.used as usize, h.ahead as usize);
     let to = by_way(way, h.ahead as usize, h.used as usize);
     mark_again(&mut *lent, way, h.used as usize, at);
     move_entry(&mut *lent, way, at, from, to, back);
-    let head = head_moved(h, way, after, at, to + n);
+    let head = head_moved(h, way, timer, after, at, to + n);
     image::write_head(lent, head);
 }
 

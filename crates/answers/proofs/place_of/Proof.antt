@@ -1,4 +1,3 @@
--- `answers::place_of` meets its contract: its arms are the definition's. Assumes nothing.
 use mathlib.Core.Path.{sym, ap}
 use Rattle.answers.specs.Words.{placeOf}
 use borrow.Author.Needs.{needs}
@@ -31,6 +30,12 @@ enum-told-8 c = search needs
 
 enum-told-9 : tie.Need-enum-told-9
 enum-told-9 c = search needs
+
+enum-told-10 : tie.Need-enum-told-10
+enum-told-10 c = search needs
+
+enum-told-11 : tie.Need-enum-told-11
+enum-told-11 c = search needs
 
 returns : tie.Need-returns
 unfolding placeOf
@@ -68,6 +73,14 @@ returns-9 : tie.Need-returns-9
 unfolding placeOf
 returns-9 c = ap placeOf (sym (c .enum-told9 .given .1))
 
+returns-10 : tie.Need-returns-10
+unfolding placeOf
+returns-10 c = ap placeOf (sym (c .enum-told10 .given .1))
+
+returns-11 : tie.Need-returns-11
+unfolding placeOf
+returns-11 c = ap placeOf (sym (c .enum-told11 .given .1))
+
 pub place-of-spec : {M : Type 1} → statement M
 place-of-spec =
     tie.close
@@ -81,6 +94,8 @@ place-of-spec =
     enum-told-7
     enum-told-8
     enum-told-9
+    enum-told-10
+    enum-told-11
     returns
     returns-2
     returns-3
@@ -89,4 +104,6 @@ place-of-spec =
     returns-6
     returns-7
     returns-8
-    returns-9)
+    returns-9
+    returns-10
+    returns-11)

@@ -1,4 +1,3 @@
--- `answers::rung` meets its contract: the answer decides whether response and doorbell follow. Assumes nothing.
 use Rattle.answers.specs.Answers.{rungText}
 use Rattle.answers.proofs.Saying.{refused, accepted}
 use Rattle.text.specs.laws.Pieces.{piece, pieces, last-piece, same-pieces}
@@ -25,6 +24,9 @@ put-bytes-requires c κs = search needs
 put-bell-requires : tie.Need-put-bell-requires
 put-bell-requires c κs = search needs
 
+put-read-requires : tie.Need-put-read-requires
+put-read-requires c κs = search needs
+
 put-end-requires-2 : tie.Need-put-end-requires-2
 put-end-requires-2 c κs = search needs
 
@@ -33,7 +35,7 @@ same-length-2 c = search needs
 
 returns-2 : tie.Need-returns-2
 unfolding rungText
-returns-2 c = (search needs, same-pieces _ (accepted _ _ (search needs)) (piece _ _ _ (c .before .before .before .before .before .before .before .before .before .before .before .before .before .before .before .put-decimal .ensures .1) (pieces _ _ _ (pieces _ _ _ (c .before .before .before .before .before .before .before .before .before .before .put-bytes .ensures) (c .before .before .before .before .before .before .put-bell .ensures)) (last-piece _ _ (c .before .before .put-end2 .ensures .1)))))
+returns-2 c = (search needs, same-pieces _ (accepted _ _ (search needs)) (piece _ _ _ (c .before .before .before .before .before .before .before .before .before .before .before .before .before .before .before .before .before .before .before .put-decimal .ensures .1) (pieces _ _ _ (pieces _ _ _ (c .before .before .before .before .before .before .before .before .before .before .before .before .before .before .put-bytes .ensures) (pieces _ _ _ (c .before .before .before .before .before .before .before .before .before .before .put-bell .ensures) (c .before .before .before .before .before .before .put-read .ensures))) (last-piece _ _ (c .before .before .put-end2 .ensures .1)))))
 
 pub rung-spec : {M : Type 1} → statement M
 rung-spec =
@@ -45,6 +47,7 @@ rung-spec =
     returns
     put-bytes-requires
     put-bell-requires
+    put-read-requires
     put-end-requires-2
     same-length-2
     returns-2)

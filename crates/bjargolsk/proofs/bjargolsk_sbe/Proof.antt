@@ -4,8 +4,8 @@ use borrow.Author.Needs.{needs}
 use Rattle.bjargolsk.proofs.bjargolsk_sbe.Statement.{statement}
 use Rattle.bjargolsk.proofs.bjargolsk_sbe.Tie as tie
 
-sbe-requires : tie.Need-sbe-requires
-sbe-requires c κs = search needs
+alone-requires : tie.Need-alone-requires
+alone-requires c κs = search needs
 
 pack-requires : tie.Need-pack-requires
 pack-requires c κs = search needs
@@ -17,8 +17,8 @@ same-length-2 : tie.Need-same-length-2
 same-length-2 c = search needs
 
 returns : tie.Need-returns
-returns c = (c .pack .ensures ∙ ap packed (c .before .before .before .before .before .sbe .ensures .0), c .before .before .before .before .before .sbe .ensures .1)
+returns c = (c .pack .ensures ∙ ap packed (c .before .before .before .before .before .alone .ensures .0), c .before .before .before .before .before .alone .ensures .1)
 
 pub bjargolsk-sbe-spec : {M : Type 1} → statement M
 bjargolsk-sbe-spec =
-    tie.close (tie.spec sbe-requires pack-requires same-length same-length-2 returns)
+    tie.close (tie.spec alone-requires pack-requires same-length same-length-2 returns)

@@ -17,12 +17,13 @@ use Rattle.session.specs.declared.Session.{Session}
 use Rattle.layout.specs.Layout.{imageLength}
 use Rattle.image.specs.Image.{imageOf, sessionOf}
 use Rattle.image.specs.laws.Image.{image-session}
-use Rattle.inplace.specs.InPlace.{Left, onImage}
+use Rattle.inplace.specs.InPlace.{Left, rungLeft, onImage}
 use Rattle.inplace.specs.declared.Told.{Told}
 use Rattle.occ_call.specs.Occ.{occAsks, occCall, occWhy, occLeft, occOn}
 use Rattle.occ_call.specs.laws.Why.{answer-beside}
-use Rattle.sbe_call.specs.Sbe.{sbeAsks, sbeCall, sbeLeft, sbeOn}
+use Rattle.sbe_call.specs.Sbe.{sbeAsks, sbeCall, sbeOn}
 use Rattle.forget_call.specs.Forget.{forgetAsks, forgetCall, forgetLeft, forgetOn}
+use Rattle.time_call.specs.Time.{timeAsks, timeCall, timeOn}
 use Rattle.undo_call.specs.Undo.{moveAsks, moveCall, passedBy, movedLeft, moveOn, undoOn, redoOn}
 use Rattle.bjargolsk.specs.Calls.{packed, answerIn}
 
@@ -53,10 +54,10 @@ module _ (b : List ℕ) (bytes : Bytes b) where
       refused (λ (s : Session). occLeft (occCall s sender c d) (occWhy s sender c d)) d
       (λ h. let k = refusal-keeps (sessionOf b) d (occAsks (sessionOf b) sender c d) (λ z. h (answer-beside _ _ ∙ z)) in (_, (k .0, refl, k .1)))
 
-  pub sbe-refused : (r d : List ℕ) → Kept (sbeOn b r d) d
-  unfolding sbeOn sbeLeft sbeCall
-  sbe-refused r d =
-      refused (λ (s : Session). sbeLeft (sbeCall s r d)) d (λ h. let k = refusal-keeps (sessionOf b) d (sbeAsks (sessionOf b) r d) h in (_, (k .0, refl, k .1)))
+  pub sbe-refused : (r d m x : List ℕ) → Kept (sbeOn b r d m x) d
+  unfolding sbeOn rungLeft sbeCall
+  sbe-refused r d m x =
+      refused (λ (s : Session). rungLeft (sbeCall s r d m x)) d (λ h. let k = refusal-keeps (sessionOf b) d (sbeAsks (sessionOf b) r d m x) h in (_, (k .0, refl, k .1)))
 
   move-refused : (w : Way) → Kept (moveOn w b) []
   unfolding moveOn movedLeft moveCall
@@ -67,6 +68,11 @@ module _ (b : List ℕ) (bytes : Bytes b) where
   unfolding forgetOn forgetLeft forgetCall
   forget-refused n =
       refused (λ (s : Session). forgetLeft (forgetCall n s)) [] (λ h. let k = refusal-keeps (sessionOf b) [] (forgetAsks n (sessionOf b)) h in (_, (k .0, refl, k .1)))
+
+  pub time-refused : (n : ℕ) → Kept (timeOn n b) []
+  unfolding timeOn rungLeft timeCall
+  time-refused n =
+      refused (λ (s : Session). rungLeft (timeCall n s)) [] (λ h. let k = refusal-keeps (sessionOf b) [] (timeAsks n (sessionOf b)) h in (_, (k .0, refl, k .1)))
 
   pub undo-refused : Kept (undoOn b) []
   undo-refused = move-refused Before

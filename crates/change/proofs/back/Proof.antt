@@ -51,6 +51,9 @@ enum-told-8 c = search needs
 enum-told-9 : tie.Need-enum-told-9
 enum-told-9 c = search needs
 
+enum-known-change-5 : tie.Need-enum-known-change-5
+enum-known-change-5 c = search needs
+
 returns : tie.Need-returns
 unfolding backOf
 returns c = back-by (c .before .before .before .before .before .before .before .before .args .r) _ _ _ (c .before .change .given .1) refl
@@ -103,6 +106,10 @@ returns-13 : tie.Need-returns-13
 unfolding backOf
 returns-13 c = back-by (c .before .before .before .before .before .before .before .args .r) _ _ _ (c .enum-told9 .given .1) refl
 
+returns-14 : tie.Need-returns-14
+unfolding backOf
+returns-14 c = back-by (c .before .before .before .before .before .before .before .before .args .r) _ _ _ (c .before .change5 .given .1) refl
+
 pub back-spec : {M : Type 1} → statement M
 back-spec =
     tie.close
@@ -122,6 +129,7 @@ back-spec =
     enum-told-7
     enum-told-8
     enum-told-9
+    enum-known-change-5
     returns
     returns-2
     returns-3
@@ -134,4 +142,5 @@ back-spec =
     returns-10
     returns-11
     returns-12
-    returns-13)
+    returns-13
+    returns-14)

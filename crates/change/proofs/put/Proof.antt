@@ -85,6 +85,12 @@ enum-known-change-13 c = search needs
 set-areas-requires : tie.Need-set-areas-requires
 set-areas-requires c κs = search needs
 
+accept-requires-2 : tie.Need-accept-requires-2
+accept-requires-2 c κs = search needs
+
+enum-told : tie.Need-enum-told
+enum-told c = search needs
+
 returns : tie.Need-returns
 unfolding putWith
 returns c = put-by (c .before .before .before .before .before .before .before .args .r) (c .before .before .before .before .before .before .before .args .e) _ _ (c .before .before .change .given .1) (c .clear .ensures)
@@ -137,6 +143,10 @@ returns-13 : tie.Need-returns-13
 unfolding putWith
 returns-13 c = put-by (c .before .before .before .before .before .before .before .args .r) (c .before .before .before .before .before .before .before .args .e) _ _ (c .before .before .change13 .given .1) (c .set-areas .ensures)
 
+returns-14 : tie.Need-returns-14
+unfolding putWith
+returns-14 c = put-by (c .before .before .before .before .before .before .args .r) (c .before .before .before .before .before .before .args .e) _ _ (c .before .enum-told .given .1) (c .accept2 .ensures)
+
 pub put-spec : {M : Type 1} → statement M
 put-spec =
     tie.close
@@ -168,6 +178,8 @@ put-spec =
     set-deadman-requires
     enum-known-change-13
     set-areas-requires
+    enum-told
+    accept-requires-2
     returns
     returns-2
     returns-3
@@ -180,4 +192,5 @@ put-spec =
     returns-10
     returns-11
     returns-12
-    returns-13)
+    returns-13
+    returns-14)

@@ -50,7 +50,11 @@ unfolding bodyLen
 returns-11 c = sym (ap bodyLen (c .match .keys11))
 
 returns-12 : tie.Need-returns-12
-returns-12 c = let r = c .match .rest in no-other-kind _ (r .0 .0 .0 .0 .0 .0 .0 .0 .0 .0 .1) (r .0 .0 .0 .0 .0 .0 .0 .0 .0 .1) (r .0 .0 .0 .0 .0 .0 .0 .0 .1) (r .0 .0 .0 .0 .0 .0 .0 .1) (r .0 .0 .0 .0 .0 .0 .1) (r .0 .0 .0 .0 .0 .1) (r .0 .0 .0 .0 .1) (r .0 .0 .0 .1) (r .0 .0 .1) (r .0 .1) (r .1)
+unfolding bodyLen
+returns-12 c = sym (ap bodyLen (c .match .keys12))
+
+returns-13 : tie.Need-returns-13
+returns-13 c = let r = c .match .rest in no-other-kind _ (r .0 .0 .0 .0 .0 .0 .0 .0 .0 .0 .0 .1) (r .0 .0 .0 .0 .0 .0 .0 .0 .0 .0 .1) (r .0 .0 .0 .0 .0 .0 .0 .0 .0 .1) (r .0 .0 .0 .0 .0 .0 .0 .0 .1) (r .0 .0 .0 .0 .0 .0 .0 .1) (r .0 .0 .0 .0 .0 .0 .1) (r .0 .0 .0 .0 .0 .1) (r .0 .0 .0 .0 .1) (r .0 .0 .0 .1) (r .0 .0 .1) (r .0 .1) (r .1)
 
 pub body-len-spec : {M : Type 1} → statement M
 body-len-spec =
@@ -67,4 +71,5 @@ body-len-spec =
     returns-9
     returns-10
     returns-11
-    returns-12)
+    returns-12
+    returns-13)

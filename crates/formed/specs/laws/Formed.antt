@@ -19,7 +19,7 @@ use Rattle.change.specs.Change.{lastOf, madeBy, madeAgain, backOf, kindOf, tabl
 use Rattle.change.specs.declared.Tables.{Tables}
 use Rattle.change.specs.declared.Edit.{Edit}
 use Rattle.change.specs.declared.Change.{Change}
-use Rattle.change.specs.declared.Change.the-variants.{Clear, Unclear, SetState, SetRole, SetCaps, SetUser, SetThermal, SetThrottles, Reset, Unreset, SetMask, SetDeadman, SetAreas}
+use Rattle.change.specs.declared.Change.the-variants.{Clear, Unclear, SetState, SetRole, SetCaps, SetUser, SetThermal, SetThrottles, Reset, Unreset, SetMask, SetDeadman, SetAreas, SetTimer}
 use Rattle.formed.specs.Formed.{stateOk, flagOk, roleOk, capsOk, deadmanOk, throttlesOk, areasOk, fieldsOk, thermalOk, nextOk, reasonOk, unused, logOk, logsAbove, logsOk, recordOk, clearedOk, madeOk, unresetOk, changeOk, editOk}
 
 -- ---- a rule that is tested first, and the rest
@@ -267,11 +267,11 @@ last-made next made l ok = go (eqb made 0) (eqb (pendingOf l) 0)
     go false true = unused-made 0 [] unused-nil
     go false false = logs-made next l ok (pendingOf l - 1)
 
--- a clear's place and log are its own; all else is the record's
-pub edit-back-ok : (r : Record) (n : ℕ) (t : Tables) (ch : Change) → Sound r n → (kindOf ch ≡ 0x01 → changeOk t ch ≡ true) → changeOk (tablesFor (kindOf ch) r) (backOf r ch) ≡ true
+-- a clear's place and log are its own, and so is a timer; all else is the record's
+pub edit-back-ok : (r : Record) (n : ℕ) (t : Tables) (ch : Change) → Sound r n → changeOk t ch ≡ true → changeOk (tablesFor (kindOf ch) r) (backOf r ch) ≡ true
 unfolding changeOk tablesFor kindOf backOf unresetOk
-edit-back-ok r n t (Clear place log) s h = h refl
-edit-back-ok r n t (Unclear place log) s h = h refl
+edit-back-ok r n t (Clear place log) s h = h
+edit-back-ok r n t (Unclear place log) s h = h
 edit-back-ok r n t (SetState state) s h = s .state
 edit-back-ok r n t (SetRole got role) s h = s .role
 edit-back-ok r n t (SetCaps got caps) s h = s .caps
@@ -283,8 +283,9 @@ edit-back-ok r n t (Unreset state made) s h = last-made n made (r .logs) (s .log
 edit-back-ok r n t (SetMask mask) s h = refl
 edit-back-ok r n t (SetDeadman deadman) s h = s .deadman
 edit-back-ok r n t (SetAreas areas) s h = s .areas
+edit-back-ok r n t (SetTimer timer) s h = h
 
 -- so an entry of the journal passes, if the change that it takes back did
 pub inverse-ok : (r : Record) (n : ℕ) (e : Edit) → Sound r n → editOk e ≡ true → editOk (inverseOf r e) ≡ true
 unfolding editOk inverseOf
-inverse-ok r n e s h = edit-back-ok r n (e .tables) (e .change) s (λ k. h)
+inverse-ok r n e s h = edit-back-ok r n (e .tables) (e .change) s h

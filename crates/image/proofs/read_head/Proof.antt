@@ -20,11 +20,14 @@ be16-requires-2 c κs = search needs
 be16-requires-3 : tie.Need-be16-requires-3
 be16-requires-3 c κs = search needs
 
+timer-in-requires : tie.Need-timer-in-requires
+timer-in-requires c κs = search needs
+
 returns : tie.Need-returns
 unfolding headIn
 returns c = (
-  λ i. record { held = (c .before .before .before .before .record-in .ensures) i; worked = (c .before .before .before .worked-in .ensures) i; next = (c .before .before .be16 .ensures) i; used = (c .before .be162 .ensures) i; ahead = (c .be163 .ensures) i },
-  bytes-of (c .before .before .before .before .before .before .args .b .now) (λ i. omega (arith, c .before .before .before .before .before .shared-slice-known .given i)),
+  λ i. record { held = (c .before .before .before .before .before .record-in .ensures) i; worked = (c .before .before .before .before .worked-in .ensures) i; next = (c .before .before .before .be16 .ensures) i; used = (c .before .before .be162 .ensures) i; ahead = (c .before .be163 .ensures) i; timer = (c .timer-in .ensures) i },
+  bytes-of (c .before .before .before .before .before .before .before .args .b .now) (λ i. omega (arith, c .before .before .before .before .before .before .shared-slice-known .given i)),
 )
 
 pub read-head-spec : {M : Type 1} → statement M
@@ -36,4 +39,5 @@ read-head-spec =
     be16-requires
     be16-requires-2
     be16-requires-3
+    timer-in-requires
     returns)

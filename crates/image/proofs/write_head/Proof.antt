@@ -15,11 +15,14 @@ cast-put-be c = search needs
 put-be-requires : tie.Need-put-be-requires
 put-be-requires c κs = search needs
 
+put-timer-requires : tie.Need-put-timer-requires
+put-timer-requires c κs = search needs
+
 same-length : tie.Need-same-length
 same-length c = search needs
 
 returns : tie.Need-returns
-returns c = head-stands (c .before .before .before .before .before .before .before .before .before .before .before .before .before .before .before .before .args .d .now) (c .before .before .before .before .before .before .before .before .before .before .before .before .before .before .before .before .pre) _ _ _ _ (c .before .before .before .before .before .before .before .before .before .before .before .put-record .ensures .1) (c .before .before .before .before .before .before .before .before .before .before .before .put-record .ensures .0) (c .before .before .before .before .before .before .before .put-worked .ensures) (c .before .before .put-be .ensures)
+returns c = head-stands (c .before .before .before .before .before .before .before .before .before .before .before .before .before .before .before .before .before .before .before .before .before .args .d .now) (c .before .before .before .before .before .before .before .before .before .before .before .before .before .before .before .before .before .before .before .before .before .pre) _ _ _ _ _ (c .before .before .before .before .before .before .before .before .before .before .before .before .before .before .before .put-record .ensures .1) (c .before .before .before .before .before .before .before .before .before .before .before .before .before .before .before .put-record .ensures .0) (c .before .before .before .before .before .before .before .before .before .before .before .put-worked .ensures) (c .before .before .before .before .before .before .put-be .ensures) (c .before .before .put-timer .ensures)
 
 pub write-head-spec : {M : Type 1} → statement M
 write-head-spec =
@@ -29,5 +32,6 @@ write-head-spec =
     put-worked-requires
     cast-put-be
     put-be-requires
+    put-timer-requires
     same-length
     returns)

@@ -16,7 +16,7 @@ use Rattle.session.specs.declared.Session.{Session}
 use Rattle.links.specs.Typed.{TypedSession}
 use Rattle.image.specs.Rows.{widthsOf, rowsFrom}
 use Rattle.image.specs.laws.Rows.{length-joined, rows-joined, joined-rows}
-use Rattle.image.specs.Image.{byte, headRows, throttlesRows, thermalRows, logsRows, mailboxRows, workedRows, recordRows, sessionRows, imageOf, byteAt, partAt, numberAt, capsIn, throttlesIn, receivedIn, logAt, logsIn, deadmanIn, areasIn, recordIn, workedIn, headIn, sessionIn, sessionOf}
+use Rattle.image.specs.Image.{byte, headRows, throttlesRows, thermalRows, logsRows, mailboxRows, workedRows, recordRows, sessionRows, imageOf, byteAt, partAt, numberAt, capsIn, throttlesIn, receivedIn, logAt, logsIn, deadmanIn, areasIn, recordIn, workedIn, timerRows, timerIn, headIn, sessionIn, sessionOf}
 use Rattle.layout.specs.Layout.{storeSize, laterWidths, imageLength}
 
 -- what the types of the fields say of a session; every value has it
@@ -38,10 +38,10 @@ widths-record r sets thermal = λ i.
     1 ∷ 1 ∷ 2 ∷ 2 ∷ 2 ∷ 2 ∷ sets i ∷ 2 ∷ thermal i ∷ 1 ∷ 1 ∷ 1 ∷ 1 ∷ 1 ∷ 1 ∷ 1 ∷ 1 ∷ 1 ∷ 1 ∷ 1 ∷ 1 ∷ 4 ∷ 1 ∷ 8 ∷ 8 ∷ 4 ∷ 8 ∷ 4 ∷ []
 
 widths-session : (s : Session) → TypedSession s → widthsOf (sessionRows s) ≡ widths
-unfolding widthsOf widths sessionRows recordRows headRows throttlesRows thermalRows logsRows mailboxRows workedRows toBE
-widths-session s t = λ i. widths-record (s .held) (t .held .sets) (t .held .thermal) i ++ (2 ∷ 1 ∷ 1 ∷ 1 ∷ 2 ∷ 2 ∷ t .journal i ∷ 2 ∷ t .redo i ∷ t .marks i ∷ [])
+unfolding widthsOf widths sessionRows recordRows headRows throttlesRows thermalRows logsRows mailboxRows workedRows timerRows toBE
+widths-session s t = λ i. widths-record (s .held) (t .held .sets) (t .held .thermal) i ++ (2 ∷ 1 ∷ 1 ∷ 1 ∷ 2 ∷ 2 ∷ t .journal i ∷ 2 ∷ t .redo i ∷ t .marks i ∷ 1 ∷ 8 ∷ [])
 
--- an image has 4,401 bytes
+-- an image has 4,410 bytes
 pub length-image : (s : Session) → TypedSession s → length (imageOf s) ≡ imageLength
 unfolding imageOf recordWidths widths sumOf
 length-image s t = length-joined (sessionRows s) ∙ ap sumOf (widths-session s t)
@@ -125,7 +125,7 @@ module _ (s : Session) (t : Typed s) where
       }
 
   pub session-image : sessionOf (imageOf s) ≡ s
-  unfolding sessionOf sessionIn headIn rowsFrom recordWidths widths sessionRows recordRows headRows throttlesRows thermalRows logsRows mailboxRows workedRows
+  unfolding sessionOf sessionIn headIn timerIn timerRows rowsFrom recordWidths widths sessionRows recordRows headRows throttlesRows thermalRows logsRows mailboxRows workedRows
   session-image = λ i.
       record {
         held = record-image i;
@@ -136,6 +136,7 @@ module _ (s : Session) (t : Typed s) where
         ahead = number-back 2 2287 _ (imageOf s) (row 35) (t .session .ahead) i;
         redo = row 36 i;
         marks = row 37 i;
+        timer = record { running = byte-back 4401 _ (imageOf s) (row 38) i; left = number-back 8 4402 _ (imageOf s) (row 39) (t .session .timer) i };
       }
 
 -- ---- writing what was read gives the bytes
@@ -151,7 +152,7 @@ module _ (b : List ℕ) (bytes : Bytes b) (long : length b ≡ imageLength) wher
       ap (λ (k : ℕ). toBE k (numberAt n at b)) (sym m) ∙ toBE-be (partAt n at b) (bytes-take n (drop at b) (bytes-drop at b bytes))
 
   rows-session : sessionRows (sessionOf b) ≡ rowsFrom 0 widths b
-  unfolding sessionOf sessionIn headIn recordIn capsIn throttlesIn receivedIn logAt logsIn deadmanIn areasIn workedIn rowsFrom recordWidths widths sessionRows recordRows headRows throttlesRows thermalRows logsRows mailboxRows workedRows
+  unfolding sessionOf sessionIn headIn timerIn timerRows recordIn capsIn throttlesIn receivedIn logAt logsIn deadmanIn areasIn workedIn rowsFrom recordWidths widths sessionRows recordRows headRows throttlesRows thermalRows logsRows mailboxRows workedRows
   rows-session = λ i.
       one 0 (lit< tt) i
       ∷ one 1 (lit< tt) i
@@ -191,6 +192,8 @@ module _ (b : List ℕ) (bytes : Bytes b) (long : length b ≡ imageLength) wher
       ∷ number 2 2287 (lit< tt) i
       ∷ partAt 2048 2289 b
       ∷ partAt 64 4337 b
+      ∷ one 4401 (lit< tt) i
+      ∷ number 8 4402 (lit< tt) i
       ∷ []
 
   pub image-session : imageOf (sessionOf b) ≡ b

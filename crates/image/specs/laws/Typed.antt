@@ -10,7 +10,7 @@ use Rattle.wire.specs.Wire.{Bytes}
 use Rattle.wire.specs.laws.Wire.{be-fits, bytes-take, bytes-drop}
 use Rattle.links.specs.Typed.{TypedRecord}
 use Rattle.layout.specs.Layout.{imageLength}
-use Rattle.image.specs.Image.{partAt, numberAt, capsIn, throttlesIn, logsIn, deadmanIn, areasIn, recordIn, workedIn, headIn, sessionIn, sessionOf}
+use Rattle.image.specs.Image.{partAt, numberAt, capsIn, throttlesIn, logsIn, deadmanIn, areasIn, recordIn, workedIn, timerIn, headIn, sessionIn, sessionOf}
 use Rattle.image.specs.laws.Image.{Typed}
 
 module _ (b : List ℕ) (bytes : Bytes b) (long : length b ≡ imageLength) where
@@ -36,7 +36,7 @@ module _ (b : List ℕ) (bytes : Bytes b) (long : length b ≡ imageLength) wher
   }
 
   pub typed-image : Typed (sessionOf b)
-  unfolding sessionOf sessionIn headIn workedIn
+  unfolding sessionOf sessionIn headIn workedIn timerIn
   typed-image = record {
     session = record {
       held = record-typed;
@@ -46,6 +46,7 @@ module _ (b : List ℕ) (bytes : Bytes b) (long : length b ≡ imageLength) wher
       redo = part-long 2048 2289 (lit< tt);
       ahead = fits 2 2287 (lit< tt);
       marks = part-long 64 4337 (lit< tt);
+      timer = fits 8 4402 (lit< tt);
     };
     limit = fits 2 230 (lit< tt);
   }

@@ -13,12 +13,21 @@ returns : tie.Need-returns
 unfolding wellFormed sessionIn
 returns c = if-not _ _ (c .before .held-ok .ensures) (c .if1 .taken) refl
 
-stores-ok-requires : tie.Need-stores-ok-requires
-stores-ok-requires c κs = search needs
+timer-ok-requires : tie.Need-timer-ok-requires
+timer-ok-requires c κs = search needs
 
 returns-2 : tie.Need-returns-2
 unfolding wellFormed sessionIn
-returns-2 c = else-not _ _ (c .before .before .held-ok .ensures) (c .before .if1 .left) (c .stores-ok .ensures)
+returns-2 c = else-not _ _ (c .before .before .before .held-ok .ensures) (c .before .before .if1 .left) (if-not _ _ (c .before .timer-ok .ensures) (c .if2 .taken) refl)
+
+stores-ok-requires : tie.Need-stores-ok-requires
+stores-ok-requires c κs = search needs
+
+returns-3 : tie.Need-returns-3
+unfolding wellFormed sessionIn
+returns-3 c = else-not _ _ (c .before .before .before .before .held-ok .ensures) (c .before .before .before .if1 .left) (else-not _ _ (c .before .before .timer-ok .ensures) (c .before .if2 .left) (c .stores-ok .ensures))
 
 pub well-formed-spec : {M : Type 1} → statement M
-well-formed-spec = tie.close (tie.spec held-ok-requires returns stores-ok-requires returns-2)
+well-formed-spec =
+    tie.close
+    (tie.spec held-ok-requires returns timer-ok-requires returns-2 stores-ok-requires returns-3)

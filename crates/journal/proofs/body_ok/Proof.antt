@@ -4,7 +4,7 @@ use native.Mathlib.Omega.{arith}
 use lib.ListN.{getD}
 use Rattle.wire.specs.laws.Cases.{else-eq}
 use Rattle.entries.specs.Entries.{bodyLen}
-use Rattle.formed.specs.Formed.{capsOk, thermalOk, throttlesOk, deadmanOk, areasOk, changeOk}
+use Rattle.formed.specs.Formed.{capsOk, thermalOk, throttlesOk, deadmanOk, areasOk, timerOk, changeOk}
 use Rattle.journal.specs.Read.{foundFor, tablesIn, valuesOk, entryOk}
 use Rattle.journal.proofs.Parts.{room-for, ok-by, ok-bad, cleared-either, reset-either}
 use borrow.Author.Needs.{needs}
@@ -110,6 +110,17 @@ area-at-requires-2 c κs = omega (arith, room-for _ 11 _ (c .before .match .keys
 areas-ok-requires : tie.Need-areas-ok-requires
 areas-ok-requires c κs = search needs
 
+shared-slice-read-t39 : tie.Need-shared-slice-read-t39
+unfolding bodyLen
+shared-slice-read-t39 c = omega (arith, room-for _ 12 _ (c .before .match .keys12) (c .before .before .before .pre))
+
+be64-requires-2 : tie.Need-be64-requires-2
+unfolding bodyLen
+be64-requires-2 c κs = omega (arith, room-for _ 12 _ (c .before .match .keys12) (c .before .before .before .pre))
+
+timer-ok-requires : tie.Need-timer-ok-requires
+timer-ok-requires c κs = search needs
+
 returns : tie.Need-returns
 unfolding entryOk valuesOk changeOk foundFor tablesIn
 returns c = let a = c .before .before .before .before .before .before .args in ok-by (a .way) (a .kind) 1 (a .b .now) _ (c .before .before .before .before .match .keys1) (c .cleared-ok .ensures ∙ cleared-either (a .way) _ _ _)
@@ -155,8 +166,12 @@ unfolding entryOk valuesOk changeOk foundFor tablesIn
 returns-11 c = let a = c .before .before .before .before .before .args in ok-by (a .way) (a .kind) 11 (a .b .now) _ (c .before .before .before .match .keys11) (c .areas-ok .ensures ∙ (λ i. areasOk (record { ffdc = c .before .before .area-at .ensures i; pass = c .before .area-at2 .ensures i })))
 
 returns-12 : tie.Need-returns-12
+unfolding entryOk valuesOk changeOk foundFor tablesIn
+returns-12 c = let a = c .before .before .before .before .before .args in ok-by (a .way) (a .kind) 12 (a .b .now) _ (c .before .before .before .match .keys12) (c .timer-ok .ensures ∙ ap (λ (n : ℕ). timerOk (record { running = getD (a .b .now) 0 0; left = n })) (c .before .be642 .ensures))
+
+returns-13 : tie.Need-returns-13
 unfolding entryOk foundFor
-returns-12 c = let a = c .before .before .args in let r = c .match .rest in ok-bad (tablesIn (a .kind) (a .b .now)) (foundFor (a .way) (a .kind) (a .b .now)) (else-eq _ _ (r .0 .0 .0 .0 .0 .0 .0 .0 .0 .0 .1) (else-eq _ _ (r .0 .0 .0 .0 .0 .0 .0 .0 .0 .1) (else-eq _ _ (r .0 .0 .0 .0 .0 .0 .0 .0 .1) (else-eq _ _ (r .0 .0 .0 .0 .0 .0 .0 .1) (else-eq _ _ (r .0 .0 .0 .0 .0 .0 .1) (else-eq _ _ (r .0 .0 .0 .0 .0 .1) (else-eq _ _ (r .0 .0 .0 .0 .1) (else-eq _ _ (r .0 .0 .0 .1) (else-eq _ _ (r .0 .0 .1) (else-eq _ _ (r .0 .1) (else-eq _ _ (r .1) refl)))))))))))
+returns-13 c = let a = c .before .before .args in let r = c .match .rest in ok-bad (tablesIn (a .kind) (a .b .now)) (foundFor (a .way) (a .kind) (a .b .now)) (else-eq _ _ (r .0 .0 .0 .0 .0 .0 .0 .0 .0 .0 .0 .1) (else-eq _ _ (r .0 .0 .0 .0 .0 .0 .0 .0 .0 .0 .1) (else-eq _ _ (r .0 .0 .0 .0 .0 .0 .0 .0 .0 .1) (else-eq _ _ (r .0 .0 .0 .0 .0 .0 .0 .0 .1) (else-eq _ _ (r .0 .0 .0 .0 .0 .0 .0 .1) (else-eq _ _ (r .0 .0 .0 .0 .0 .0 .1) (else-eq _ _ (r .0 .0 .0 .0 .0 .1) (else-eq _ _ (r .0 .0 .0 .0 .1) (else-eq _ _ (r .0 .0 .0 .1) (else-eq _ _ (r .0 .0 .1) (else-eq _ _ (r .0 .1) (else-eq _ _ (r .1) refl))))))))))))
 
 pub body-ok-spec : {M : Type 1} → statement M
 body-ok-spec =
@@ -189,6 +204,9 @@ body-ok-spec =
     area-at-requires
     area-at-requires-2
     areas-ok-requires
+    shared-slice-read-t39
+    be64-requires-2
+    timer-ok-requires
     returns
     returns-2
     returns-3
@@ -200,4 +218,5 @@ body-ok-spec =
     returns-9
     returns-10
     returns-11
-    returns-12)
+    returns-12
+    returns-13)

@@ -1,5 +1,5 @@
 use Rattle.record.specs.declared.Caps.{Caps}
-use Rattle.change.specs.declared.Change.the-variants.{SetCaps, SetUser, SetMask, SetDeadman, SetAreas}
+use Rattle.change.specs.declared.Change.the-variants.{SetCaps, SetUser, SetMask, SetDeadman, SetAreas, SetTimer}
 use Rattle.journal.specs.declared.Found.the-variants.{Good}
 use Rattle.wire.specs.laws.Cases.{else-eq}
 use Rattle.journal.proofs.Parts.{room-for, found-by}
@@ -91,6 +91,14 @@ area-at-requires-2 : tie.Need-area-at-requires-2
 unfolding bodyLen
 area-at-requires-2 c κs = omega (arith, room-for _ 11 _ (c .before .match .keys11) (c .before .before .before .pre))
 
+shared-slice-read-t50 : tie.Need-shared-slice-read-t50
+unfolding bodyLen
+shared-slice-read-t50 c = omega (arith, room-for _ 12 _ (c .before .match .keys12) (c .before .before .before .pre))
+
+be64-requires-2 : tie.Need-be64-requires-2
+unfolding bodyLen
+be64-requires-2 c κs = omega (arith, room-for _ 12 _ (c .before .match .keys12) (c .before .before .before .pre))
+
 returns : tie.Need-returns
 unfolding foundFor
 returns c = let a = c .before .before .before .before .before .before .args in found-by (a .way) (a .kind) 1 (a .b .now) _ (c .before .before .before .before .match .keys1) (ap Good (c .cleared-as .ensures))
@@ -137,7 +145,11 @@ returns-11 c = let a = c .before .before .before .before .args in found-by (a .w
 
 returns-12 : tie.Need-returns-12
 unfolding foundFor
-returns-12 c = let r = c .match .rest in else-eq _ _ (r .0 .0 .0 .0 .0 .0 .0 .0 .0 .0 .1) (else-eq _ _ (r .0 .0 .0 .0 .0 .0 .0 .0 .0 .1) (else-eq _ _ (r .0 .0 .0 .0 .0 .0 .0 .0 .1) (else-eq _ _ (r .0 .0 .0 .0 .0 .0 .0 .1) (else-eq _ _ (r .0 .0 .0 .0 .0 .0 .1) (else-eq _ _ (r .0 .0 .0 .0 .0 .1) (else-eq _ _ (r .0 .0 .0 .0 .1) (else-eq _ _ (r .0 .0 .0 .1) (else-eq _ _ (r .0 .0 .1) (else-eq _ _ (r .0 .1) (else-eq _ _ (r .1) refl))))))))))
+returns-12 c = let a = c .before .before .before .before .args in found-by (a .way) (a .kind) 12 (a .b .now) _ (c .before .before .match .keys12) (ap (λ (n : ℕ). Good (SetTimer (record { running = getD (a .b .now) 0 0; left = n }))) (c .be642 .ensures))
+
+returns-13 : tie.Need-returns-13
+unfolding foundFor
+returns-13 c = let r = c .match .rest in else-eq _ _ (r .0 .0 .0 .0 .0 .0 .0 .0 .0 .0 .0 .1) (else-eq _ _ (r .0 .0 .0 .0 .0 .0 .0 .0 .0 .0 .1) (else-eq _ _ (r .0 .0 .0 .0 .0 .0 .0 .0 .0 .1) (else-eq _ _ (r .0 .0 .0 .0 .0 .0 .0 .0 .1) (else-eq _ _ (r .0 .0 .0 .0 .0 .0 .0 .1) (else-eq _ _ (r .0 .0 .0 .0 .0 .0 .1) (else-eq _ _ (r .0 .0 .0 .0 .0 .1) (else-eq _ _ (r .0 .0 .0 .0 .1) (else-eq _ _ (r .0 .0 .0 .1) (else-eq _ _ (r .0 .0 .1) (else-eq _ _ (r .0 .1) (else-eq _ _ (r .1) refl)))))))))))
 
 pub found-for-spec : {M : Type 1} → statement M
 found-for-spec =
@@ -163,6 +175,8 @@ found-for-spec =
     be64-requires
     area-at-requires
     area-at-requires-2
+    shared-slice-read-t50
+    be64-requires-2
     returns
     returns-2
     returns-3
@@ -174,4 +188,5 @@ found-for-spec =
     returns-9
     returns-10
     returns-11
-    returns-12)
+    returns-12
+    returns-13)

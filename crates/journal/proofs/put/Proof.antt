@@ -28,9 +28,9 @@ put-throttles-requires c κs = omega (arith, put-room (c .before .before .before
 enum-known-change-3 : tie.Need-enum-known-change-3
 enum-known-change-3 c = search needs
 
-put-deadman-requires : tie.Need-put-deadman-requires
+put-clock-requires : tie.Need-put-clock-requires
 unfolding bodyLen kindOf
-put-deadman-requires c κs = omega (arith, put-room (c .before .before .before .before .before .before .before .before .before .args .e) _ _ (c .before .before .change3 .given .1) (c .before .before .before .before .before .before .before .before .before .pre))
+put-clock-requires c κs = omega (arith, put-room (c .before .before .before .before .before .before .before .before .before .args .e) _ _ (c .before .before .change3 .given .1) (c .before .before .before .before .before .before .before .before .before .pre))
 
 enum-known-change-4 : tie.Need-enum-known-change-4
 enum-known-change-4 c = search needs
@@ -38,6 +38,13 @@ enum-known-change-4 c = search needs
 put-areas-requires : tie.Need-put-areas-requires
 unfolding bodyLen kindOf
 put-areas-requires c κs = omega (arith, put-room (c .before .before .before .before .before .before .before .before .before .args .e) _ _ (c .before .before .change4 .given .1) (c .before .before .before .before .before .before .before .before .before .pre))
+
+enum-known-change-5 : tie.Need-enum-known-change-5
+enum-known-change-5 c = search needs
+
+put-clock-requires-2 : tie.Need-put-clock-requires-2
+unfolding bodyLen kindOf
+put-clock-requires-2 c κs = omega (arith, put-room (c .before .before .before .before .before .before .before .before .before .args .e) _ _ (c .before .before .change5 .given .1) (c .before .before .before .before .before .before .before .before .before .pre))
 
 body-len-requires : tie.Need-body-len-requires
 body-len-requires c κs = search needs
@@ -67,7 +74,7 @@ same-length-3 c = search needs
 
 returns-3 : tie.Need-returns-3
 unfolding bodyOf kindOf
-returns-3 c = put-by (c .before .before .before .before .before .before .before .before .before .before .before .before .args .e) _ (c .before .before .before .before .before .before .before .before .before .before .before .before .args .d .now) _ (c .before .before .before .before .before .change3 .given .1) (c .before .before .put-deadman .ensures)
+returns-3 c = put-by (c .before .before .before .before .before .before .before .before .before .before .before .before .args .e) _ (c .before .before .before .before .before .before .before .before .before .before .before .before .args .d .now) _ (c .before .before .before .before .before .change3 .given .1) (c .before .before .put-clock .ensures)
 
 same-length-4 : tie.Need-same-length-4
 same-length-4 c = search needs
@@ -80,7 +87,14 @@ same-length-5 : tie.Need-same-length-5
 same-length-5 c = search needs
 
 returns-5 : tie.Need-returns-5
-returns-5 c = number-is (c .before .before .before .before .before .before .before .before .before .before .before .before .args .e) (c .before .before .before .before .before .before .before .before .before .before .before .before .args .d .now) _ _ (c .before .before .before .before .before .before .before .kind .ensures) (c .before .before .before .before .body-len .ensures) _ _ (c .before .before .before .before .before .before .match .keys5) (c .before .before .before .small .ensures) (c .before .before .put-number .ensures)
+unfolding bodyOf kindOf
+returns-5 c = put-by (c .before .before .before .before .before .before .before .before .before .before .before .before .args .e) _ (c .before .before .before .before .before .before .before .before .before .before .before .before .args .d .now) _ (c .before .before .before .before .before .change5 .given .1) (c .before .before .put-clock2 .ensures)
+
+same-length-6 : tie.Need-same-length-6
+same-length-6 c = search needs
+
+returns-6 : tie.Need-returns-6
+returns-6 c = number-is (c .before .before .before .before .before .before .before .before .before .before .before .before .args .e) (c .before .before .before .before .before .before .before .before .before .before .before .before .args .d .now) _ _ (c .before .before .before .before .before .before .before .kind .ensures) (c .before .before .before .before .body-len .ensures) _ _ (c .before .before .before .before .before .before .match .keys6) (c .before .before .before .small .ensures) (c .before .before .put-number .ensures)
 
 pub put-spec : {M : Type 1} → statement M
 put-spec =
@@ -92,9 +106,11 @@ put-spec =
     enum-known-change-2
     put-throttles-requires
     enum-known-change-3
-    put-deadman-requires
+    put-clock-requires
     enum-known-change-4
     put-areas-requires
+    enum-known-change-5
+    put-clock-requires-2
     body-len-requires
     small-requires
     put-number-requires
@@ -107,4 +123,6 @@ put-spec =
     same-length-4
     returns-4
     same-length-5
-    returns-5)
+    returns-5
+    same-length-6
+    returns-6)

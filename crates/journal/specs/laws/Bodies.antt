@@ -15,11 +15,11 @@ use Rattle.record.specs.declared.Area.{Area}
 use Rattle.record.specs.declared.Throttles.{Throttles}
 use Rattle.change.specs.Change.{kindOf, noTables}
 use Rattle.change.specs.declared.Change.{Change}
-use Rattle.change.specs.declared.Change.the-variants.{Clear, Unclear, SetState, SetRole, SetCaps, SetUser, SetThermal, SetThrottles, Reset, Unreset, SetMask, SetDeadman, SetAreas}
+use Rattle.change.specs.declared.Change.the-variants.{Clear, Unclear, SetState, SetRole, SetCaps, SetUser, SetThermal, SetThrottles, Reset, Unreset, SetMask, SetDeadman, SetAreas, SetTimer}
 use Rattle.change.specs.declared.Tables.{Tables}
 use Rattle.entries.specs.Entries.{bodyLen}
 use Rattle.journal.specs.declared.Found.the-variants.{Good}
-use Rattle.journal.specs.Bytes.{clearedBody, capsBody, throttlesBody, deadmanBody, areaBytes, areasBody, bodyOf}
+use Rattle.journal.specs.Bytes.{clearedBody, capsBody, throttlesBody, clockBody, areaBytes, areasBody, bodyOf}
 use Rattle.journal.specs.declared.Way.{Way}
 use Rattle.journal.specs.declared.Way.the-variants.{Before, After}
 use Rattle.journal.specs.Read.{capsAt, areaAt, throttlesFrom, clearedAs, resetAs, foundFor, tablesIn}
@@ -41,6 +41,7 @@ Writable w t (Unreset state made) = (w ≡ Before) × (t ≡ noTables)
 Writable w t (SetMask mask) = (mask < 256 ^ 4) × (t ≡ noTables)
 Writable w t (SetDeadman deadman) = (deadman .time < 256 ^ 8) × (t ≡ noTables)
 Writable w t (SetAreas areas) = AreaFits (areas .ffdc) × AreaFits (areas .pass) × (t ≡ noTables)
+Writable w t (SetTimer timer) = (timer .left < 256 ^ 8) × (t ≡ noTables)
 
 -- ---- a body is as long as its kind says, one byte at least, where the tables are as long as theirs
 
@@ -48,7 +49,7 @@ abbrev Lengths : Tables → Change → Type 0
 Lengths t ch = (length (bodyOf t ch) ≡ bodyLen (kindOf ch)) × (1 ≤ bodyLen (kindOf ch))
 
 pub lengths : (t : Tables) (ch : Change) → length (t .thermal) ≡ 9 → length (t .throttles .sets) ≡ 160 → Lengths t ch
-unfolding bodyOf kindOf bodyLen clearedBody capsBody throttlesBody deadmanBody areaBytes areasBody toBE
+unfolding bodyOf kindOf bodyLen clearedBody capsBody throttlesBody clockBody areaBytes areasBody toBE
 lengths t (Clear place log) n m = (refl, lit< tt)
 lengths t (Unclear place log) n m = (refl, lit< tt)
 lengths t (SetState state) n m = (refl, lit< tt)
@@ -62,6 +63,7 @@ lengths t (Unreset state made) n m = (refl, lit< tt)
 lengths t (SetMask mask) n m = (refl, lit< tt)
 lengths t (SetDeadman deadman) n m = (refl, lit< tt)
 lengths t (SetAreas areas) n m = (refl, lit< tt)
+lengths t (SetTimer timer) n m = (refl, lit< tt)
 
 no-tables : (t : Tables) (ch : Change) → t ≡ noTables → Lengths t ch
 no-tables t ch e = lengths t ch (ap (λ (x : Tables). length (x .thermal)) e) (ap (λ (x : Tables). length (x .throttles .sets)) e)
@@ -80,6 +82,7 @@ written-lengths w t (Unreset state made) h = no-tables t _ (h .1)
 written-lengths w t (SetMask mask) h = no-tables t _ (h .1)
 written-lengths w t (SetDeadman deadman) h = no-tables t _ (h .1)
 written-lengths w t (SetAreas areas) h = no-tables t _ (h .2)
+written-lengths w t (SetTimer timer) h = no-tables t _ (h .1)
 
 pub length-body : (w : Way) (t : Tables) (ch : Change) → Writable w t ch → length (bodyOf t ch) ≡ bodyLen (kindOf ch)
 length-body w t ch h = written-lengths w t ch h .0
@@ -119,7 +122,7 @@ areas-back-pass a b f = λ i. record {
 }
 
 pub found-body : (w : Way) (t : Tables) (ch : Change) → Writable w t ch → foundFor w (kindOf ch) (bodyOf t ch) ≡ Good ch
-unfolding foundFor clearedAs resetAs kindOf bodyOf clearedBody capsBody throttlesBody deadmanBody areasBody
+unfolding foundFor clearedAs resetAs kindOf bodyOf clearedBody capsBody throttlesBody clockBody areasBody
 found-body w t (Clear place log) h = ap (λ (v : Way). foundFor v 0x01 (bodyOf t (Clear place log))) (h .0)
 found-body w t (Unclear place log) h = ap (λ (v : Way). foundFor v 0x01 (bodyOf t (Unclear place log))) (h .0)
 found-body w t (SetState state) h = refl
@@ -135,6 +138,8 @@ found-body w t (SetDeadman deadman) h =
     ap (λ (n : ℕ). Good (SetDeadman (record { running = deadman .running; time = n }))) (last-back 8 (deadman .time) (h .0))
 found-body w t (SetAreas areas) h = λ i.
     Good (SetAreas (record { ffdc = areas-back-ffdc (areas .ffdc) (areas .pass) (h .0) i; pass = areas-back-pass (areas .ffdc) (areas .pass) (h .1) i }))
+found-body w t (SetTimer timer) h =
+    ap (λ (n : ℕ). Good (SetTimer (record { running = timer .running; left = n }))) (last-back 8 (timer .left) (h .0))
 
 throttles-back : (t : Tables) (got : ℕ) → t .throttles .present < 256 ^ 2 → length (t .throttles .sets) ≡ 160 → throttlesFrom (throttlesBody got (t .throttles)) ≡ t .throttles
 unfolding throttlesFrom throttlesBody toBE
@@ -158,3 +163,4 @@ tables-body w t (Unreset state made) h = sym (h .1)
 tables-body w t (SetMask mask) h = sym (h .1)
 tables-body w t (SetDeadman deadman) h = sym (h .1)
 tables-body w t (SetAreas areas) h = sym (h .2)
+tables-body w t (SetTimer timer) h = sym (h .1)

@@ -11,7 +11,7 @@ use Rattle.wire.specs.laws.Cases.{cond-cases}
 use Rattle.record.specs.declared.Log.{Log}
 use Rattle.change.specs.Change.{kindOf}
 use Rattle.change.specs.declared.Change.{Change}
-use Rattle.change.specs.declared.Change.the-variants.{Clear, Unclear, SetState, SetRole, SetCaps, SetUser, SetThermal, SetThrottles, Reset, Unreset, SetMask, SetDeadman, SetAreas}
+use Rattle.change.specs.declared.Change.the-variants.{Clear, Unclear, SetState, SetRole, SetCaps, SetUser, SetThermal, SetThrottles, Reset, Unreset, SetMask, SetDeadman, SetAreas, SetTimer}
 use Rattle.entries.specs.Entries.{bodyLen}
 use Rattle.journal.specs.declared.Found.{Found}
 use Rattle.journal.specs.declared.Found.the-variants.{Good, Bad}
@@ -35,6 +35,7 @@ Holds w (Unreset state made) = w ≡ Before
 Holds w (SetMask mask) = Unit {0}
 Holds w (SetDeadman deadman) = Unit {0}
 Holds w (SetAreas areas) = Unit {0}
+Holds w (SetTimer timer) = Unit {0}
 
 abbrev pub Says : Way → ℕ → Found → Type 0
 Says w k (Good ch) = (kindOf ch ≡ k) × Holds w ch
@@ -63,7 +64,8 @@ found-says w k b =
     (λ f. cond-cases (Says w k) (eqb k 0x08) (λ t. reset-says w k _ _ (eqb-true k 0x08 t))
     (λ f. cond-cases (Says w k) (eqb k 0x09) (λ t. (sym (eqb-true k 0x09 t), tt))
     (λ f. cond-cases (Says w k) (eqb k 0x0A) (λ t. (sym (eqb-true k 0x0A t), tt))
-    (λ f. cond-cases (Says w k) (eqb k 0x0B) (λ t. (sym (eqb-true k 0x0B t), tt)) (λ f. tt)))))))))))
+    (λ f. cond-cases (Says w k) (eqb k 0x0B) (λ t. (sym (eqb-true k 0x0B t), tt))
+    (λ f. cond-cases (Says w k) (eqb k 0x0C) (λ t. (sym (eqb-true k 0x0C t), tt)) (λ f. tt))))))))))))
 
 -- bytes that were got as a change: they are as long as its entry
 abbrev pub Whole : Way → List ℕ → Found → Type 0

@@ -15,7 +15,7 @@ use Rattle.change.specs.Logs.{pendingOf, removeAt, insertAt, pendsAt}
 use Rattle.change.specs.With.{withState, withRole, withCaps, withThrottles, withUser, withThermal, withLogs, withMask, withDeadman, withAreas}
 use Rattle.change.specs.Change.{accepted, clearOf, unclearOf, resetOf, unresetOf, putWith, backOf, kindOf, tablesFor, madeBy, madeAgain}
 use Rattle.change.specs.declared.Change.{Change}
-use Rattle.change.specs.declared.Change.the-variants.{Clear, Unclear, SetState, SetRole, SetCaps, SetUser, SetThermal, SetThrottles, Reset, Unreset, SetMask, SetDeadman, SetAreas}
+use Rattle.change.specs.declared.Change.the-variants.{Clear, Unclear, SetState, SetRole, SetCaps, SetUser, SetThermal, SetThrottles, Reset, Unreset, SetMask, SetDeadman, SetAreas, SetTimer}
 use Rattle.change.specs.declared.Tables.{Tables}
 use Rattle.change.specs.declared.Changed.{Changed}
 use Rattle.formed.specs.Formed.{stateOk, nextOk, changeOk, logsOk}
@@ -144,3 +144,4 @@ module _ (r : Record) (n : ℕ) (s : Sound r n) (y : TypedRecord r) where
   lands t (SetMask mask) m = landed _ (still (search s)) (search (y, m)) refl refl
   lands t (SetDeadman deadman) m = landed _ (still (search (s, m))) (search (y, m)) refl refl
   lands t (SetAreas areas) m = landed _ (still (search (s, m))) (search (y, m)) refl refl
+  lands t (SetTimer timer) m = landed r (still s) y refl refl

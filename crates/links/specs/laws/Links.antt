@@ -1,5 +1,5 @@
 -- Each change that a command makes is undone by its entry. Assumes nothing.
-use Prim.Native.Nat.{ℕ, _+_, _≤_}
+use Prim.Native.Nat.{ℕ, _+_, _^_, _≤_, _<_}
 use mathlib.Core.Bool.{true}
 use mathlib.Core.Path.{_≡_, refl, sym, ap, subst, _∙_}
 use mathlib.Core.Logic.{⊎-elim}
@@ -8,11 +8,14 @@ use borrow.Author.Tests.{ltb-false}
 use lib.Dec.{ltb, leb}
 use Rattle.wire.specs.laws.Cases.{else-eq}
 use Rattle.record.specs.declared.Log.{Log}
+use Rattle.record.specs.Record.{timerOff}
 use Rattle.record.specs.declared.Record.{Record}
+use Rattle.record.specs.declared.Timer.{Timer}
 use Rattle.change.specs.With.{withThrottles, withThermal}
-use Rattle.change.specs.Change.{accepted, putWith, putOf, backOf, kindOf, tablesFor, inverseOf}
+use Rattle.change.specs.Change.{accepted, putWith, putOf, backOf, kindOf, tablesFor, inverseOf, timedChange, timerAfter}
+use Rattle.change.specs.laws.Timed.{by-timer, timer-kept, timed-other, kind-of-back}
 use Rattle.change.specs.declared.Change.{Change}
-use Rattle.change.specs.declared.Change.the-variants.{Clear, Unclear, SetState, SetRole, SetCaps, SetUser, SetThermal, SetThrottles, Reset, Unreset, SetMask, SetDeadman, SetAreas}
+use Rattle.change.specs.declared.Change.the-variants.{Clear, Unclear, SetState, SetRole, SetCaps, SetUser, SetThermal, SetThrottles, Reset, Unreset, SetMask, SetDeadman, SetAreas, SetTimer}
 use Rattle.change.specs.declared.Tables.{Tables}
 use Rattle.change.specs.declared.Edit.{Edit}
 use Rattle.formed.specs.Formed.{nextOk, logsOk, madeOk, changeOk, recordOk, editOk}
@@ -67,23 +70,39 @@ made-ok r n t (Unreset state made) s m = absurd m
 made-ok r n t (SetMask mask) s m = m .ok
 made-ok r n t (SetDeadman deadman) s m = m .ok
 made-ok r n t (SetAreas areas) s m = m .ok
+made-ok r n t (SetTimer timer) s m = m .ok
 
--- what takes a change back goes into the other store, and has the widths of the record's fields
-pub writable-back : (w : Way) (r : Record) (ch : Change) → TypedRecord r → Holds w ch → Writable (other w) (tablesFor (kindOf ch) r) (backOf r ch)
-unfolding tablesFor kindOf backOf other byWay
-writable-back w r (Clear place log) y h = (ap other h, refl)
-writable-back w r (Unclear place log) y h = (ap other h, refl)
-writable-back w r (SetState state) y h = refl
-writable-back w r (SetRole got role) y h = refl
-writable-back w r (SetCaps got caps) y h = (y .caps, refl)
-writable-back w r (SetUser user) y h = (y .user, refl)
-writable-back w r (SetThermal got) y h = (y .thermal, refl)
-writable-back w r (SetThrottles got) y h = (y .present, y .sets, refl)
-writable-back w r (Reset log) y h = (ap other h, refl)
-writable-back w r (Unreset state made) y h = (ap other h, refl)
-writable-back w r (SetMask mask) y h = (y .mask, refl)
-writable-back w r (SetDeadman deadman) y h = (y .time, refl)
-writable-back w r (SetAreas areas) y h = (y .ffdc, y .pass, refl)
+-- what takes a change back goes into the other store, and has the widths of the record's fields and of the timer's
+pub writable-back : (w : Way) (r : Record) (timer : Timer) (ch : Change) → TypedRecord r → timer .left < 256 ^ 8 → Holds w ch
+    → Writable (other w) (tablesFor (kindOf ch) r) (timedChange timer (backOf r ch))
+unfolding tablesFor kindOf backOf timedChange other byWay
+writable-back w r t (Clear place log) y f h = (ap other h, refl)
+writable-back w r t (Unclear place log) y f h = (ap other h, refl)
+writable-back w r t (SetState state) y f h = refl
+writable-back w r t (SetRole got role) y f h = refl
+writable-back w r t (SetCaps got caps) y f h = (y .caps, refl)
+writable-back w r t (SetUser user) y f h = (y .user, refl)
+writable-back w r t (SetThermal got) y f h = (y .thermal, refl)
+writable-back w r t (SetThrottles got) y f h = (y .present, y .sets, refl)
+writable-back w r t (Reset log) y f h = (ap other h, refl)
+writable-back w r t (Unreset state made) y f h = (ap other h, refl)
+writable-back w r t (SetMask mask) y f h = (y .mask, refl)
+writable-back w r t (SetDeadman deadman) y f h = (y .time, refl)
+writable-back w r t (SetAreas areas) y f h = (y .ffdc, y .pass, refl)
+writable-back w r t (SetTimer timer) y f h = (f, refl)
+
+-- a timer change that is taken back by itself
+own-timer : (r : Record) (ch : Change) → timedChange (timerAfter timerOff ch) (backOf r ch) ≡ backOf r ch
+unfolding timedChange timerAfter backOf kindOf
+own-timer r =
+    by-timer (λ (ch : Change). timedChange (timerAfter timerOff ch) (backOf r ch) ≡ backOf r ch) (λ x. refl)
+    (λ ch n. timed-other (timerAfter timerOff ch) (backOf r ch) (λ z. n (sym (kind-of-back r ch) ∙ z)))
+
+own-fits : (w : Way) (t : Tables) (ch : Change) → Writable w t ch → timerAfter timerOff ch .left < 256 ^ 8
+unfolding timerAfter
+own-fits w t =
+    by-timer (λ (ch : Change). Writable w t ch → timerAfter timerOff ch .left < 256 ^ 8) (λ x h. h .0)
+    (λ ch n h. subst (λ (x : Timer). x .left < 256 ^ 8) (sym (timer-kept timerOff ch n)) (omega arith))
 
 -- and so has the change itself
 writable-made : (r : Record) (n : ℕ) (t : Tables) (ch : Change) → Made r n t ch → Writable After t ch
@@ -100,6 +119,7 @@ writable-made r n t (Unreset state made) m = absurd m
 writable-made r n t (SetMask mask) m = m .fits
 writable-made r n t (SetDeadman deadman) m = m .fits
 writable-made r n t (SetAreas areas) m = m .fits
+writable-made r n t (SetTimer timer) m = m .fits
 
 holds-made : (w : Way) (t : Tables) (ch : Change) → Writable w t ch → Holds w ch
 holds-made w t (Clear place log) h = h .0
@@ -115,6 +135,7 @@ holds-made w t (Unreset state made) h = h .0
 holds-made w t (SetMask mask) h = tt
 holds-made w t (SetDeadman deadman) h = tt
 holds-made w t (SetAreas areas) h = tt
+holds-made w t (SetTimer timer) h = tt
 
 -- the tables beside it are those that the record after it has
 tables-again : (r : Record) (n : ℕ) (t : Tables) (ch : Change) → Made r n t ch → tablesFor (kindOf ch) (putWith r t ch .after) ≡ t
@@ -132,23 +153,7 @@ tables-again r n t (Unreset state made) m = absurd m
 tables-again r n t (SetMask mask) m = sym (m .fits .1)
 tables-again r n t (SetDeadman deadman) m = sym (m .fits .1)
 tables-again r n t (SetAreas areas) m = sym (m .fits .2)
-
--- a change and what takes it back are of one kind
-pub kind-of-back : (r : Record) (ch : Change) → kindOf (backOf r ch) ≡ kindOf ch
-unfolding kindOf backOf
-kind-of-back r (Clear place log) = refl
-kind-of-back r (Unclear place log) = refl
-kind-of-back r (SetState state) = refl
-kind-of-back r (SetRole got role) = refl
-kind-of-back r (SetCaps got caps) = refl
-kind-of-back r (SetUser user) = refl
-kind-of-back r (SetThermal got) = refl
-kind-of-back r (SetThrottles got) = refl
-kind-of-back r (Reset log) = refl
-kind-of-back r (Unreset state made) = refl
-kind-of-back r (SetMask mask) = refl
-kind-of-back r (SetDeadman deadman) = refl
-kind-of-back r (SetAreas areas) = refl
+tables-again r n t (SetTimer timer) m = sym (m .fits .1)
 
 -- ---- all that is known of a change e that is made on the record r with the next id n: its entry holds inverseOf r e, and once it is undone, the
 -- redo store e itself
@@ -173,7 +178,9 @@ link r n e ok y m =
     let s = sound ok in
     let l = lands r n s y (e .tables) (e .change) m in
     let here = writable-made r n (e .tables) (e .change) m in
-    let back : Writable Before (inverseOf r e .tables) (inverseOf r e .change) = writable-back After r (e .change) y (holds-made After (e .tables) (e .change) here) in
+    let back : Writable Before (inverseOf r e .tables) (inverseOf r e .change) =
+    subst (Writable Before (inverseOf r e .tables)) (own-timer r (e .change))
+    (writable-back After r (timerAfter timerOff (e .change)) (e .change) y (own-fits After (e .tables) (e .change) here) (holds-made After (e .tables) (e .change) here)) in
     let ok-here : editOk e ≡ true = made-ok r n (e .tables) (e .change) s m in
     let good : editOk (inverseOf r e) ≡ true = inverse-ok r n e s ok-here in
     let kind = kind-of-back r (e .change) in

@@ -9,7 +9,7 @@ use Rattle.record.specs.declared.Record.{Record}
 use Rattle.change.specs.Logs.{pendingOf, pendsAt}
 use Rattle.change.specs.Change.{noTables}
 use Rattle.change.specs.declared.Change.{Change}
-use Rattle.change.specs.declared.Change.the-variants.{Clear, Unclear, SetState, SetRole, SetCaps, SetUser, SetThermal, SetThrottles, Reset, Unreset, SetMask, SetDeadman, SetAreas}
+use Rattle.change.specs.declared.Change.the-variants.{Clear, Unclear, SetState, SetRole, SetCaps, SetUser, SetThermal, SetThrottles, Reset, Unreset, SetMask, SetDeadman, SetAreas, SetTimer}
 use Rattle.change.specs.declared.Tables.{Tables}
 use Rattle.formed.specs.Formed.{reasonOk, changeOk}
 use Rattle.journal.specs.laws.Bodies.{Writable}
@@ -43,3 +43,4 @@ Made r n t (Unreset state made) = ⊥
 Made r n t (SetMask mask) = Values t (SetMask mask)
 Made r n t (SetDeadman deadman) = Values t (SetDeadman deadman)
 Made r n t (SetAreas areas) = Values t (SetAreas areas)
+Made r n t (SetTimer timer) = Values t (SetTimer timer)

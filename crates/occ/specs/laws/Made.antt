@@ -19,7 +19,7 @@ use Rattle.change.specs.Logs.{pendingOf, findOf, pendsAt}
 use Rattle.change.specs.Change.{noTables}
 use Rattle.change.specs.declared.Tables.{Tables}
 use Rattle.change.specs.declared.Change.{Change}
-use Rattle.change.specs.declared.Change.the-variants.{Clear, Unclear, SetState, SetRole, SetCaps, SetUser, SetThermal, SetThrottles, Reset, Unreset, SetMask, SetDeadman, SetAreas}
+use Rattle.change.specs.declared.Change.the-variants.{Clear, Unclear, SetState, SetRole, SetCaps, SetUser, SetThermal, SetThrottles, Reset, Unreset, SetMask, SetDeadman, SetAreas, SetTimer}
 use Rattle.formed.specs.Formed.{stateOk, flagOk, roleOk, capsOk, thermalOk, thermalRule, throttlesOk, absentZero, nextOk, reasonOk, recordOk, madeOk, changeOk}
 use Rattle.formed.specs.laws.Formed.{Sound, sound, pends-cleared}
 use Rattle.sets.specs.Sets.{emptySets, setsOf, emptyFrus, frusOf}
@@ -56,6 +56,7 @@ Known r next (Unreset state made) = Unit {0}
 Known r next (SetMask mask) = Unit {0}
 Known r next (SetDeadman deadman) = Unit {0}
 Known r next (SetAreas areas) = Unit {0}
+Known r next (SetTimer timer) = Unit {0}
 
 -- and its values are ones that a well-formed record could hold
 unfoldable Right : Record → ℕ → Tables → Change → Type 0

@@ -14,8 +14,8 @@ occ-requires c κs = search needs
 enum-told-2 : tie.Need-enum-told-2
 enum-told-2 c = search needs
 
-sbe-requires : tie.Need-sbe-requires
-sbe-requires c κs = search needs
+plain-bytes-requires : tie.Need-plain-bytes-requires
+plain-bytes-requires c κs = search needs
 
 enum-told-3 : tie.Need-enum-told-3
 enum-told-3 c = search needs
@@ -50,6 +50,12 @@ read-forget-requires c κs = search needs
 enum-told-8 : tie.Need-enum-told-8
 enum-told-8 c = search needs
 
+read-time-requires : tie.Need-read-time-requires
+read-time-requires c κs = search needs
+
+enum-told-9 : tie.Need-enum-told-9
+enum-told-9 c = search needs
+
 alone-requires-3 : tie.Need-alone-requires-3
 alone-requires-3 c κs = search needs
 
@@ -65,7 +71,7 @@ same-length-2 c = search needs
 
 returns-2 : tie.Need-returns-2
 unfolding callOf
-returns-2 c = (call-as _ _ _ (c .before .before .before .before .enum-told2 .given .1) (c .before .before .sbe .ensures .0), search needs)
+returns-2 c = (call-as _ _ _ (c .before .before .before .before .enum-told2 .given .1) (c .before .before .plain-bytes .ensures .0), search needs)
 
 same-length-3 : tie.Need-same-length-3
 same-length-3 c = search needs
@@ -95,7 +101,11 @@ returns-7 c = (call-as _ _ _ (c .before .enum-told7 .given .1) (kept _ (c .read-
 
 returns-8 : tie.Need-returns-8
 unfolding callOf
-returns-8 c = (call-as _ _ _ (c .before .enum-told8 .given .1) (kept _ (c .alone3 .ensures .0)), search needs)
+returns-8 c = (call-as _ _ _ (c .before .enum-told8 .given .1) (kept _ (c .read-time .ensures .0)), search needs)
+
+returns-9 : tie.Need-returns-9
+unfolding callOf
+returns-9 c = (call-as _ _ _ (c .before .enum-told9 .given .1) (kept _ (c .alone3 .ensures .0)), search needs)
 
 pub read-call-spec : {M : Type 1} → statement M
 read-call-spec =
@@ -104,7 +114,7 @@ read-call-spec =
     enum-told
     occ-requires
     enum-told-2
-    sbe-requires
+    plain-bytes-requires
     enum-told-3
     send-requires
     enum-told-4
@@ -116,6 +126,8 @@ read-call-spec =
     enum-told-7
     read-forget-requires
     enum-told-8
+    read-time-requires
+    enum-told-9
     alone-requires-3
     same-length
     returns
@@ -128,4 +140,5 @@ read-call-spec =
     returns-5
     returns-6
     returns-7
-    returns-8)
+    returns-8
+    returns-9)

@@ -1,5 +1,6 @@
+-- `orders::read_forget` meets its contract: each number is a case of the definition, and one that fits 32 bits. Assumes nothing.
 use native.Mathlib.Omega.{arith}
-use Rattle.orders.proofs.Reading.{number-fits, forget-none, forget-over, forget-is}
+use Rattle.orders.proofs.Reading.{number-fits, number-none, number-over, number-is, number-read}
 use borrow.Author.Needs.{needs}
 use Rattle.orders.proofs.read_forget.Statement.{statement}
 use Rattle.orders.proofs.read_forget.Tie as tie
@@ -38,13 +39,13 @@ alone-requires : tie.Need-alone-requires
 alone-requires c κs = search needs
 
 returns : tie.Need-returns
-returns c = (forget-none _ (c .before .before .before .before .past-blanks .ensures .0) (c .before .before .before .number-at .ensures) (c .before .enum-told .given .1) (c .wrong-at .ensures .0), search needs)
+returns c = (number-read _ _ _ _ (c .before .before .before .before .past-blanks .ensures .0) (c .before .before .before .number-at .ensures) (number-none _ _ _ _ (c .before .enum-told .given .1) (c .wrong-at .ensures .0)), search needs)
 
 returns-2 : tie.Need-returns-2
-returns-2 c = (forget-over _ (c .before .before .before .before .past-blanks .ensures .0) (c .before .before .before .number-at .ensures) (c .before .enum-told2 .given .1) (c .wrong-at2 .ensures .0), search needs)
+returns-2 c = (number-read _ _ _ _ (c .before .before .before .before .past-blanks .ensures .0) (c .before .before .before .number-at .ensures) (number-over _ _ _ _ (c .before .enum-told2 .given .1) (c .wrong-at2 .ensures .0)), search needs)
 
 returns-3 : tie.Need-returns-3
-returns-3 c = (forget-is _ (c .before .before .before .before .before .past-blanks .ensures .0) (c .before .before .before .before .number-at .ensures) (c .before .before .number .given .1) (c .alone .ensures .0), search needs)
+returns-3 c = (number-read _ _ _ _ (c .before .before .before .before .before .past-blanks .ensures .0) (c .before .before .before .before .number-at .ensures) (number-is _ _ _ _ (c .before .before .number .given .1) (c .alone .ensures .0)), search needs)
 
 pub read-forget-spec : {M : Type 1} → statement M
 read-forget-spec =

@@ -1,5 +1,5 @@
 -- `orders::read_word` meets its contract: the word was found in the part that starts at it. Assumes nothing.
-use Rattle.orders.proofs.Reading.{order-at, order-make, order-look, order-lend, order-fail, order-skip}
+use Rattle.orders.proofs.Reading.{order-at, order-make, order-look, order-lend, order-seeprom, order-fail, order-skip}
 use borrow.Author.Needs.{needs}
 use Rattle.orders.proofs.read_word.Statement.{statement}
 use Rattle.orders.proofs.read_word.Tie as tie
@@ -43,6 +43,12 @@ enum-told c = search needs
 read-buffer-requires : tie.Need-read-buffer-requires
 read-buffer-requires c κs = search needs
 
+enum-told-2 : tie.Need-enum-told-2
+enum-told-2 c = search needs
+
+plain-bytes-requires : tie.Need-plain-bytes-requires
+plain-bytes-requires c κs = search needs
+
 enum-known-word-3 : tie.Need-enum-known-word-3
 enum-known-word-3 c = search needs
 
@@ -52,8 +58,8 @@ add-wrong-at c = search needs
 wrong-at-requires : tie.Need-wrong-at-requires
 wrong-at-requires c κs = search needs
 
-enum-told-2 : tie.Need-enum-told-2
-enum-told-2 c = search needs
+enum-told-3 : tie.Need-enum-told-3
+enum-told-3 c = search needs
 
 plain-requires : tie.Need-plain-requires
 plain-requires c κs = search needs
@@ -70,11 +76,17 @@ returns-2 c = (order-at _ _ _ (c .before .before .before .before .before .before
 returns-3 : tie.Need-returns-3
 returns-3 c = (order-at _ _ _ (c .before .before .before .before .before .word-len .ensures .0) (c .before .before .before .word-of .ensures) (order-lend _ _ _ _ (c .before .enum-told .given .1) (c .read-buffer .ensures .0)), search needs)
 
+same-length-2 : tie.Need-same-length-2
+same-length-2 c = search needs
+
 returns-4 : tie.Need-returns-4
-returns-4 c = (order-at _ _ _ (c .before .before .before .before .before .before .word-len .ensures .0) (c .before .before .before .before .word-of .ensures) (order-fail _ _ _ _ (c .before .before .word3 .given .1) (c .wrong-at .ensures .0)), search needs)
+returns-4 c = (order-at _ _ _ (c .before .before .before .before .before .before .before .before .word-len .ensures .0) (c .before .before .before .before .before .before .word-of .ensures) (order-seeprom _ _ _ _ (c .before .before .before .before .enum-told2 .given .1) (c .before .before .plain-bytes .ensures .0)), search needs)
 
 returns-5 : tie.Need-returns-5
-returns-5 c = (order-at _ _ _ (c .before .before .before .before .before .word-len .ensures .0) (c .before .before .before .word-of .ensures) (order-skip _ _ _ _ (c .before .enum-told2 .given .1) (c .plain .ensures .0)), search needs)
+returns-5 c = (order-at _ _ _ (c .before .before .before .before .before .before .word-len .ensures .0) (c .before .before .before .before .word-of .ensures) (order-fail _ _ _ _ (c .before .before .word3 .given .1) (c .wrong-at .ensures .0)), search needs)
+
+returns-6 : tie.Need-returns-6
+returns-6 c = (order-at _ _ _ (c .before .before .before .before .before .word-len .ensures .0) (c .before .before .before .word-of .ensures) (order-skip _ _ _ _ (c .before .enum-told3 .given .1) (c .plain .ensures .0)), search needs)
 
 pub read-word-spec : {M : Type 1} → statement M
 read-word-spec =
@@ -93,14 +105,18 @@ read-word-spec =
     alone-requires
     enum-told
     read-buffer-requires
+    enum-told-2
+    plain-bytes-requires
     enum-known-word-3
     add-wrong-at
     wrong-at-requires
-    enum-told-2
+    enum-told-3
     plain-requires
     same-length
     returns
     returns-2
     returns-3
+    same-length-2
     returns-4
-    returns-5)
+    returns-5
+    returns-6)

@@ -19,7 +19,7 @@ same-length c = search needs
 
 returns : tie.Need-returns
 unfolding sendOf
-returns c = (bytes-as (c .before .before .before .take .ensures .0) (c .before .before .before .take .ensures .1 .0) _ _ _ (c .with-bytes .ensures .0), search needs)
+returns c = (bytes-as (c .before .before .before .take .ensures .0) (c .before .before .before .take .ensures .1 .0) _ _ _ _ (c .with-bytes .ensures .0), search needs)
 
 pub send-spec : {M : Type 1} → statement M
 send-spec =

@@ -24,16 +24,16 @@ wrong-at-requires-3 : tie.Need-wrong-at-requires-3
 wrong-at-requires-3 c κs = search needs
 
 returns : tie.Need-returns
-returns c = (short-bytes _ _ _ _ (c .before .before .enum-told .given .1) (c .before .if1 .taken) (c .wrong-at3 .ensures .0), search needs)
+returns c = (short-bytes _ _ _ _ _ (c .before .before .enum-told .given .1) (c .before .if1 .taken) (c .wrong-at3 .ensures .0), search needs)
 
 returns-2 : tie.Need-returns-2
-returns-2 c = (digit-bytes _ _ _ _ (c .before .before .fault .given .1) (c .wrong-at .ensures .0), search needs)
+returns-2 c = (digit-bytes _ _ _ _ _ (c .before .before .fault .given .1) (c .wrong-at .ensures .0), search needs)
 
 returns-3 : tie.Need-returns-3
-returns-3 c = (over-bytes _ _ _ _ (c .before .before .fault2 .given .1) (c .wrong-at2 .ensures .0), search needs)
+returns-3 c = (over-bytes _ _ _ _ _ (c .before .before .fault2 .given .1) (c .wrong-at2 .ensures .0), search needs)
 
 returns-4 : tie.Need-returns-4
-returns-4 c = (good-bytes _ _ _ _ (c .before .enum-told .given .1) (c .if1 .left) refl, search needs)
+returns-4 c = (good-bytes _ _ _ _ _ (c .before .enum-told .given .1) (c .if1 .left) refl, search needs)
 
 pub with-bytes-spec : {M : Type 1} → statement M
 with-bytes-spec =

@@ -1,5 +1,5 @@
 -- `orders::with_size` meets its contract: each number is a case of the definition. Assumes nothing.
-use Rattle.orders.proofs.Reading.{size-none, size-over, size-is}
+use Rattle.orders.proofs.Reading.{number-none, number-over, number-is}
 use borrow.Author.Needs.{needs}
 use Rattle.orders.proofs.with_size.Statement.{statement}
 use Rattle.orders.proofs.with_size.Tie as tie
@@ -23,13 +23,13 @@ alone-requires : tie.Need-alone-requires
 alone-requires c κs = search needs
 
 returns : tie.Need-returns
-returns c = (size-none _ _ (c .before .enum-told .given .1) (c .wrong-at .ensures .0), search needs)
+returns c = (number-none _ _ _ _ (c .before .enum-told .given .1) (c .wrong-at .ensures .0), search needs)
 
 returns-2 : tie.Need-returns-2
-returns-2 c = (size-over _ _ (c .before .enum-told2 .given .1) (c .wrong-at2 .ensures .0), search needs)
+returns-2 c = (number-over _ _ _ _ (c .before .enum-told2 .given .1) (c .wrong-at2 .ensures .0), search needs)
 
 returns-3 : tie.Need-returns-3
-returns-3 c = (size-is _ _ (c .before .before .number .given .1) (c .alone .ensures .0), search needs)
+returns-3 c = (number-is _ _ _ _ (c .before .before .number .given .1) (c .alone .ensures .0), search needs)
 
 pub with-size-spec : {M : Type 1} → statement M
 with-size-spec =

@@ -96,12 +96,32 @@ returns-9 : tie.Need-returns-9
 unfolding wordOf
 returns-9 c = else-b _ _ (sym (c .before .before .before .before .before .before .before .before .before .before .before .before .before .before .before .before .before .before .before .before .before .before .before .before .before .same .ensures) ∙ c .before .before .before .before .before .before .before .before .before .before .before .before .before .before .before .before .before .before .before .before .before .before .before .before .if1 .left) (else-b _ _ (sym (c .before .before .before .before .before .before .before .before .before .before .before .before .before .before .before .before .before .before .before .before .before .before .same2 .ensures) ∙ c .before .before .before .before .before .before .before .before .before .before .before .before .before .before .before .before .before .before .before .before .before .if2 .left) (else-b _ _ (sym (c .before .before .before .before .before .before .before .before .before .before .before .before .before .before .before .before .before .before .before .same3 .ensures) ∙ c .before .before .before .before .before .before .before .before .before .before .before .before .before .before .before .before .before .before .if3 .left) (else-b _ _ (sym (c .before .before .before .before .before .before .before .before .before .before .before .before .before .before .before .before .same4 .ensures) ∙ c .before .before .before .before .before .before .before .before .before .before .before .before .before .before .before .if4 .left) (else-b _ _ (sym (c .before .before .before .before .before .before .before .before .before .before .before .before .before .same5 .ensures) ∙ c .before .before .before .before .before .before .before .before .before .before .before .before .if5 .left) (else-b _ _ (sym (c .before .before .before .before .before .before .before .before .before .before .same6 .ensures) ∙ c .before .before .before .before .before .before .before .before .before .if6 .left) (else-b _ _ (sym (c .before .before .before .before .before .before .before .same7 .ensures) ∙ c .before .before .before .before .before .before .if7 .left) (else-b _ _ (sym (c .before .before .before .before .same8 .ensures) ∙ c .before .before .before .if8 .left) (if-b _ _ (sym (c .before .same9 .ensures) ∙ c .if9 .taken) refl))))))))
 
-view-of-requires : tie.Need-view-of-requires
-view-of-requires c κs = search needs
+slice-aggregate-same-10 : tie.Need-slice-aggregate-same-10
+slice-aggregate-same-10 c = search needs
+
+same-requires-10 : tie.Need-same-requires-10
+same-requires-10 c κs = tt
 
 returns-10 : tie.Need-returns-10
 unfolding wordOf
-returns-10 c = else-b _ _ (sym (c .before .before .before .before .before .before .before .before .before .before .before .before .before .before .before .before .before .before .before .before .before .before .before .before .before .before .same .ensures) ∙ c .before .before .before .before .before .before .before .before .before .before .before .before .before .before .before .before .before .before .before .before .before .before .before .before .before .if1 .left) (else-b _ _ (sym (c .before .before .before .before .before .before .before .before .before .before .before .before .before .before .before .before .before .before .before .before .before .before .before .same2 .ensures) ∙ c .before .before .before .before .before .before .before .before .before .before .before .before .before .before .before .before .before .before .before .before .before .before .if2 .left) (else-b _ _ (sym (c .before .before .before .before .before .before .before .before .before .before .before .before .before .before .before .before .before .before .before .before .same3 .ensures) ∙ c .before .before .before .before .before .before .before .before .before .before .before .before .before .before .before .before .before .before .before .if3 .left) (else-b _ _ (sym (c .before .before .before .before .before .before .before .before .before .before .before .before .before .before .before .before .before .same4 .ensures) ∙ c .before .before .before .before .before .before .before .before .before .before .before .before .before .before .before .before .if4 .left) (else-b _ _ (sym (c .before .before .before .before .before .before .before .before .before .before .before .before .before .before .same5 .ensures) ∙ c .before .before .before .before .before .before .before .before .before .before .before .before .before .if5 .left) (else-b _ _ (sym (c .before .before .before .before .before .before .before .before .before .before .before .same6 .ensures) ∙ c .before .before .before .before .before .before .before .before .before .before .if6 .left) (else-b _ _ (sym (c .before .before .before .before .before .before .before .before .same7 .ensures) ∙ c .before .before .before .before .before .before .before .if7 .left) (else-b _ _ (sym (c .before .before .before .before .before .same8 .ensures) ∙ c .before .before .before .before .if8 .left) (else-b _ _ (sym (c .before .before .same9 .ensures) ∙ c .before .if9 .left) (c .view-of .ensures)))))))))
+returns-10 c = else-b _ _ (sym (c .before .before .before .before .before .before .before .before .before .before .before .before .before .before .before .before .before .before .before .before .before .before .before .before .before .before .before .before .same .ensures) ∙ c .before .before .before .before .before .before .before .before .before .before .before .before .before .before .before .before .before .before .before .before .before .before .before .before .before .before .before .if1 .left) (else-b _ _ (sym (c .before .before .before .before .before .before .before .before .before .before .before .before .before .before .before .before .before .before .before .before .before .before .before .before .before .same2 .ensures) ∙ c .before .before .before .before .before .before .before .before .before .before .before .before .before .before .before .before .before .before .before .before .before .before .before .before .if2 .left) (else-b _ _ (sym (c .before .before .before .before .before .before .before .before .before .before .before .before .before .before .before .before .before .before .before .before .before .before .same3 .ensures) ∙ c .before .before .before .before .before .before .before .before .before .before .before .before .before .before .before .before .before .before .before .before .before .if3 .left) (else-b _ _ (sym (c .before .before .before .before .before .before .before .before .before .before .before .before .before .before .before .before .before .before .before .same4 .ensures) ∙ c .before .before .before .before .before .before .before .before .before .before .before .before .before .before .before .before .before .before .if4 .left) (else-b _ _ (sym (c .before .before .before .before .before .before .before .before .before .before .before .before .before .before .before .before .same5 .ensures) ∙ c .before .before .before .before .before .before .before .before .before .before .before .before .before .before .before .if5 .left) (else-b _ _ (sym (c .before .before .before .before .before .before .before .before .before .before .before .before .before .same6 .ensures) ∙ c .before .before .before .before .before .before .before .before .before .before .before .before .if6 .left) (else-b _ _ (sym (c .before .before .before .before .before .before .before .before .before .before .same7 .ensures) ∙ c .before .before .before .before .before .before .before .before .before .if7 .left) (else-b _ _ (sym (c .before .before .before .before .before .before .before .same8 .ensures) ∙ c .before .before .before .before .before .before .if8 .left) (else-b _ _ (sym (c .before .before .before .before .same9 .ensures) ∙ c .before .before .before .if9 .left) (if-b _ _ (sym (c .before .same10 .ensures) ∙ c .if10 .taken) refl)))))))))
+
+slice-aggregate-same-11 : tie.Need-slice-aggregate-same-11
+slice-aggregate-same-11 c = search needs
+
+same-requires-11 : tie.Need-same-requires-11
+same-requires-11 c κs = tt
+
+returns-11 : tie.Need-returns-11
+unfolding wordOf
+returns-11 c = else-b _ _ (sym (c .before .before .before .before .before .before .before .before .before .before .before .before .before .before .before .before .before .before .before .before .before .before .before .before .before .before .before .before .before .before .before .same .ensures) ∙ c .before .before .before .before .before .before .before .before .before .before .before .before .before .before .before .before .before .before .before .before .before .before .before .before .before .before .before .before .before .before .if1 .left) (else-b _ _ (sym (c .before .before .before .before .before .before .before .before .before .before .before .before .before .before .before .before .before .before .before .before .before .before .before .before .before .before .before .before .same2 .ensures) ∙ c .before .before .before .before .before .before .before .before .before .before .before .before .before .before .before .before .before .before .before .before .before .before .before .before .before .before .before .if2 .left) (else-b _ _ (sym (c .before .before .before .before .before .before .before .before .before .before .before .before .before .before .before .before .before .before .before .before .before .before .before .before .before .same3 .ensures) ∙ c .before .before .before .before .before .before .before .before .before .before .before .before .before .before .before .before .before .before .before .before .before .before .before .before .if3 .left) (else-b _ _ (sym (c .before .before .before .before .before .before .before .before .before .before .before .before .before .before .before .before .before .before .before .before .before .before .same4 .ensures) ∙ c .before .before .before .before .before .before .before .before .before .before .before .before .before .before .before .before .before .before .before .before .before .if4 .left) (else-b _ _ (sym (c .before .before .before .before .before .before .before .before .before .before .before .before .before .before .before .before .before .before .before .same5 .ensures) ∙ c .before .before .before .before .before .before .before .before .before .before .before .before .before .before .before .before .before .before .if5 .left) (else-b _ _ (sym (c .before .before .before .before .before .before .before .before .before .before .before .before .before .before .before .before .same6 .ensures) ∙ c .before .before .before .before .before .before .before .before .before .before .before .before .before .before .before .if6 .left) (else-b _ _ (sym (c .before .before .before .before .before .before .before .before .before .before .before .before .before .same7 .ensures) ∙ c .before .before .before .before .before .before .before .before .before .before .before .before .if7 .left) (else-b _ _ (sym (c .before .before .before .before .before .before .before .before .before .before .same8 .ensures) ∙ c .before .before .before .before .before .before .before .before .before .if8 .left) (else-b _ _ (sym (c .before .before .before .before .before .before .before .same9 .ensures) ∙ c .before .before .before .before .before .before .if9 .left) (else-b _ _ (sym (c .before .before .before .before .same10 .ensures) ∙ c .before .before .before .if10 .left) (if-b _ _ (sym (c .before .same11 .ensures) ∙ c .if11 .taken) refl))))))))))
+
+view-of-requires : tie.Need-view-of-requires
+view-of-requires c κs = search needs
+
+returns-12 : tie.Need-returns-12
+unfolding wordOf
+returns-12 c = else-b _ _ (sym (c .before .before .before .before .before .before .before .before .before .before .before .before .before .before .before .before .before .before .before .before .before .before .before .before .before .before .before .before .before .before .before .before .same .ensures) ∙ c .before .before .before .before .before .before .before .before .before .before .before .before .before .before .before .before .before .before .before .before .before .before .before .before .before .before .before .before .before .before .before .if1 .left) (else-b _ _ (sym (c .before .before .before .before .before .before .before .before .before .before .before .before .before .before .before .before .before .before .before .before .before .before .before .before .before .before .before .before .before .same2 .ensures) ∙ c .before .before .before .before .before .before .before .before .before .before .before .before .before .before .before .before .before .before .before .before .before .before .before .before .before .before .before .before .if2 .left) (else-b _ _ (sym (c .before .before .before .before .before .before .before .before .before .before .before .before .before .before .before .before .before .before .before .before .before .before .before .before .before .before .same3 .ensures) ∙ c .before .before .before .before .before .before .before .before .before .before .before .before .before .before .before .before .before .before .before .before .before .before .before .before .before .if3 .left) (else-b _ _ (sym (c .before .before .before .before .before .before .before .before .before .before .before .before .before .before .before .before .before .before .before .before .before .before .before .same4 .ensures) ∙ c .before .before .before .before .before .before .before .before .before .before .before .before .before .before .before .before .before .before .before .before .before .before .if4 .left) (else-b _ _ (sym (c .before .before .before .before .before .before .before .before .before .before .before .before .before .before .before .before .before .before .before .before .same5 .ensures) ∙ c .before .before .before .before .before .before .before .before .before .before .before .before .before .before .before .before .before .before .before .if5 .left) (else-b _ _ (sym (c .before .before .before .before .before .before .before .before .before .before .before .before .before .before .before .before .before .same6 .ensures) ∙ c .before .before .before .before .before .before .before .before .before .before .before .before .before .before .before .before .if6 .left) (else-b _ _ (sym (c .before .before .before .before .before .before .before .before .before .before .before .before .before .before .same7 .ensures) ∙ c .before .before .before .before .before .before .before .before .before .before .before .before .before .if7 .left) (else-b _ _ (sym (c .before .before .before .before .before .before .before .before .before .before .before .same8 .ensures) ∙ c .before .before .before .before .before .before .before .before .before .before .if8 .left) (else-b _ _ (sym (c .before .before .before .before .before .before .before .before .same9 .ensures) ∙ c .before .before .before .before .before .before .before .if9 .left) (else-b _ _ (sym (c .before .before .before .before .before .same10 .ensures) ∙ c .before .before .before .before .if10 .left) (else-b _ _ (sym (c .before .before .same11 .ensures) ∙ c .before .if11 .left) (c .view-of .ensures)))))))))))
 
 pub word-of-spec : {M : Type 1} → statement M
 word-of-spec =
@@ -134,5 +154,11 @@ word-of-spec =
     slice-aggregate-same-9
     same-requires-9
     returns-9
+    slice-aggregate-same-10
+    same-requires-10
+    returns-10
+    slice-aggregate-same-11
+    same-requires-11
+    returns-11
     view-of-requires
-    returns-10)
+    returns-12)

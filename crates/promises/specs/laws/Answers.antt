@@ -14,12 +14,14 @@ use Rattle.links.specs.Typed.{TypedSession}
 use Rattle.occ_call.specs.Occ.{occCall}
 use Rattle.sbe_call.specs.Sbe.{sbeCall}
 use Rattle.forget_call.specs.Forget.{forgetCall}
+use Rattle.time_call.specs.Time.{timeCall}
 use Rattle.promises.specs.laws.ForgetDemands.{forget-answers}
 use Rattle.undo_call.specs.Undo.{moveCall}
-use Rattle.promises.specs.Calls.{Call, occ, sbe, undo, redo, forget, bufferOf, asks, said}
-use Rattle.promises.specs.Demand1.{OccAnswer, SbeAnswer, MoveAnswer, ForgetAnswer}
+use Rattle.promises.specs.Calls.{Call, occ, sbe, undo, redo, forget, time, bufferOf, asks, said}
+use Rattle.promises.specs.Demand1.{OccAnswer, SbeAnswer, MoveAnswer, ForgetAnswer, TimeAnswer}
 use Rattle.promises.specs.laws.OccDemands.{occ-answers}
 use Rattle.promises.specs.laws.SbeDemands.{sbe-answers}
+use Rattle.promises.specs.laws.TimeDemands.{time-answers}
 use Rattle.promises.specs.laws.UndoDemands.{undo-answers, redo-answers}
 
 module _ (s : Session) (typed : TypedSession s) where
@@ -57,10 +59,16 @@ module _ (s : Session) (typed : TypedSession s) where
   forget-one n (later _ (here h e)) = absurd (omega (arith, e))
   forget-one n (later _ (later _ e)) = absurd (omega (arith, e))
 
+  time-one : TimeAnswer s 1 → IllFormed
+  unfolding TimeAnswer
+  time-one (here h e) = h
+  time-one (later _ e) = absurd (omega (arith, e))
+
   pub one-exactly : (c : Call) → (said s c .answer ≡ 1) ↔ IllFormed
-  unfolding said asks bufferOf occCall sbeCall moveCall forgetCall OccAnswer SbeAnswer MoveAnswer ForgetAnswer
+  unfolding said asks bufferOf occCall sbeCall moveCall forgetCall timeCall OccAnswer SbeAnswer MoveAnswer ForgetAnswer TimeAnswer
   one-exactly (occ sender c d) = Iff·trans (occ-answers s typed sender c d 1) (occ-one sender c d, λ h. here h refl)
-  one-exactly (sbe r d) = Iff·trans (sbe-answers s typed r d 1) (sbe-one r d, λ h. here h refl)
+  one-exactly (sbe r d m x) = Iff·trans (sbe-answers s typed r d m x 1) (sbe-one r d, λ h. here h refl)
   one-exactly undo = Iff·trans (undo-answers s 1) (move-one Before 6 (λ z. omega (arith, z)), λ h. here h refl)
   one-exactly (forget n) = Iff·trans (forget-answers n s 1) (forget-one n, λ h. here h refl)
+  one-exactly (time n) = Iff·trans (time-answers n s 1) (time-one, λ h. here h refl)
   one-exactly redo = Iff·trans (redo-answers s 1) (move-one After 8 (λ z. omega (arith, z)), λ h. here h refl)

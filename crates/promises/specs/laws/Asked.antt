@@ -21,7 +21,7 @@ use Rattle.record.specs.declared.Worked.{Worked}
 use Rattle.change.specs.Change.{noTables}
 use Rattle.change.specs.Logs.{pendingOf, findOf}
 use Rattle.change.specs.declared.Change.{Change}
-use Rattle.change.specs.declared.Change.the-variants.{Clear, Unclear, SetState, SetRole, SetCaps, SetUser, SetThermal, SetThrottles, Reset, Unreset, SetMask, SetDeadman, SetAreas}
+use Rattle.change.specs.declared.Change.the-variants.{Clear, Unclear, SetState, SetRole, SetCaps, SetUser, SetThermal, SetThrottles, Reset, Unreset, SetMask, SetDeadman, SetAreas, SetTimer}
 use Rattle.change.specs.declared.Tables.{Tables}
 use Rattle.formed.specs.Formed.{recordOk, nextOk, reasonOk}
 use Rattle.formed.specs.laws.Formed.{sound}
@@ -63,6 +63,7 @@ Shape t (Unreset state made) = ⊥
 Shape t (SetMask mask) = ⊥
 Shape t (SetDeadman deadman) = ⊥
 Shape t (SetAreas areas) = ⊥
+Shape t (SetTimer timer) = ⊥
 
 Makes : Tables → Verdict → Type 0
 Makes t (Refuse status) = Unit {0}
@@ -230,6 +231,7 @@ module _ (r : Record) (w : Worked) (next sender kind : ℕ) (d : List ℕ) (byte
   occ-made (SetMask mask) e = absurd (shape _ e)
   occ-made (SetDeadman deadman) e = absurd (shape _ e)
   occ-made (SetAreas areas) e = absurd (shape _ e)
+  occ-made (SetTimer timer) e = absurd (shape _ e)
 
 -- ---- SBE
 
@@ -253,3 +255,4 @@ module _ (r : Record) (next : ℕ) (q : List ℕ) (bytes : Bytes q) where
   sbe-made (SetAreas areas) e =
       let f = change-fits q bytes _ e in
       granted _ e (f .0, f .1, refl)
+  sbe-made (SetTimer timer) e = granted _ e (change-fits q bytes _ e, refl)

@@ -2,12 +2,15 @@
 -- change touches. Assumes nothing.
 use Prim.Native.Nat.{ℕ, suc, _+_, _≤_}
 use mathlib.Core.Bool.{true}
-use mathlib.Core.Path.{_≡_, refl, sym, ap, _∙_}
+use mathlib.Core.Path.{_≡_, refl, sym, ap, subst, _∙_}
 use mathlib.Core.List.{List, [], _∷_}
 use native.Mathlib.Omega.{arith}
 use lib.ListN.{length}
 use Rattle.record.specs.declared.Record.{Record}
-use Rattle.change.specs.Change.{inverseOf}
+use Rattle.record.specs.declared.Timer.{Timer}
+use Rattle.change.specs.Change.{putOf, inverseOf, timed}
+use Rattle.change.specs.laws.Timed.{timed-puts}
+use Rattle.change.specs.declared.Changed.{Changed}
 use Rattle.change.specs.declared.Edit.{Edit}
 use Rattle.formed.specs.Formed.{recordOk}
 use Rattle.entries.specs.Entries.{Scan, entriesOf, scan}
@@ -15,18 +18,16 @@ use Rattle.marks.specs.Marks.{passedOf}
 use Rattle.journal.specs.declared.Way.{Way}
 use Rattle.journal.specs.declared.Way.the-variants.{Before, After}
 use Rattle.journal.specs.Ways.{byWay}
-use Rattle.journal.specs.declared.End.{End}
-use Rattle.journal.specs.declared.End.the-variants.{At, Full}
-use Rattle.journal.specs.Add.{endOf}
 use Rattle.undo_call.specs.Undo.{passedBy}
-use Rattle.session.specs.Session.{entriesIn, wellFormed, renewed, madeOf, carriedTo, carriedOf}
-use Rattle.session.specs.Road.{Asks, refuses, tells, makes, moves, forgets, kept, done, carriedSays, settled, sessionMoved, sessionFreed, forgotten}
+use Rattle.session.specs.Session.{entriesIn, wellFormed, renewed, withTimer, madeOf}
 use Rattle.session.specs.laws.Session.{formed-ok}
+use Rattle.session.specs.laws.Timer.{Clock}
 use Rattle.session.specs.declared.Session.{Session}
 use Rattle.links.specs.Typed.{TypedRecord}
 use Rattle.links.specs.laws.Made.{Made}
 use Rattle.links.specs.laws.Links.{Link, next-up}
 use Rattle.promises.specs.History.{applied}
+use Rattle.promises.specs.laws.Timed.{timed-made, made-timed, link-timed}
 use Rattle.promises.specs.laws.Stores.{padded, take-padded, flat, AllStored, pile, pile-reads, flat-formed}
 
 -- the session s with these entries in the store that a way takes from, and those in the other one
@@ -56,20 +57,10 @@ module _ (base : Record) where
   pub own-history : (s t : Session) (es : List Edit) (next : ℕ) (rs : List Edit) → t ≡ byHistory s es next rs → t ≡ byHistory t es next rs
   own-history s t es next rs e = e ∙ own-kept s es next rs ∙ ap (λ (x : Session). byHistory x es next rs) (sym e)
 
-  -- so it is after a call, whatever that asks
-  own-carried : (s : Session) (e : Edit) (x : End) (bell : ℕ) (y d : List ℕ) (es : List Edit) (next : ℕ) (rs : List Edit)
-      → byHistory (carriedSays (carriedTo s e x) s bell y d .session) es next rs ≡ byHistory s es next rs
-  unfolding byHistory standing renewed carriedTo carriedSays kept done
-  own-carried s e Full bell y d es next rs = refl
-  own-carried s e (At used) bell y d es next rs = refl
-
-  pub own-settled : (s : Session) (d : List ℕ) (a : Asks) (es : List Edit) (next : ℕ) (rs : List Edit) → byHistory (settled s d a .session) es next rs ≡ byHistory s es next rs
-  unfolding byHistory standing renewed settled kept done sessionMoved forgotten sessionFreed carriedOf
-  own-settled s d (refuses n) es next rs = refl
-  own-settled s d (tells bell y) es next rs = refl
-  own-settled s d (makes e bell y) es next rs = own-carried s e (endOf (length (s .journal)) (s .used) (inverseOf (s .held) e)) bell y d es next rs
-  own-settled s d (moves w at e) es next rs = refl
-  own-settled s d (forgets n) es next rs = refl
+  -- which is its timer
+  pub own-timer : (s t : Session) (es : List Edit) (next : ℕ) (rs : List Edit) → t .timer ≡ s .timer → byHistory t es next rs ≡ byHistory s es next rs
+  unfolding byHistory standing renewed withTimer
+  own-timer s t es next rs p = ap (λ (x : Timer). byHistory (withTimer s x) es next rs) p
 
   -- each change that is left is undone by its entry, and the record before it is well formed at the next id hi
   pub record Step (hi : ℕ) (e : Edit) (es : List Edit) : Type 0 where
@@ -126,14 +117,52 @@ module _ (base : Record) where
       ∙ ap (λ (x : Scan). passedOf (length (entriesOf x))) (pile-reads Before (backs es) (backs-stored next es (g .kept)))
       ∙ ap passedOf (backs-count es)
 
-  pub history-formed : (s : Session) (es : List Edit) (next : ℕ) (rs : List Edit) → Sane es next rs → wellFormed (byHistory s es next rs) ≡ true
+  pub history-formed : (s : Session) → Clock (s .timer) → (es : List Edit) (next : ℕ) (rs : List Edit) → Sane es next rs → wellFormed (byHistory s es next rs) ≡ true
   unfolding byHistory standing byWay renewed
-  history-formed s es next rs g =
+  history-formed s c es next rs g =
       formed-ok (byHistory s es next rs) (record {
         record-ok = g .ok;
         worked-is = refl;
+        timer-ok = c .ok;
         both-fit = g .fits;
         marks-are = refl;
         journal = flat-formed Before (backs es) (backs-stored next es (g .kept)) (omega (arith, g .fits));
         redo = flat-formed After rs (again-stored next es rs (g .again)) (omega (arith, g .fits));
       })
+
+-- ---- what is known of a change goes by the record before it, and not by the timer that it holds
+
+module _ (base : Record) where
+  pub step-at : (c : Record) (hi : ℕ) (e : Edit) (es fs : List Edit) → applied base es ≡ applied c fs → Step base hi e es → Step c hi e fs
+  step-at c hi e es fs p x = record {
+    known = x .known;
+    made = subst (λ (r : Record). Made r (x .known) (e .tables) (e .change)) p (x .made);
+    below = x .below;
+    links = subst (λ (r : Record). Link r (x .known) e) p (x .links);
+    ok = subst (λ (r : Record). recordOk r hi ≡ true) p (x .ok);
+    typed = subst TypedRecord p (x .typed);
+  }
+
+  pub again-at : (c : Record) (hi : ℕ) (es fs rs : List Edit) → applied base es ≡ applied c fs → Again base hi es rs → Again c hi fs rs
+  unfolding applied
+  again-at c hi es fs [] p k = tt
+  again-at c hi es fs (r ∷ rs) p k = (step-at c hi r es fs p (k .0), again-at c hi (r ∷ es) (r ∷ fs) rs (ap (λ (x : Record). putOf x r .after) p) (k .1))
+
+  module _ (t : Timer) (c : Clock t) (e : Edit) (es : List Edit) where
+    pub applied-timed : applied base (timed t e ∷ es) ≡ applied base (e ∷ es)
+    unfolding applied
+    applied-timed = ap (λ (p : Changed). p .after) (timed-puts t (applied base es) e)
+
+    pub step-timed : (hi : ℕ) → Step base hi e es → Step base hi (timed t e) es
+    unfolding timed
+    step-timed hi x = record {
+      known = x .known;
+      made = made-timed t c (applied base es) (x .known) (e .tables) (e .change) (x .made);
+      below = omega (arith, x .below, timed-made t (e .change));
+      links = link-timed t c (applied base es) (x .known) e (x .typed) (x .made) (x .links);
+      ok = x .ok;
+      typed = x .typed;
+    }
+
+    pub again-timed : (hi : ℕ) (rs : List Edit) → Again base hi (e ∷ es) rs → Again base hi (timed t e ∷ es) rs
+    again-timed hi rs = again-at base hi (e ∷ es) (timed t e ∷ es) rs (sym applied-timed)

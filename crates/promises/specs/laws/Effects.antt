@@ -1,7 +1,7 @@
 -- What each accepted command makes of the session, and the change that demand 3 counts. Assumes nothing.
 use Prim.Native.Nat.{ℕ, _+_, _<_}
 use mathlib.Core.Bool.{Bool, true, false, not, false≢true, true≢false}
-use mathlib.Core.Logic.{_↔_}
+use mathlib.Core.Logic.{_↔_, _⊎_, ⊎-elim}
 use mathlib.Core.Path.{_≡_, refl, sym, ap, subst, _∙_}
 use mathlib.Core.List.{List, [], _∷_}
 use native.Mathlib.Nat.{add-zero}
@@ -14,7 +14,7 @@ use Rattle.record.specs.declared.Log.{Log}
 use Rattle.record.specs.declared.Record.{Record}
 use Rattle.change.specs.Logs.{pendingOf, removeAt, insertAt, pendsAt}
 use Rattle.change.specs.With.{withState, withLogs}
-use Rattle.change.specs.Change.{accepted, clearOf, resetOf, putWith, putOf, madeBy, noTables, backOf, kindOf, tablesFor, inverseOf}
+use Rattle.change.specs.Change.{accepted, clearOf, resetOf, putWith, putOf, madeBy, noTables, backOf, kindOf, tablesFor, inverseOf, timedChange, timed, takesBack, timerAfter}
 use Rattle.change.specs.declared.Change.{Change}
 use Rattle.change.specs.declared.Changed.{Changed}
 use Rattle.change.specs.declared.Tables.{Tables}
@@ -31,24 +31,27 @@ use Rattle.packet.specs.Packet.{dataOf}
 use Rattle.occ.specs.declared.Verdict.the-variants.{Make}
 use Rattle.occ.specs.laws.Exactly.{found-there}
 use Rattle.sbe.specs.Mailbox.{responseBytes}
-use Rattle.session.specs.Session.{renewed, madeOf, carriedTo, carriedOf}
-use Rattle.session.specs.Road.{Asks, refuses, tells, makes, moves, forgets, Said, kept, done, carriedSays, settled}
+use Rattle.sbe.specs.Conditions.{Changes, Plainly}
+use Rattle.session.specs.Session.{renewed, withTimer, madeOf, carriedTo, carriedOf}
+use Rattle.session.specs.Road.{Asks, refuses, tells, makes, moves, forgets, passes, Said, kept, done, carriedSays, settled}
 use Rattle.session.specs.laws.Session.{Formed, formed}
+use Rattle.session.specs.laws.Timer.{carried-timer}
 use Rattle.session.specs.declared.Session.{Session}
 use Rattle.occ_call.specs.Occ as occs
 use Rattle.sbe_call.specs.Sbe as sbes
 use Rattle.links.specs.Typed.{TypedSession}
 use Rattle.links.specs.laws.Made.{Made}
 use Rattle.promises.specs.Calls.{Call, occ, sbe, bufferOf, asks, said}
-use Rattle.promises.specs.History.{Deed, keeps, adds, strikes, unstrikes, drops, adding, deedBy, deed}
+use Rattle.promises.specs.History.{Deed, keeps, adds, strikes, unstrikes, drops, ticks, adding, deedBy, deed}
 use Rattle.promises.specs.Demand1.{OccDue}
-use Rattle.promises.specs.Demand2.{atFront, NotPoll, successReply, OccSucceeds, SbeSucceeds}
-use Rattle.promises.specs.Effects.{becomes, OccEffect, poll, clear-log, set-state, set-role, set-caps, set-throttles, set-thermal, set-user, reset, reset-logged, SbeEffect, start-deadman, stop-deadman, set-mask, set-areas}
+use Rattle.promises.specs.Demand2.{atFront, NotPoll, successReply, OccSucceeds, Served, SbeSucceeds}
+use Rattle.promises.specs.Effects.{becomes, OccEffect, poll, clear-log, set-state, set-role, set-caps, set-throttles, set-thermal, set-user, reset, reset-logged, SbeEffect, start-deadman, stop-deadman, set-mask, start-timer, stop-timer, exit-contained, put-ring, read-seeprom, set-areas}
 use Rattle.promises.specs.laws.Asked.{data-bytes, next-some, occ-made, sbe-made}
-use Rattle.promises.specs.laws.WellFormed.{l, room, session-is}
+use Rattle.promises.specs.laws.WellFormed.{back-writable, room, session-is}
 use Rattle.promises.specs.laws.OccAsks as occ-asks
 use Rattle.promises.specs.laws.OccWays as occ-ways
 use Rattle.promises.specs.laws.OccDemands.{well-read, not-refused, asked-as, polled-type, made-type, done-is, heard-exactly}
+use Rattle.promises.specs.laws.Served.{change-ruled, done-ruled}
 use Rattle.promises.specs.laws.SbeDemands as sbe-demands
 use Rattle.promises.specs.laws.Replies.{front-is}
 
@@ -56,18 +59,23 @@ use Rattle.promises.specs.laws.Replies.{front-is}
 
 module _ (s : Session) (f : Formed s) (typed : TypedSession s) (e : Edit) (made : Made (s .held) (s .next) (e .tables) (e .change)) (fits : carriedOf s e .full ≡ false) where
   abbrev back : Edit
-  back = inverseOf (s .held) e
+  back = takesBack (s .held) (s .timer) e
 
-  carried-becomes : carriedOf s e .session ≡ becomes s (putOf (s .held) e .after) (s .next + madeOf (e .change)) (entryBytes back)
+  -- with the timer that a timer command sets
+  abbrev ticking : Session
+  ticking = withTimer s (timerAfter (s .timer) (e .change))
+
+  carried-becomes : carriedOf s e .session ≡ becomes ticking (putOf (s .held) e .after) (s .next + madeOf (e .change)) (entryBytes back)
+  unfolding withTimer
   carried-becomes =
-      let w = l s f typed e made fits .back-writable in
+      let w = back-writable s f typed e made fits in
       let j = added Before back (s .used) (s .journal) w (room s f typed e made fits) in
       session-is s f typed e made fits
-      ∙ (λ i. renewed s (putOf (s .held) e .after) (s .next + madeOf (e .change)) (j i) (s .used + sym (length-entry Before back w) i) (replicate 2048 0) 0)
+      ∙ (λ i. renewed ticking (putOf (s .held) e .after) (s .next + madeOf (e .change)) (j i) (s .used + sym (length-entry Before back w) i) (replicate 2048 0) 0)
 
-  becomes-row : (held : Record) (next : ℕ) (entry : List ℕ) → putOf (s .held) e .after ≡ held → s .next + madeOf (e .change) ≡ next → entryBytes back ≡ entry
-      → carriedOf s e .session ≡ becomes s held next entry
-  becomes-row held next entry p q r = carried-becomes ∙ (λ i. becomes s (p i) (q i) (r i))
+  becomes-row : (t : Session) (held : Record) (next : ℕ) (entry : List ℕ) → ticking ≡ t → putOf (s .held) e .after ≡ held → s .next + madeOf (e .change) ≡ next → entryBytes back ≡ entry
+      → carriedOf s e .session ≡ becomes t held next entry
+  becomes-row t held next entry o p q r = carried-becomes ∙ (λ i. becomes (o i) (p i) (q i) (r i))
 
 -- ---- OCC
 
@@ -100,26 +108,26 @@ module _ (s : Session) (f : Formed s) (typed : TypedSession s) where
       abbrev edit : Edit
       edit = record { change = ch; tables = t }
 
-      by-row : (held : Record) (next : ℕ) (entry : List ℕ) → putWith r t ch .after ≡ held → s .next + madeOf ch ≡ next → entryBytes (inverseOf r edit) ≡ entry
-          → Effect (becomes s held next entry) → Effect (carriedOf s edit .session)
-      unfolding putOf
-      by-row held next entry p q x e = subst Effect (sym (becomes-row s f typed edit made fits held next entry p q x)) e
+      by-row : (held : Record) (next : ℕ) (entry : List ℕ) → timerAfter (s .timer) ch ≡ s .timer → putWith r t ch .after ≡ held → s .next + madeOf ch ≡ next
+          → entryBytes (takesBack r (s .timer) edit) ≡ entry → Effect (becomes s held next entry) → Effect (carriedOf s edit .session)
+      unfolding putOf withTimer
+      by-row held next entry o p q x e = subst Effect (sym (becomes-row s f typed edit made fits s held next entry (ap (withTimer s) o) p q x)) e
 
     effect : (ch : Change) (t : Tables) → occ-asks.CommandAsks r (s .next) type d (Make ch) t → Made r (s .next) t ch
         → (fits : carriedOf s (record { change = ch; tables = t }) .full ≡ false) → Effect (carriedOf s (record { change = ch; tables = t }) .session)
-    unfolding putWith accepted madeOf entryBytes entryFor bytesOf bodyOf inverseOf backOf tablesFor kindOf resetOf madeBy
+    unfolding putWith accepted madeOf timerAfter entryBytes entryFor bytesOf bodyOf takesBack timed timedChange inverseOf backOf tablesFor kindOf resetOf madeBy
     effect ch t (occ-asks.clears e low) made fits =
-        by-row ch t made fits _ _ _ (ap (λ (x : Changed). x .after) (cleared _ _ (made .0))) (add-zero _) refl
+        by-row ch t made fits _ _ _ refl (ap (λ (x : Changed). x .after) (cleared _ _ (made .0))) (add-zero _) refl
         (clear-log _ e low (found-there (getD d 0 0) (r .logs) (typed .held .logs) low .1))
-    effect ch t (occ-asks.sets-state e) made fits = by-row ch t made fits _ _ _ refl (add-zero _) refl (set-state e)
-    effect ch t (occ-asks.sets-role e g) made fits = by-row ch t made fits _ _ _ refl (add-zero _) refl (set-role e g)
-    effect ch t (occ-asks.sets-caps e g) made fits = by-row ch t made fits _ _ _ refl (add-zero _) refl (set-caps e g)
-    effect ch t (occ-asks.sets-throttles e g x y) made fits = by-row ch t made fits _ _ _ refl (add-zero _) refl (set-throttles e g x y)
-    effect ch t (occ-asks.sets-thermal e g x y) made fits = by-row ch t made fits _ _ _ refl (add-zero _) refl (set-thermal e g x y)
-    effect ch t (occ-asks.sets-user e) made fits = by-row ch t made fits _ _ _ refl (add-zero _) refl (set-user e)
-    effect ch t (occ-asks.resets e none) made fits = by-row ch t made fits _ _ _ refl (add-zero _) refl (reset e none)
+    effect ch t (occ-asks.sets-state e) made fits = by-row ch t made fits _ _ _ refl refl (add-zero _) refl (set-state e)
+    effect ch t (occ-asks.sets-role e g) made fits = by-row ch t made fits _ _ _ refl refl (add-zero _) refl (set-role e g)
+    effect ch t (occ-asks.sets-caps e g) made fits = by-row ch t made fits _ _ _ refl refl (add-zero _) refl (set-caps e g)
+    effect ch t (occ-asks.sets-throttles e g x y) made fits = by-row ch t made fits _ _ _ refl refl (add-zero _) refl (set-throttles e g x y)
+    effect ch t (occ-asks.sets-thermal e g x y) made fits = by-row ch t made fits _ _ _ refl refl (add-zero _) refl (set-thermal e g x y)
+    effect ch t (occ-asks.sets-user e) made fits = by-row ch t made fits _ _ _ refl refl (add-zero _) refl (set-user e)
+    effect ch t (occ-asks.resets e none) made fits = by-row ch t made fits _ _ _ refl refl (add-zero _) refl (reset e none)
     effect ch t (occ-asks.resets-logged e due low) made fits =
-        by-row ch t made fits _ _ _ (ap (λ (x : Changed). x .after) (logged _ low)) (ap (λ (n : ℕ). s .next + n) (drawn (getD d 1 0))) (ap (λ (n : ℕ). 0x08 ∷ r .state ∷ n ∷ []) (drawn (getD d 1 0)))
+        by-row ch t made fits _ _ _ refl (ap (λ (x : Changed). x .after) (logged _ low)) (ap (λ (n : ℕ). s .next + n) (drawn (getD d 1 0))) (ap (λ (n : ℕ). 0x08 ∷ r .state ∷ n ∷ []) (drawn (getD d 1 0)))
         (reset-logged e due)
 
 -- two deeds that differ
@@ -129,6 +137,7 @@ isAdded (adds e) = true
 isAdded strikes = false
 isAdded unstrikes = false
 isAdded (drops n) = false
+isAdded (ticks n) = false
 
 abbrev isMoved : Deed → Bool
 isMoved keeps = false
@@ -136,6 +145,7 @@ isMoved (adds e) = false
 isMoved strikes = true
 isMoved unstrikes = true
 isMoved (drops n) = true
+isMoved (ticks n) = true
 
 keeps-not : (e : Edit) → keeps ≡ adds e → ⊥
 keeps-not e p = false≢true (ap isAdded p)
@@ -149,6 +159,9 @@ unstrikes-not e p = false≢true (ap isAdded p)
 drops-not : (n : ℕ) (e : Edit) → drops n ≡ adds e → ⊥
 drops-not n e p = false≢true (ap isAdded p)
 
+ticks-not : (n : ℕ) (e : Edit) → ticks n ≡ adds e → ⊥
+ticks-not n e p = false≢true (ap isAdded p)
+
 pub added-not : (e : Edit) → adds e ≡ keeps → ⊥
 added-not e p = false≢true (sym (ap isAdded p))
 
@@ -161,12 +174,15 @@ unstruck-not p = false≢true (sym (ap isMoved p))
 pub dropped-not : (n : ℕ) → drops n ≡ keeps → ⊥
 dropped-not n p = false≢true (sym (ap isMoved p))
 
+pub ticked-not : (n : ℕ) → ticks n ≡ keeps → ⊥
+ticked-not n p = false≢true (sym (ap isMoved p))
+
 same-edit : (a b : Edit) → adds a ≡ adds b → a ≡ b
 same-edit a b p = cc
 
 carried-held : (s : Session) (e : Edit) → carriedOf s e .full ≡ false → carriedOf s e .session .held ≡ putOf (s .held) e .after
 unfolding carriedOf carriedTo renewed
-carried-held s e fits = go (endOf (length (s .journal)) (s .used) (inverseOf (s .held) e)) fits
+carried-held s e fits = go (endOf (length (s .journal)) (s .used) (takesBack (s .held) (s .timer) e)) fits
   where
     go : (x : End) → carriedTo s e x .full ≡ false → carriedTo s e x .session .held ≡ putOf (s .held) e .after
     go (At used) h = refl
@@ -234,60 +250,75 @@ module _ (s : Session) (typed : TypedSession s) (sender : ℕ) (c d : List ℕ) 
 
 -- ---- SBE
 
-module _ (s : Session) (typed : TypedSession s) (r d : List ℕ) where
+module _ (s : Session) (typed : TypedSession s) (r d m x : List ℕ) where
   module _ (f : Formed s) (ch : Change) (made : Made (s .held) (s .next) noTables ch) (fits : carriedOf s (sbe-demands.edit ch) .full ≡ false) where
-    by-request : (held : Record) (entry : List ℕ) → putWith (s .held) noTables ch .after ≡ held → s .next + madeOf ch ≡ s .next → entryBytes (inverseOf (s .held) (sbe-demands.edit ch)) ≡ entry
-        → SbeEffect s r (becomes s held (s .next) entry) → SbeEffect s r (carriedOf s (sbe-demands.edit ch) .session)
+    by-request : (t : Session) (held : Record) (entry : List ℕ) → withTimer s (timerAfter (s .timer) ch) ≡ t → putWith (s .held) noTables ch .after ≡ held → s .next + madeOf ch ≡ s .next
+        → entryBytes (takesBack (s .held) (s .timer) (sbe-demands.edit ch)) ≡ entry → SbeEffect s r (becomes t held (s .next) entry) → SbeEffect s r (carriedOf s (sbe-demands.edit ch) .session)
     unfolding putOf
-    by-request held entry p q x e = subst (SbeEffect s r) (sym (becomes-row s f typed (sbe-demands.edit ch) made fits held (s .next) entry p q x)) e
+    by-request t held entry o p q z e = subst (SbeEffect s r) (sym (becomes-row s f typed (sbe-demands.edit ch) made fits t held (s .next) entry o p q z)) e
 
   request-effect : (f : Formed s) (ch : Change) → sbe-demands.RequestAsks r ch → Made (s .held) (s .next) noTables ch
       → (fits : carriedOf s (sbe-demands.edit ch) .full ≡ false) → SbeEffect s r (carriedOf s (sbe-demands.edit ch) .session)
-  unfolding putWith accepted madeOf entryBytes entryFor bytesOf bodyOf inverseOf backOf tablesFor kindOf
-  request-effect f ch (sbe-demands.starts n e) made fits = by-request f ch made fits _ _ refl (add-zero _) refl (start-deadman n e)
-  request-effect f ch (sbe-demands.stops n e) made fits = by-request f ch made fits _ _ refl (add-zero _) refl (stop-deadman n e)
-  request-effect f ch (sbe-demands.masks n) made fits = by-request f ch made fits _ _ refl (add-zero _) refl (set-mask n)
-  request-effect f ch (sbe-demands.sets-areas n) made fits = by-request f ch made fits _ _ refl (add-zero _) refl (set-areas n)
+  unfolding putWith accepted madeOf withTimer timerAfter entryBytes entryFor bytesOf bodyOf takesBack timed timedChange inverseOf backOf tablesFor kindOf
+  request-effect f ch (sbe-demands.starts n e) made fits = by-request f ch made fits _ _ _ refl refl (add-zero _) refl (start-deadman n e)
+  request-effect f ch (sbe-demands.stops n e) made fits = by-request f ch made fits _ _ _ refl refl (add-zero _) refl (stop-deadman n e)
+  request-effect f ch (sbe-demands.masks n) made fits = by-request f ch made fits _ _ _ refl refl (add-zero _) refl (set-mask n)
+  request-effect f ch (sbe-demands.starts-timer n e) made fits = by-request f ch made fits _ _ _ refl refl (add-zero _) refl (start-timer n e)
+  request-effect f ch (sbe-demands.stops-timer n e) made fits = by-request f ch made fits _ _ _ refl refl (add-zero _) refl (stop-timer n e)
+  request-effect f ch (sbe-demands.sets-areas n) made fits = by-request f ch made fits _ _ _ refl refl (add-zero _) refl (set-areas n)
+
+  -- nothing but the response, or a read
+  plain-effect : Plainly r ⊎ Served r m x → SbeEffect s r s
+  plain-effect = ⊎-elim (⊎-elim (λ a. exit-contained (a .0)) (λ a. put-ring (a .names))) (λ a. read-seeprom (a .0 .0))
 
   abbrev Responded : Said → Type 0
   Responded q = (q .answer ≡ 0) and (q .reply ≡ atFront (responseBytes 0x00 0x00 r) d)
 
-  called-request : Bytes r → (q : Said) (e : Deed) → sbe-demands.Called s typed r d q e → Responded q → SbeEffect s r (q .session)
+  called-request : Bytes r → (q : Said) (e : Deed) → sbe-demands.Called s typed r d m x q e → Responded q → SbeEffect s r (q .session)
   unfolding kept done
   called-request b q e (sbe-demands.ill-formed h) ok = absurd (omega (arith, ok .0))
   called-request b q e (sbe-demands.short-reply w h) ok = absurd (omega (arith, ok .0))
   called-request b q e (sbe-demands.short-request w g h) ok = absurd (omega (arith, ok .0))
-  called-request b q e (sbe-demands.answered p y g (sbe-demands.declined m n v)) ok = absurd (sbe-demands.told-apart s typed r d m n v (sym (front-is _ d) ∙ ok .1))
+  called-request b q e (sbe-demands.answered p y g (sbe-demands.declined i j v)) ok = absurd (sbe-demands.told-apart s typed r d m x i j v (sym (front-is _ d) ∙ ok .1))
+  called-request b q e (sbe-demands.answered p y g (sbe-demands.plain v)) ok = plain-effect (done-ruled r m x .0 v)
   called-request b q e (sbe-demands.answered p y g (sbe-demands.no-room ch v full)) ok = absurd (omega (arith, ok .0))
   called-request b q e (sbe-demands.answered p y g (sbe-demands.carried ch v fits)) ok =
-      request-effect (formed s (p .formed)) ch (sbe-demands.asks r ch v) (sbe-made (s .held) (s .next) r b ch v) fits
+      let w = change-ruled r m x ch v in request-effect (formed s (p .formed)) ch (sbe-demands.asks r ch w) (sbe-made (s .held) (s .next) r b ch w) fits
 
-  pub sbe-effect : Bytes r → SbeSucceeds s r d → SbeEffect s r (sbes.sbeCall s r d .session)
+  pub sbe-effect : Bytes r → SbeSucceeds s r d m x → SbeEffect s r (sbes.sbeCall s r d m x .session)
   unfolding SbeSucceeds
-  sbe-effect b ok = called-request b _ _ (sbe-demands.called s typed r d) ok
+  sbe-effect b ok = called-request b _ _ (sbe-demands.called s typed r d m x) ok
 
-  request-deed : (q : Said) (e : Deed) → sbe-demands.Called s typed r d q e → ((x : Edit) × (e ≡ adds x)) ↔ Responded q
+  none-added : {P : Type 0} → (c : Edit) × (keeps ≡ adds c) → P
+  none-added a = absurd (keeps-not (a .0) (a .1))
+
+  request-deed : (q : Said) (e : Deed) → sbe-demands.Called s typed r d m x q e → ((c : Edit) × (e ≡ adds c)) ↔ (Responded q and Changes r)
   unfolding kept done
-  request-deed q e (sbe-demands.ill-formed h) = (λ a. absurd (keeps-not (a .0) (a .1)), λ x. absurd (omega (arith, x .0)))
-  request-deed q e (sbe-demands.short-reply w h) = (λ a. absurd (keeps-not (a .0) (a .1)), λ x. absurd (omega (arith, x .0)))
-  request-deed q e (sbe-demands.short-request w g h) = (λ a. absurd (keeps-not (a .0) (a .1)), λ x. absurd (omega (arith, x .0)))
-  request-deed q e (sbe-demands.answered p y g (sbe-demands.declined m n v)) =
-      (λ a. absurd (keeps-not (a .0) (a .1)), λ x. absurd (sbe-demands.told-apart s typed r d m n v (sym (front-is _ d) ∙ x .1)))
-  request-deed q e (sbe-demands.answered p y g (sbe-demands.no-room ch v full)) = (λ a. absurd (keeps-not (a .0) (a .1)), λ x. absurd (omega (arith, x .0)))
-  request-deed q e (sbe-demands.answered p y g (sbe-demands.carried ch v fits)) = (λ a. (refl, front-is _ d), λ x. (sbe-demands.edit ch, refl))
+  request-deed q e (sbe-demands.ill-formed h) = (none-added, λ z. absurd (omega (arith, z .0 .0)))
+  request-deed q e (sbe-demands.short-reply w h) = (none-added, λ z. absurd (omega (arith, z .0 .0)))
+  request-deed q e (sbe-demands.short-request w g h) = (none-added, λ z. absurd (omega (arith, z .0 .0)))
+  request-deed q e (sbe-demands.answered p y g (sbe-demands.declined i j v)) =
+      (none-added, λ z. absurd (sbe-demands.told-apart s typed r d m x i j v (sym (front-is _ d) ∙ z .0 .1)))
+  request-deed q e (sbe-demands.answered p y g (sbe-demands.plain v)) = (none-added, λ z. absurd (sbe-demands.answered-not r m x v (z .1)))
+  request-deed q e (sbe-demands.answered p y g (sbe-demands.no-room ch v full)) = (none-added, λ z. absurd (omega (arith, z .0 .0)))
+  request-deed q e (sbe-demands.answered p y g (sbe-demands.carried ch v fits)) =
+      (λ a. ((refl, front-is _ d), sbe-demands.is-asked r m x ch v), λ z. (sbe-demands.edit ch, refl))
 
-  pub sbe-deed : ((x : Edit) × (deed s (sbe r d) ≡ adds x)) ↔ SbeSucceeds s r d
+  -- what is answered without a change counts as nothing
+  pub sbe-deed : ((c : Edit) × (deed s (sbe r d m x) ≡ adds c)) ↔ (SbeSucceeds s r d m x and Changes r)
   unfolding SbeSucceeds
-  sbe-deed = request-deed _ _ (sbe-demands.called s typed r d)
+  sbe-deed = request-deed _ _ (sbe-demands.called s typed r d m x)
 
--- ---- the change that a call counts as is the one that its record shows
+-- ---- the change that a call counts as is the one that its record and its timer show
 
 module _ (s : Session) (x : Edit) where
   abbrev Shown : Session → Type 0
-  Shown t = t .held ≡ putOf (s .held) x .after
+  Shown t = (t .held ≡ putOf (s .held) x .after) × (t .timer ≡ timerAfter (s .timer) (x .change))
 
   counted : (e : Edit) → adds e ≡ adds x → carriedOf s e .full ≡ false → Shown (carriedOf s e .session)
-  counted e p fits = carried-held s e fits ∙ ap (λ (y : Edit). putOf (s .held) y .after) (same-edit e x p)
+  counted e p fits =
+      let same = same-edit e x p in
+      (carried-held s e fits ∙ ap (λ (y : Edit). putOf (s .held) y .after) same, carried-timer s e fits ∙ ap (λ (y : Edit). timerAfter (s .timer) (y .change)) same)
 
   abbrev Showing : Said → Deed → Type 0
   Showing q e = e ≡ adds x → Shown (q .session)
@@ -300,7 +331,8 @@ module _ (s : Session) (x : Edit) where
   asked-shown d (moves Before at e) = λ p. absurd (strikes-not x p)
   asked-shown d (moves After at e) = λ p. absurd (unstrikes-not x p)
   asked-shown d (forgets n) = λ p. absurd (drops-not n x p)
+  asked-shown d (passes n) = λ p. absurd (ticks-not n x p)
 
-  pub deed-shown : (c : Call) → deed s c ≡ adds x → said s c .session .held ≡ putOf (s .held) x .after
+  pub deed-shown : (c : Call) → deed s c ≡ adds x → Shown (said s c .session)
   unfolding said deed
   deed-shown c = asked-shown (bufferOf c) (asks s c)

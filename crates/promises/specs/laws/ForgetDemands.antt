@@ -1,7 +1,7 @@
 -- Demands 1 and 2 of forgetting: its answers, and what it does. Assumes nothing.
 use Prim.Native.Nat.{ℕ, _+_, _-_, _≤_}
 use mathlib.Core.Bool.{Bool, true, false, cond, not, true≢false}
-use mathlib.Core.Logic.{_↔_}
+use mathlib.Core.Logic.{_↔_, inl}
 use mathlib.Core.Path.{_≡_, refl, sym, ap, ap₂, subst, _∙_}
 use mathlib.Core.List.{List, [], _++_, append-assoc}
 use native.Mathlib.Omega.{arith}
@@ -26,7 +26,7 @@ use Rattle.links.specs.Typed.{TypedSession}
 use Rattle.entries.specs.Entries.{Entry, written, Scan, entriesOf}
 use Rattle.entries.specs.laws.Entries.{scan-written}
 use Rattle.marks.specs.laws.Marks.{length-marks}
-use Rattle.sbe.specs.Conditions.{Accepted}
+use Rattle.sbe.specs.Conditions.{Changes}
 use Rattle.promises.specs.Demand1.{ForgetAnswer}
 use Rattle.promises.specs.Demand2.{KnownSender, entryLength, HasRoom, WellAsked, occKind, sbeKind, OccSucceeds, OccAccepted, SbeSucceeds, SbeAccepted}
 use Rattle.promises.specs.Effects.{ForgetEffect}
@@ -168,6 +168,7 @@ module _ (n : ℕ) (s : Session) (typed : TypedSession s) (done : forgetCall n s
         redo = typed .redo;
         ahead = typed .ahead;
         marks = length-marks _;
+        timer = typed .timer;
       })
 
   formed-after : wellFormed t ≡ true
@@ -183,6 +184,6 @@ module _ (n : ℕ) (s : Session) (typed : TypedSession s) (done : forgetCall n s
       occ-accepted t typed-after sender c d formed-after .1
       (known, (long, (some, (subst (λ (x : Session). WellAsked x sender c) (sym (e .session-is)) well, λ z. has-room (occKind c) room))))
 
-  pub sbe-fits-freed : (r d : List ℕ) → 32 ≤ length d → 32 ≤ length r → Accepted r → s .used + entryLength (sbeKind r) ≤ 2048 + freed → SbeSucceeds t r d
+  pub sbe-fits-freed : (r d m x : List ℕ) → 32 ≤ length d → 32 ≤ length r → Changes r → s .used + entryLength (sbeKind r) ≤ 2048 + freed → SbeSucceeds t r d m x
   unfolding SbeAccepted
-  sbe-fits-freed r d long some ok room = sbe-accepted t typed-after r d formed-after .1 (long, (some, (ok, has-room (sbeKind r) room)))
+  sbe-fits-freed r d m x long some ok room = sbe-accepted t typed-after r d m x formed-after .1 (long, (some, inl (ok, has-room (sbeKind r) room)))

@@ -20,13 +20,12 @@ use Rattle.session.specs.Session.{entriesIn, renewed}
 use Rattle.session.specs.Road.{refuses, forgets, heldIn, oldest, freedBy, movedDown, sessionFreed, forgotten}
 use Rattle.session.specs.laws.Forgotten.{freed-is}
 use Rattle.session.specs.declared.Session.{Session}
+use Rattle.session.specs.laws.Timer.{Clock}
 use Rattle.links.specs.Typed.{TypedRecord}
-use Rattle.links.specs.laws.Made.{Made}
-use Rattle.links.specs.laws.Links.{Link}
 use Rattle.forget_call.specs.Forget.{oldestAsks, forgetAsks}
 use Rattle.promises.specs.History.{applied, oldestOf, newerThan}
 use Rattle.promises.specs.laws.Stores.{zeros, padded, take-padded, flat, pile, pile-reads, pile-written}
-use Rattle.promises.specs.laws.ByHistory.{standing, backs, byHistory, journalOf, Step, Kept, Again, Sane, backs-stored, backs-count, history-formed}
+use Rattle.promises.specs.laws.ByHistory.{standing, backs, byHistory, journalOf, Kept, Sane, step-at, again-at, backs-stored, backs-count, history-formed}
 
 -- ---- the changes left, in two parts
 
@@ -124,25 +123,9 @@ module _ (base : Record) where
   backs-append [] ys = refl
   backs-append (e ∷ xs) ys = ap₂ (λ (r : Record) (l : List Edit). inverseOf r e ∷ l) (applied-append base xs ys) (backs-append xs ys)
 
-  -- what is known of a change goes by the record before it
-  step-at : (c : Record) (hi : ℕ) (e : Edit) (es fs : List Edit) → applied base es ≡ applied c fs → Step base hi e es → Step c hi e fs
-  step-at c hi e es fs p x = record {
-    known = x .known;
-    made = subst (λ (r : Record). Made r (x .known) (e .tables) (e .change)) p (x .made);
-    below = x .below;
-    links = subst (λ (r : Record). Link r (x .known) e) p (x .links);
-    ok = subst (λ (r : Record). recordOk r hi ≡ true) p (x .ok);
-    typed = subst TypedRecord p (x .typed);
-  }
-
   kept-newer : (hi : ℕ) (xs ys : List Edit) → Kept base hi (xs ++ ys) → Kept (applied base ys) hi xs
   kept-newer hi [] ys k = tt
-  kept-newer hi (e ∷ xs) ys k = (step-at (applied base ys) hi e (xs ++ ys) xs (applied-append base xs ys) (k .0), kept-newer hi xs ys (k .1))
-
-  again-at : (c : Record) (hi : ℕ) (es fs rs : List Edit) → applied base es ≡ applied c fs → Again base hi es rs → Again c hi fs rs
-  unfolding applied
-  again-at c hi es fs [] p k = tt
-  again-at c hi es fs (r ∷ rs) p k = (step-at c hi r es fs p (k .0), again-at c hi (r ∷ es) (r ∷ fs) rs (ap (λ (x : Record). putOf x r .after) p) (k .1))
+  kept-newer hi (e ∷ xs) ys k = (step-at base (applied base ys) hi e (xs ++ ys) xs (applied-append base xs ys) (k .0), kept-newer hi xs ys (k .1))
 
   module _ (s : Session) (es : List Edit) (next : ℕ) (rs : List Edit) (sane : Sane base es next rs) (n : ℕ) (few : n ≤ length es) where
     abbrev os : List Edit
@@ -173,7 +156,7 @@ module _ (base : Record) where
       ok = subst (λ (r : Record). recordOk r next ≡ true) (sym (whole-record base n es)) (sane .ok);
       typed = subst TypedRecord (sym (whole-record base n es)) (sane .typed);
       kept = kept-newer next ks os (subst (Kept base next) (sym (two-parts n es)) (sane .kept));
-      again = again-at from next es ks rs (sym (whole-record base n es)) (sane .again);
+      again = again-at base from next es ks rs (sym (whole-record base n es)) (sane .again);
     }
 
     abbrev was : Session
@@ -220,9 +203,9 @@ module _ (base : Record) where
         λ i. renewed s (sym (whole-record base n es) i) next (j i) (u i) (padded (flat rs)) (length (flat rs))
 
   -- what it asks of that session
-  pub forget-asks : (s : Session) (es : List Edit) (next : ℕ) (rs : List Edit) → Sane base es next rs → (n : ℕ)
+  pub forget-asks : (s : Session) → Clock (s .timer) → (es : List Edit) (next : ℕ) (rs : List Edit) → Sane base es next rs → (n : ℕ)
       → forgetAsks n (byHistory base s es next rs) ≡ cond (ltb (length es) n) (refuses 9) (forgets n)
   unfolding forgetAsks oldestAsks
-  forget-asks s es next rs sane n =
-      sym (else-b _ _ (ap not (history-formed base s es next rs sane)) refl)
+  forget-asks s c es next rs sane n =
+      sym (else-b _ _ (ap not (history-formed base s c es next rs sane)) refl)
       ∙ ap (λ (k : ℕ). cond (ltb k n) (refuses 9) (forgets n)) (held-history s es next rs sane 0 (omega arith))

@@ -1,31 +1,35 @@
 -- A fresh session starts a history. Assumes nothing.
+use Prim.Native.Nat.{ℕ}
 use mathlib.Core.Bool.{true}
 use mathlib.Core.Path.{_≡_, refl}
-use mathlib.Core.List.{[]}
 use native.Mathlib.Omega.{arith}
+use lib.ListN.{length-replicate}
 use Rattle.record.specs.Record.{freshRecord}
-use Rattle.formed.specs.Formed.{recordOk}
-use Rattle.session.specs.Session.{freshSession}
+use Rattle.session.specs.Session.{freshSession, wellFormed}
+use Rattle.links.specs.Typed.{TypedSession}
 use Rattle.links.specs.laws.Typed.{typed-fresh}
+use Rattle.promises.specs.History.{start}
 use Rattle.promises.specs.laws.ComputedSession.{computedSession}
-use Rattle.promises.specs.Marks.{left, logsMade}
-use Rattle.promises.specs.History.{applied, start}
-use Rattle.promises.specs.Ids.{idsMade, countdown}
-use Rattle.promises.specs.laws.Stores.{padded, flat}
-use Rattle.promises.specs.laws.ByHistory.{standing, backs, byHistory, Sane}
-use Rattle.promises.specs.laws.Struck.{off}
-use Rattle.promises.specs.laws.Marks.{strokes-start}
-use Rattle.journal.specs.Ways.{byWay}
 use Rattle.promises.specs.laws.Demand3.{Inv}
+use Rattle.promises.specs.laws.Opened.{opened-start}
 
-fresh-ok : recordOk freshRecord 1 ≡ true
+fresh-formed : wellFormed freshSession ≡ true
 unfolding computedSession
-fresh-ok = refl
+fresh-formed = refl
 
-fresh-sane : Sane freshRecord [] 1 []
-unfolding backs flat applied
-fresh-sane = record { small = omega arith; fits = omega arith; ok = fresh-ok; typed = typed-fresh; kept = tt; again = tt }
+fresh-typed : TypedSession freshSession
+unfolding freshSession
+fresh-typed = record {
+  held = typed-fresh;
+  journal = length-replicate {A = ℕ} 2048 0;
+  next = omega arith;
+  used = omega arith;
+  redo = length-replicate {A = ℕ} 2048 0;
+  ahead = omega arith;
+  marks = length-replicate {A = ℕ} 64 0;
+  timer = omega arith;
+}
 
-pub fresh-start : Inv freshRecord (start freshSession)
-unfolding computedSession start left logsMade off idsMade countdown byHistory standing byWay padded backs flat applied
-fresh-start = record { is = refl; sane = fresh-sane; low = omega arith; ids = refl; strokes = strokes-start }
+pub fresh-start : Inv freshRecord 1 (start freshSession)
+unfolding freshSession
+fresh-start = opened-start freshSession fresh-typed fresh-formed refl refl

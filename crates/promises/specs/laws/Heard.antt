@@ -1,17 +1,17 @@
 -- One call on two sessions that are the same but for ids: both say the same but for ids, and do the same. Assumes nothing.
 use Prim.Native.Nat.{ℕ, suc, _≤_}
-use mathlib.Core.Bool.{Bool, true, false, cond, not}
+use mathlib.Core.Bool.{Bool, true, false, cond, not, false≢true}
 use mathlib.Core.Logic.{_⊎_, inl, inr, ⊎-elim}
 use mathlib.Core.Path.{_≡_, refl, sym, ap, ap₂, subst, _∙_}
 use mathlib.Core.List.{List}
 use borrow.Author.Tests.{eqb-true, not-false}
 use lib.Dec.{eqb}
 use lib.ListN.{length, getD}
-use Rattle.wire.specs.laws.Cases.{by-both, by-same}
+use Rattle.wire.specs.laws.Cases.{cond-cases, by-both, by-same}
 use Rattle.wire.specs.Wire.{Bytes, pasted}
 use Rattle.change.specs.Change.{noTables, kindOf}
 use Rattle.change.specs.declared.Change.{Change}
-use Rattle.change.specs.declared.Change.the-variants.{Clear, Unclear, SetState, SetRole, SetCaps, SetUser, SetThermal, SetThrottles, Reset, Unreset, SetMask, SetDeadman, SetAreas}
+use Rattle.change.specs.declared.Change.the-variants.{Clear, Unclear, SetState, SetRole, SetCaps, SetUser, SetThermal, SetThrottles, Reset, Unreset, SetMask, SetDeadman, SetAreas, SetTimer}
 use Rattle.change.specs.declared.Edit.{Edit}
 use Rattle.change.specs.declared.Tables.{Tables}
 use Rattle.journal.specs.Ways.{byWay}
@@ -26,25 +26,27 @@ use Rattle.places.specs.Places.{faultOf}
 use Rattle.places.specs.declared.Blame.{Blame}
 use Rattle.places.specs.declared.Blame.the-variants.{Nothing}
 use Rattle.sbe.specs.Mailbox as mailbox
+use Rattle.sbe.specs.Conditions.{grants}
 use Rattle.sbe.specs.laws.Made.{change-fits}
 use Rattle.sbe.specs.declared.Ruling.{Ruling}
-use Rattle.sbe.specs.declared.Ruling.the-variants.{Decline, Grant}
+use Rattle.sbe.specs.declared.Ruling.the-variants.{Decline, Grant, Done, Read}
 use Rattle.session.specs.Session.{wellFormed, carriedOf}
-use Rattle.session.specs.Road.{Asks, refuses, tells, makes, moves, due, kept, done, carriedSays, settled}
+use Rattle.session.specs.Road.{Asks, refuses, tells, makes, moves, passes, timerBell, due, kept, done, carriedSays, settled}
 use Rattle.session.specs.declared.Session.{Session}
 use Rattle.occ_call.specs.Occ as occs
 use Rattle.occ_call.specs.laws.Why.{asked-read}
 use Rattle.sbe_call.specs.Sbe as sbes
 use Rattle.undo_call.specs.Undo.{moveAsks, passedBy}
+use Rattle.time_call.specs.Time.{timeAsks}
 use Rattle.promises.specs.Calls.{Call, occ, bufferOf, asks, said}
-use Rattle.promises.specs.History.{Deed, keeps, adds, strikes, unstrikes, drops, adding, deedBy, deed, OfBytes}
+use Rattle.promises.specs.History.{Deed, keeps, adds, strikes, unstrikes, drops, ticks, adding, deedBy, deed, OfBytes}
 use Rattle.promises.specs.laws.Shifted.{shiftedChange, shiftedEdit, choose}
 use Rattle.promises.specs.Shifted.{shiftedRecord}
 use Rattle.promises.specs.Lent.{told}
 use Rattle.promises.specs.laws.Judgements.{shiftedVerdict, shiftedJudged, Ended, Likewise, old-id, asked-same, asked-clears}
 use Rattle.promises.specs.laws.Aside.{told-moved}
 use Rattle.promises.specs.laws.Blames.{same-fault, clears-fault, verdict-fault}
-use Rattle.promises.specs.Later.{Clears, SameWish, occ-same, occ-clears, sbe-same, undo-same, SameReply, same-bytes, same-poll, Twins, Alike, IdsEnd, ids-end}
+use Rattle.promises.specs.Later.{Clears, SameWish, occ-same, occ-clears, sbe-same, undo-same, time-same, SameReply, same-bytes, same-poll, Twins, Alike, IdsEnd, ids-end}
 
 -- what a call does, in the second world
 unfoldable pub shiftedDeed : ℕ → Deed → Deed
@@ -53,6 +55,16 @@ shiftedDeed k (adds e) = adds (shiftedEdit k e)
 shiftedDeed k strikes = strikes
 shiftedDeed k unstrikes = unstrikes
 shiftedDeed k (drops n) = drops n
+shiftedDeed k (ticks n) = ticks n
+
+-- what is no grant
+no-grant : {p q : ℕ} {ch : Change} → Decline p q ≡ Grant ch → ⊥
+unfolding grants
+no-grant g = false≢true (ap grants g)
+
+no-grant-done : {ch : Change} → Done ≡ Grant ch → ⊥
+unfolding grants
+no-grant-done g = false≢true (ap grants g)
 
 -- ---- what is asked in both worlds
 
@@ -61,6 +73,7 @@ pub data AlikeAsks (k : ℕ) (s : Session) : Asks → Asks → Type 0 where
   both-tell : (bell : ℕ) (y y′ : List ℕ) → SameReply k s y y′ → AlikeAsks k s (tells bell y) (tells bell y′)
   both-make : (e : Edit) (bell : ℕ) (y : List ℕ) → AlikeAsks k s (makes e bell y) (makes (shiftedEdit k e) bell y)
   both-move : (w : Way) (at at′ : ℕ) (e e′ : Edit) → kindOf (e′ .change) ≡ kindOf (e .change) → AlikeAsks k s (moves w at e) (moves w at′ e′)
+  both-pass : (n : ℕ) → AlikeAsks k s (passes n) (passes n)
 
 both-due : (k : ℕ) (s : Session) (n : ℕ) {a b : Asks} → AlikeAsks k s a b → AlikeAsks k s (due n a) (due n b)
 unfolding due
@@ -86,6 +99,7 @@ module _ (k : ℕ) (low : 1 ≤ k) (s t : Session) (tw : Twins k s t) (from-k : 
     choose (shiftedDeed k) {b = carriedOf s e .full} {x = keeps} {y = adds e} (full-is e) refl refl,
   )
   settled-alike d a b (both-move w at at′ e e′ h) = (record { answer = refl; bell = refl; kind = h; reply = same-bytes d }, shifted-way w)
+  settled-alike d a b (both-pass n) = (record { answer = refl; bell = ap (timerBell n) (tw .timer-is); kind = refl; reply = same-bytes d }, refl)
 
   -- ---- OCC
 
@@ -182,22 +196,42 @@ module _ (k : ℕ) (low : 1 ≤ k) (s t : Session) (tw : Twins k s t) (from-k : 
     no-log (SetMask mask) e = refl
     no-log (SetDeadman deadman) e = refl
     no-log (SetAreas areas) e = refl
+    no-log (SetTimer timer) e = refl
 
     edit-is : (ch : Change) → mailbox.requestRuling r ≡ Grant ch → shiftedEdit k (record { change = ch; tables = noTables }) ≡ record { change = ch; tables = noTables }
     unfolding shiftedEdit
     edit-is ch granted = λ i. record { change = no-log ch granted i; tables = noTables }
 
-    ruling-alike : (v : Ruling) → mailbox.requestRuling r ≡ v → AlikeAsks k s (sbes.rulingAsks r d v) (sbes.rulingAsks r d v)
+    told-alike : (v : Ruling) → ((ch : Change) → v ≡ Grant ch → mailbox.requestRuling r ≡ Grant ch) → AlikeAsks k s (sbes.rulingAsks r d v) (sbes.rulingAsks r d v)
     unfolding sbes.rulingAsks
-    ruling-alike (Decline primary secondary) e = both-tell _ _ _ (same-bytes _)
-    ruling-alike (Grant ch) e =
-        subst (λ (x : Edit). AlikeAsks k s (sbes.rulingAsks r d (Grant ch)) (makes x (mailbox.bellOf r) (pasted 0 (mailbox.responseBytes 0x00 0x00 r) d))) (edit-is ch e) (both-make _ _ _)
+    told-alike (Decline primary secondary) e = both-tell _ _ _ (same-bytes _)
+    told-alike (Grant ch) e =
+        subst (λ (x : Edit). AlikeAsks k s (sbes.rulingAsks r d (Grant ch)) (makes x (mailbox.bellOf r) (pasted 0 (mailbox.responseBytes 0x00 0x00 r) d))) (edit-is ch (e ch refl)) (both-make _ _ _)
+    told-alike Done e = both-tell _ _ _ (same-bytes _)
+    told-alike (Read offset size) e = both-tell _ _ _ (same-bytes _)
 
-    sbe-alike : AlikeAsks k s (sbes.sbeAsks s r d) (sbes.sbeAsks t r d)
-    unfolding sbes.sbeAsks sbes.sbeRead sbes.sbeRefusal
-    sbe-alike =
-        subst (λ (f : Bool). AlikeAsks k s (sbes.sbeAsks s r d) (due (sbes.refusalOf f (length r) (length d)) (sbes.sbeRead r d))) (formed-s ∙ sym formed-t)
-        (both-due k s _ (ruling-alike (mailbox.requestRuling r) refl))
+    -- a change is granted by the request itself, whatever image and buffer are lent
+    granted-so : (image room : ℕ) (v : Ruling) → mailbox.requestRuling r ≡ v → (ch : Change) → sbes.judgedFor image room v ≡ Grant ch → mailbox.requestRuling r ≡ Grant ch
+    unfolding sbes.judgedFor sbes.readAt
+    granted-so image room (Decline p q) e ch = λ g. e ∙ g
+    granted-so image room (Grant x) e ch = λ g. e ∙ g
+    granted-so image room Done e ch = λ g. e ∙ g
+    granted-so image room (Read offset size) e ch =
+        cond-cases (λ (u : Ruling). u ≡ Grant ch → mailbox.requestRuling r ≡ Grant ch) (not (eqb (sbes.readStatus image room offset size) 0)) (λ f g. absurd (no-grant g)) (λ f g. absurd (no-grant-done g))
+
+    sbe-alike : (m x : List ℕ) → AlikeAsks k s (sbes.sbeAsks s r d m x) (sbes.sbeAsks t r d m x)
+    unfolding sbes.sbeAsks sbes.sbeRead sbes.sbeRuling sbes.sbeRefusal
+    sbe-alike m x =
+        subst (λ (f : Bool). AlikeAsks k s (sbes.sbeAsks s r d m x) (due (sbes.refusalOf f (length r) (length d)) (sbes.sbeRead r d m x))) (formed-s ∙ sym formed-t)
+        (both-due k s _ (told-alike (sbes.sbeRuling r m x) (granted-so (length m) (length x) (mailbox.requestRuling r) refl)))
+
+  -- ---- time
+
+  time-alike : (n : ℕ) → AlikeAsks k s (timeAsks n s) (timeAsks n t)
+  unfolding timeAsks
+  time-alike n =
+      subst (λ (f : Bool). AlikeAsks k s (timeAsks n s) (cond (not f) (refuses 1) (passes n))) (formed-s ∙ sym formed-t)
+      (cond-cases (λ (a : Asks). AlikeAsks k s a a) (not (wellFormed s)) (λ f. both-refuse 1) (λ f. both-pass n))
 
   -- ---- any call
 
@@ -251,9 +285,12 @@ module _ (k : ℕ) (low : 1 ≤ k) (s t : Session) (tw : Twins k s t) (from-k : 
     heard c c′ (occ-clears sender x x′ d h) b =
         occ-heard sender x x′ d (occ-alike sender x x′ d (h .long) (h .sequence) (h .type′ ∙ sym (h .type)) (fault-there sender x x′ (λ v. clears-there x x′ h))
         (moved-there sender x x′ (asked-clears k low (s .next) from-k (s .held) (s .worked) sender x x′ h)))
-    heard c c′ (sbe-same r d) b =
-        let o = said-alike c c′ refl (sbe-alike r d b) in
+    heard c c′ (sbe-same r d m x) b =
+        let o = said-alike c c′ refl (sbe-alike r d b m x) in
         inr (o .0, o .1, (λ i. record { answer = o .0 .answer i; small = 0; beside = o .0 .bell i }))
     heard c c′ undo-same b =
         let o = said-alike c c′ refl undo-alike in
         inr (o .0, o .1, (λ i. told-moved (o .0 .answer i) (passed-alike i) (o .0 .kind i)))
+    heard c c′ (time-same n) b =
+        let o = said-alike c c′ refl (time-alike n) in
+        inr (o .0, o .1, (λ i. record { answer = o .0 .answer i; small = 0; beside = o .0 .bell i }))

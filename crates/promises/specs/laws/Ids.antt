@@ -12,7 +12,7 @@ use Rattle.record.specs.declared.Log.{Log}
 use Rattle.record.specs.declared.Record.{Record}
 use Rattle.change.specs.Change.{madeBy}
 use Rattle.change.specs.declared.Change.{Change}
-use Rattle.change.specs.declared.Change.the-variants.{Clear, Unclear, SetState, SetRole, SetCaps, SetUser, SetThermal, SetThrottles, Reset, Unreset, SetMask, SetDeadman, SetAreas}
+use Rattle.change.specs.declared.Change.the-variants.{Clear, Unclear, SetState, SetRole, SetCaps, SetUser, SetThermal, SetThrottles, Reset, Unreset, SetMask, SetDeadman, SetAreas, SetTimer}
 use Rattle.change.specs.declared.Tables.{Tables}
 use Rattle.session.specs.Session.{madeOf}
 use Rattle.links.specs.laws.Made.{NewLog, Made}
@@ -46,13 +46,15 @@ drew r n t (Unreset state made) m = absurd m
 drew r n t (SetMask mask) m = inl (refl, refl)
 drew r n t (SetDeadman deadman) m = inl (refl, refl)
 drew r n t (SetAreas areas) m = inl (refl, refl)
+drew r n t (SetTimer timer) m = inl (refl, refl)
 
 -- one mark more
-pub ids-add : (m : Mark) (ms : List Mark) → Drew (suc (logsMade ms)) (m .edit .change) → idsMade ms ≡ countdown (logsMade ms) → idsMade (m ∷ ms) ≡ countdown (logsMade (m ∷ ms))
+pub ids-add : (first : ℕ) (m : Mark) (ms : List Mark) → Drew (first + logsMade ms) (m .edit .change) → idsMade ms ≡ countdown first (logsMade ms)
+    → idsMade (m ∷ ms) ≡ countdown first (logsMade (m ∷ ms))
 unfolding idsMade logsMade countdown
-ids-add m ms w e =
+ids-add first m ms w e =
     ⊎-elim
-    (λ h. sym (if-eq (idsMade ms) _ {m = idOf (m .edit .change)} {n = 0} (h .0) refl) ∙ e ∙ ap countdown (sym (ap (λ (k : ℕ). logsMade ms + k) (h .1) ∙ add-zero (logsMade ms))))
+    (λ h. sym (if-eq (idsMade ms) _ {m = idOf (m .edit .change)} {n = 0} (h .0) refl) ∙ e ∙ ap (countdown first) (sym (ap (λ (k : ℕ). logsMade ms + k) (h .1) ∙ add-zero (logsMade ms))))
     (λ h. sym (else-eq (idsMade ms) _ {m = idOf (m .edit .change)} {n = 0} (λ z. omega (arith, h .0, z)) refl) ∙ ap₂ (λ (x : ℕ) (l : List ℕ). x ∷ l) (h .0) e
-    ∙ ap countdown (sym (ap (λ (k : ℕ). logsMade ms + k) (h .1) ∙ add-one (logsMade ms))))
+    ∙ ap (countdown first) (sym (ap (λ (k : ℕ). logsMade ms + k) (h .1) ∙ add-one (logsMade ms))))
     w

@@ -6,12 +6,12 @@ use Rattle.wire.specs.laws.Cases.{by-both}
 use Rattle.journal.specs.Ways.{byWay}
 use Rattle.journal.specs.declared.Way.the-variants.{Before, After}
 use Rattle.session.specs.Session.{carriedOf}
-use Rattle.session.specs.Road.{Asks, refuses, tells, makes, moves, forgets, Said, kept, done, carriedSays, settled}
+use Rattle.session.specs.Road.{Asks, refuses, tells, makes, moves, forgets, passes, Said, kept, done, carriedSays, settled}
 use Rattle.session.specs.declared.Session.{Session}
 use Rattle.promises.specs.Calls.{Call, bufferOf, asks, said}
 use Rattle.promises.specs.History.{Deed, keeps, adding, deedBy, deed}
 use Rattle.promises.specs.NoTrace.{handedOn, AllKeep}
-use Rattle.promises.specs.laws.Effects.{added-not, struck-not, unstruck-not, dropped-not}
+use Rattle.promises.specs.laws.Effects.{added-not, struck-not, unstruck-not, dropped-not, ticked-not}
 
 module _ (s : Session) where
   abbrev Stays : Said → Deed → Type 0
@@ -25,6 +25,7 @@ module _ (s : Session) where
   asked-stays d (moves Before at e) = λ p. absurd (struck-not p)
   asked-stays d (moves After at e) = λ p. absurd (unstruck-not p)
   asked-stays d (forgets n) = λ p. absurd (dropped-not n p)
+  asked-stays d (passes n) = λ p. absurd (ticked-not n p)
 
   pub kept-session : (c : Call) → deed s c ≡ keeps → said s c .session ≡ s
   unfolding said deed

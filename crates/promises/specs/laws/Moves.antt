@@ -8,9 +8,12 @@ use lib.ListN.{length, take}
 use Rattle.wire.specs.Conditions.{_and_}
 use Rattle.wire.specs.Wire.{pasted}
 use Rattle.record.specs.declared.Record.{Record}
-use Rattle.change.specs.Change.{kindOf, putOf, inverseOf}
+use Rattle.record.specs.declared.Timer.{Timer}
+use Rattle.change.specs.Change.{kindOf, putOf, backOf, inverseOf, timed, takesBack, timerAfter}
+use Rattle.change.specs.declared.Change.{Change}
+use Rattle.change.specs.declared.Change.the-variants.{SetTimer}
 use Rattle.change.specs.declared.Edit.{Edit}
-use Rattle.formed.specs.Formed.{recordOk, editOk}
+use Rattle.formed.specs.Formed.{timerOk, changeOk, recordOk, editOk}
 use Rattle.formed.specs.laws.Formed.{sound, inverse-ok}
 use Rattle.entries.specs.Entries.{bodyLen, bytesOf, written}
 use Rattle.entries.specs.laws.Entries.{scan-proper}
@@ -24,14 +27,15 @@ use Rattle.journal.specs.declared.Way.the-variants.{Before, After}
 use Rattle.journal.specs.laws.Bodies.{Writable}
 use Rattle.journal.specs.laws.Ends.{length-entry}
 use Rattle.journal.specs.laws.Says.{Holds, Says, found-says}
-use Rattle.session.specs.Session.{wellFormed, renewed}
+use Rattle.session.specs.Session.{wellFormed, renewed, withTimer}
 use Rattle.session.specs.Road.{Asks, moves, storeOf, usedOf, lessened, grown, grownTo, sessionMoved, Said, kept, done, settled}
 use Rattle.session.specs.laws.Session.{Store, Formed, formed, formed-ok}
 use Rattle.session.specs.declared.Session.{Session}
 use Rattle.undo_call.specs.Undo.{moveCall}
 use Rattle.undo_call.specs.laws.NoneLeft.{none-zero}
 use Rattle.links.specs.Typed.{TypedSession}
-use Rattle.links.specs.laws.Links.{kind-of-back, writable-back}
+use Rattle.change.specs.laws.Timed.{kind-of-back, timed-kind, timed-cases, by-timer, timer-kept}
+use Rattle.links.specs.laws.Links.{writable-back}
 use Rattle.links.specs.laws.Entry.{entry-ok}
 use Rattle.promises.specs.Demand2.{Newest, GoesIn}
 use Rattle.promises.specs.laws.Moved.{entry-moved}
@@ -39,22 +43,34 @@ use Rattle.promises.specs.Effects.{zeroedFrom, movesTo, entryBack, MoveE
 use Rattle.promises.specs.laws.FormedStores.{all-good, all-parts, more-pasted, cut-zeroed, used-is, one-less, store-of, both-used, long-store}
 use Rattle.promises.specs.laws.UndoDemands.{Called, ill-formed, empty, barred, goes, called}
 
+-- ---- beside a timer that passes
+
+-- a change written with it passes where it passes without
+timed-ok : (t : Timer) → timerOk t ≡ true → (e : Edit) → editOk e ≡ true → editOk (timed t e) ≡ true
+unfolding timed editOk changeOk
+timed-ok t ok e = timed-cases t (λ (a b : Change). changeOk (e .tables) a ≡ true → changeOk (e .tables) b ≡ true) (λ x h. ok) (λ ch n h. h) (e .change)
+
+-- where only such timers are set, the one after a change passes
+pub timer-after-ok : (P : Change → Type 0) → ((x : Timer) → P (SetTimer x) → timerOk x ≡ true) → (t : Timer) → timerOk t ≡ true → (ch : Change) → P ch → timerOk (timerAfter t ch) ≡ true
+unfolding timerAfter
+timer-after-ok P f t ok = by-timer (λ (ch : Change). P ch → timerOk (timerAfter t ch) ≡ true) f (λ ch n h. ap timerOk (timer-kept t ch n) ∙ ok)
+
 -- ---- the session after it, store by store
 
 module _ (s : Session) (at : ℕ) (e : Edit) (held : Record) where
-  stores-formed : (w : Way) → recordOk held (s .next) ≡ true → at + grownTo w s e ≤ 2048 → Store w (lessened w s at) at → Store (other w) (grown w s e) (grownTo w s e)
+  stores-formed : (w : Way) → recordOk held (s .next) ≡ true → timerOk (timerAfter (s .timer) (e .change)) ≡ true → at + grownTo w s e ≤ 2048 → Store w (lessened w s at) at → Store (other w) (grown w s e) (grownTo w s e)
       → wellFormed (sessionMoved w s at e held) ≡ true
-  unfolding sessionMoved renewed byWay other
-  stores-formed Before ok fit less more =
-      formed-ok (sessionMoved Before s at e held) (record { record-ok = ok; worked-is = refl; both-fit = fit; journal = less; marks-are = refl; redo = more })
-  stores-formed After ok fit less more =
-      formed-ok (sessionMoved After s at e held) (record { record-ok = ok; worked-is = refl; both-fit = omega (arith, fit); journal = more; marks-are = refl; redo = less })
+  unfolding sessionMoved renewed withTimer byWay other
+  stores-formed Before ok timer fit less more =
+      formed-ok (sessionMoved Before s at e held) (record { record-ok = ok; worked-is = refl; timer-ok = timer; both-fit = fit; journal = less; marks-are = refl; redo = more })
+  stores-formed After ok timer fit less more =
+      formed-ok (sessionMoved After s at e held) (record { record-ok = ok; worked-is = refl; timer-ok = timer; both-fit = omega (arith, fit); journal = more; marks-are = refl; redo = less })
 
   stores-moved : (w : Way) → lessened w s at ≡ zeroedFrom at (usedOf w s) (storeOf w s) → grownTo w s e ≡ usedOf (other w) s + length (bytesOf (entryBack s e))
-      → sessionMoved w s at e held ≡ movesTo w s held at (bytesOf (entryBack s e))
-  unfolding sessionMoved grown entryBytes storeOf usedOf byWay other
-  stores-moved Before cut end = λ i. renewed s held (s .next) (cut i) at (pasted (s .ahead) (bytesOf (entryBack s e)) (s .redo)) (end i)
-  stores-moved After cut end = λ i. renewed s held (s .next) (pasted (s .used) (bytesOf (entryBack s e)) (s .journal)) (end i) (cut i) at
+      → sessionMoved w s at e held ≡ movesTo w (withTimer s (timerAfter (s .timer) (e .change))) held at (bytesOf (entryBack s e))
+  unfolding sessionMoved withTimer grown entryBytes storeOf usedOf byWay other
+  stores-moved Before cut end = λ i. renewed (withTimer s (timerAfter (s .timer) (e .change))) held (s .next) (cut i) at (pasted (s .ahead) (bytesOf (entryBack s e)) (s .redo)) (end i)
+  stores-moved After cut end = λ i. renewed (withTimer s (timerAfter (s .timer) (e .change))) held (s .next) (pasted (s .used) (bytesOf (entryBack s e)) (s .journal)) (end i) (cut i) at
 
   stores-used : (w : Way) → at + grownTo w s e ≡ usedOf w s + usedOf (other w) s → sessionMoved w s at e held .used + sessionMoved w s at e held .ahead ≡ s .used + s .ahead
   unfolding sessionMoved renewed usedOf byWay other
@@ -68,7 +84,7 @@ module _ (w : Way) (s : Session) (f : Formed s) (e : Edit) (n : Newest w s e) wh
   at = length (written (n .older))
 
   abbrev back : Edit
-  back = inverseOf (s .held) e
+  back = takesBack (s .held) (s .timer) e
 
   store : Store w (storeOf w s) (usedOf w s)
   store = store-of s f w
@@ -78,8 +94,8 @@ module _ (w : Way) (s : Session) (f : Formed s) (e : Edit) (n : Newest w s e) wh
   says = subst (λ (x : Found). Says w (n .entry .kind) x) (n .change) (found-says w (n .entry .kind) (n .entry .body))
 
   same-kind : kindOf (back .change) ≡ n .entry .kind
-  unfolding inverseOf
-  same-kind = kind-of-back (s .held) (e .change) ∙ says .0
+  unfolding takesBack timed inverseOf
+  same-kind = timed-kind (s .timer) (backOf (s .held) (e .change)) ∙ kind-of-back (s .held) (e .change) ∙ says .0
 
   -- it and what takes it back are of one length
   sized : bodyLen (n .entry .kind) ≡ length (n .entry .body)
@@ -107,12 +123,17 @@ module _ (w : Way) (s : Session) (f : Formed s) (e : Edit) (n : Newest w s e) wh
       sym (λ i. valuesOk (n .tables i) (n .change i)) ∙ good
 
   back-passes : editOk back ≡ true
-  back-passes = inverse-ok (s .held) (s .next) e (sound (f .record-ok)) values-pass
+  unfolding takesBack
+  back-passes = timed-ok (s .timer) (f .timer-ok) (inverseOf (s .held) e) (inverse-ok (s .held) (s .next) e (sound (f .record-ok)) values-pass)
+
+  timer-passes : timerOk (timerAfter (s .timer) (e .change)) ≡ true
+  unfolding editOk changeOk
+  timer-passes = timer-after-ok (λ (ch : Change). changeOk (e .tables) ch ≡ true) (λ x h. h) (s .timer) (f .timer-ok) (e .change) values-pass
 
   module _ (typed : TypedSession s) where
     writable : Writable (other w) (back .tables) (back .change)
-    unfolding inverseOf
-    writable = writable-back w (s .held) (e .change) (typed .held) (says .1)
+    unfolding takesBack timed inverseOf
+    writable = writable-back w (s .held) (s .timer) (e .change) (typed .held) (typed .timer) (says .1)
 
     back-bytes : length (bytesOf (entryBack s e)) ≡ entryLen back
     unfolding entryBytes
@@ -130,7 +151,7 @@ module _ (w : Way) (s : Session) (f : Formed s) (e : Edit) (n : Newest w s e) wh
 
     pub moved-formed : recordOk (putOf (s .held) e .after) (s .next) ≡ true → wellFormed (settled s [] (moves w at e) .session) ≡ true
     unfolding settled done
-    moved-formed ok = stores-formed s at e (putOf (s .held) e .after) w ok (omega (arith, sum-stays, both-used s f w)) less more
+    moved-formed ok = stores-formed s at e (putOf (s .held) e .after) w ok timer-passes (omega (arith, sum-stays, both-used s f w)) less more
 
     moved-effect : GoesIn (s .held) (e .change) → MoveEffect w s (settled s [] (moves w at e))
     unfolding settled done lessened grownTo
@@ -141,7 +162,7 @@ module _ (w : Way) (s : Session) (f : Formed s) (e : Edit) (n : Newest w s e) wh
           newest = n;
           kind-is = says .0;
           moved = bytesOf (entryBack s e);
-          moved-is = entry-moved (s .held) w (n .entry .kind) (n .entry .body) e (n .change) goes-in;
+          moved-is = entry-moved (s .held) (s .timer) w (n .entry .kind) (n .entry .body) e (n .change) goes-in;
           same-length = back-bytes ∙ back-long;
           session-is = stores-moved s at e (putOf (s .held) e .after) w (cut-zeroed (storeOf w s) at (usedOf w s) low (store .fits)) (ap (λ (m : ℕ). usedOf (other w) s + m) (sym back-bytes));
         }

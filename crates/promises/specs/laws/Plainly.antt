@@ -14,10 +14,11 @@ use Rattle.record.specs.declared.Caps.{Caps}
 use Rattle.record.specs.declared.Deadman.{Deadman}
 use Rattle.record.specs.declared.Log.{Log}
 use Rattle.record.specs.declared.Throttles.{Throttles}
+use Rattle.record.specs.declared.Timer.{Timer}
 use Rattle.change.specs.declared.Change.{Change}
-use Rattle.change.specs.declared.Change.the-variants.{Clear, Unclear, SetState, SetRole, SetCaps, SetUser, SetThermal, SetThrottles, Reset, Unreset, SetMask, SetDeadman, SetAreas}
+use Rattle.change.specs.declared.Change.the-variants.{Clear, Unclear, SetState, SetRole, SetCaps, SetUser, SetThermal, SetThrottles, Reset, Unreset, SetMask, SetDeadman, SetAreas, SetTimer}
 use Rattle.change.specs.declared.Tables.{Tables}
-use Rattle.formed.specs.Formed.{stateOk, flagOk, roleOk, capsOk, deadmanOk, pairOk, pairsOk, absentZero, throttlesOk, multipleOf128, inMemory, areaOk, areasOk, thermalRule, thermalOk, nextOk, reasonOk, unused, logOk, logsAbove, logsOk, clearedOk, madeOk, unresetOk, changeOk}
+use Rattle.formed.specs.Formed.{stateOk, flagOk, roleOk, capsOk, clockOk, deadmanOk, timerOk, pairOk, pairsOk, absentZero, throttlesOk, multipleOf128, inMemory, areaOk, areasOk, thermalRule, thermalOk, nextOk, reasonOk, unused, logOk, logsAbove, logsOk, clearedOk, madeOk, unresetOk, changeOk}
 use Rattle.formed.specs.laws.Thresholds.{order-exactly}
 use Rattle.formed.specs.laws.Formed.{sound, sound-ok}
 use Rattle.entries.specs.Entries.{Entry, between, written, scanFrom, scanBy, entriesOf, scan}
@@ -31,7 +32,7 @@ use Rattle.journal.specs.declared.Way.the-variants.{Before, After}
 use Rattle.session.specs.Session.{entriesIn, wellFormed}
 use Rattle.session.specs.laws.Session.{Store, formed, formed-ok}
 use Rattle.session.specs.declared.Session.{Session}
-use Rattle.promises.specs.WellFormed.{EachIs, StateHolds, RoleHolds, CapsHold, DeadmanHolds, PairsHold, ThrottlesHold, AreaHolds, ThermalHolds, Reason, Unused, LogsRise, ChangeHolds, SaysWell, EntriesHold, StoreHolds, WellFormed}
+use Rattle.promises.specs.WellFormed.{EachIs, StateHolds, RoleHolds, CapsHold, DeadmanHolds, TimerHolds, PairsHold, ThrottlesHold, AreaHolds, ThermalHolds, Reason, Unused, LogsRise, ChangeHolds, SaysWell, EntriesHold, StoreHolds, WellFormed}
 use Rattle.session.specs.laws.Reads.{reads}
 
 abbrev Holds : Bool → Type 0 → Type 0
@@ -80,9 +81,17 @@ unfolding capsOk flagOk
 caps-exactly got caps =
     first (le-holds got 1) (other-way (eq-holds got 0) (le-holds (caps .min) (caps .max)) (first (eq-holds (caps .min) 0) (first (eq-holds (caps .max) 0) (eq-holds (caps .over) 0))))
 
+clock-exactly : (running time : ℕ) → Holds (clockOk running time) ((running ≤ 1) and (running ≡ 0 → time ≡ 0))
+unfolding clockOk flagOk
+clock-exactly running time = first (le-holds running 1) (if-needed holds refl (eq-holds running 0) (eq-holds time 0))
+
 deadman-exactly : (d : Deadman) → Holds (deadmanOk d) (DeadmanHolds d)
-unfolding deadmanOk flagOk
-deadman-exactly d = first (le-holds (d .running) 1) (if-needed holds refl (eq-holds (d .running) 0) (eq-holds (d .time) 0))
+unfolding deadmanOk
+deadman-exactly d = clock-exactly (d .running) (d .time)
+
+timer-exactly : (t : Timer) → Holds (timerOk t) (TimerHolds t)
+unfolding timerOk
+timer-exactly t = clock-exactly (t .running) (t .left)
 
 pairs-exactly : (n present : ℕ) (sets : List ℕ) → Holds (pairsOk n present sets) (PairsHold n present sets)
 unfolding pairsOk pairOk
@@ -157,6 +166,7 @@ change-exactly t (Unreset state made) = first (state-exactly state) (le-holds ma
 change-exactly t (SetMask mask) = nothing
 change-exactly t (SetDeadman deadman) = deadman-exactly deadman
 change-exactly t (SetAreas areas) = areas-exactly areas
+change-exactly t (SetTimer timer) = timer-exactly timer
 
 says-exactly : (t : Tables) (x : Found) → Holds (valuesOk t x) (SaysWell t x)
 unfolding valuesOk
@@ -233,6 +243,7 @@ plainly-formed s = (
         next = next-exactly _ .0 (r .next);
         logs = logs-exactly 0 _ _ .0 (r .logs);
         worked = f .worked-is;
+        timer = timer-exactly _ .0 (f .timer-ok);
         journal = store-holds Before _ _ (f .journal);
         marks = f .marks-are ∙ ap marksOf (same-entries Before (s .journal) (s .used) (f .journal));
         redo = store-holds After _ _ (f .redo);
@@ -252,6 +263,7 @@ plainly-formed s = (
           logs = logs-exactly 0 _ _ .1 (p .logs);
         });
         worked-is = p .worked;
+        timer-ok = timer-exactly _ .1 (p .timer);
         both-fit = p .both;
         journal = holds-store Before _ _ (p .journal);
         marks-are = p .marks ∙ ap marksOf (sym (held-entries Before (s .journal) (s .used) (p .journal)));

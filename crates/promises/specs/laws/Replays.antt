@@ -28,6 +28,7 @@ use Rattle.occ_call.specs.Occ as occs
 use Rattle.occ_call.specs.laws.Why.{answer-beside}
 use Rattle.sbe_call.specs.Sbe as sbes
 use Rattle.undo_call.specs.Undo.{moveCall, undoOn, movedLeft}
+use Rattle.inplace.specs.InPlace.{rungLeft}
 use Rattle.playing.specs.Playing.{Heard, ifWritten, heardWith, occHeard, sbeHeard, undoHeard, heard, line, imageAfter, placeText, stopLine, piecesOf, textOf, roomFor, Replayed, replayed}
 use Rattle.playing.specs.Steps.{oldestFirst, imageFrom, linesFrom}
 use Rattle.playing.specs.laws.Steps.{image-by-steps, lines-by-steps, pieces-of-whole, entries-of-whole}
@@ -53,12 +54,12 @@ module _ (s : Session) (t : Typed s) (r r′ c c′ : List ℕ) (sender : ℕ) w
   b = imageOf s
 
   abbrev called : Bool → Bool → Call
-  called x y = cond x (sbe r r′) (cond y undo (occ sender c c′))
+  called x y = cond x (sbe r r′ [] []) (cond y undo (occ sender c c′))
 
   one-heard : (x y : Bool)
-      → cond x (sbeHeard (sbes.sbeOn b r r′)) (cond y (undoHeard (undoOn b)) (occHeard (occs.occOn b sender c c′))) ≡ heardOf (called x y) (said s (called x y))
-  unfolding heardOf said asks bufferOf statusOf heardWith sbes.sbeLeft sbes.sbeCall movedLeft moveCall occs.occCall
-  one-heard true y = ap sbeHeard (sbe-on s t r r′)
+      → cond x (sbeHeard (sbes.sbeOn b r r′ [] [])) (cond y (undoHeard (undoOn b)) (occHeard (occs.occOn b sender c c′))) ≡ heardOf (called x y) (said s (called x y))
+  unfolding heardOf said asks bufferOf statusOf heardWith rungLeft sbes.sbeCall movedLeft moveCall occs.occCall
+  one-heard true y = ap sbeHeard (sbe-on s t r r′ [] [])
   one-heard false true = ap undoHeard (move-on s t Before)
   one-heard false false = ap occHeard (occ-on s t sender c c′) ∙ occ-heard (occs.occCall s sender c c′) (occs.occWhy s sender c c′)
 
@@ -73,26 +74,26 @@ image-said c s = refl
 
 -- ---- one after the other
 
-module _ (base : Record) where
-  next-image : (e : Entry) (p : Run) → Inv base p → heard (imageOf (p .session)) e .image ≡ imageOf (next-run p (callOf e) .session)
+module _ (base : Record) (first : ℕ) where
+  next-image : (e : Entry) (p : Run) → Inv base first p → heard (imageOf (p .session)) e .image ≡ imageOf (next-run p (callOf e) .session)
   unfolding next-run did
   next-image e p v =
-      ap (λ (h : Heard). h .image) (heard-said (p .session) (run-typed base p v) e) ∙ image-said (callOf e) (p .session)
+      ap (λ (h : Heard). h .image) (heard-said (p .session) (run-typed base first p v) e) ∙ image-said (callOf e) (p .session)
 
-  image-run : (es : List Entry) (p : Run) → AllOfBytes (callsOf es) → Inv base p → imageFrom (imageOf (p .session)) es ≡ imageOf (run p (callsOf es) .session)
+  image-run : (es : List Entry) (p : Run) → AllOfBytes (callsOf es) → Inv base first p → imageFrom (imageOf (p .session)) es ≡ imageOf (run p (callsOf es) .session)
   unfolding imageFrom callsOf run
   image-run [] p b v = refl
   image-run (e ∷ es) p b v =
       ap (λ (i : List ℕ). imageFrom i es) (next-image e p v)
-      ∙ image-run es (next-run p (callOf e)) (b .1) (next-inv base p v (callOf e) (b .0))
+      ∙ image-run es (next-run p (callOf e)) (b .1) (next-inv base first p v (callOf e) (b .0))
 
-  lines-run : (es : List Entry) (n : ℕ) (p : Run) → AllOfBytes (callsOf es) → Inv base p → linesFrom (imageOf (p .session)) n es ≡ linesBy p n (callsOf es)
+  lines-run : (es : List Entry) (n : ℕ) (p : Run) → AllOfBytes (callsOf es) → Inv base first p → linesFrom (imageOf (p .session)) n es ≡ linesBy p n (callsOf es)
   unfolding linesFrom linesBy callsOf
   lines-run [] n p b v = refl
   lines-run (e ∷ es) n p b v =
-      ap₂ (λ (h : Heard) (i : List ℕ). line n h ++ linesFrom i (suc n) es) (heard-said (p .session) (run-typed base p v) e) (next-image e p v)
+      ap₂ (λ (h : Heard) (i : List ℕ). line n h ++ linesFrom i (suc n) es) (heard-said (p .session) (run-typed base first p v) e) (next-image e p v)
       ∙ ap (λ (l : List (List ℕ)). line n (heardOf (callOf e) (said (p .session) (callOf e))) ++ l)
-      (lines-run es (suc n) (next-run p (callOf e)) (b .1) (next-inv base p v (callOf e) (b .0)))
+      (lines-run es (suc n) (next-run p (callOf e)) (b .1) (next-inv base first p v (callOf e) (b .0)))
 
 -- ---- the calls of a trace of bytes are calls of bytes
 
@@ -129,14 +130,14 @@ module _ (t : List ℕ) (bytes : Bytes t) where
   unfolding start
   replay-run =
       sym (image-by-steps (entriesOf (traceScan t)))
-      ∙ image-run freshRecord (oldestFirst (entriesOf (traceScan t))) (start freshSession) (trace-bytes t bytes) fresh-start
+      ∙ image-run freshRecord 1 (oldestFirst (entriesOf (traceScan t))) (start freshSession) (trace-bytes t bytes) fresh-start
 
   pub replay-lines : piecesOf t ≡ linesBy (start freshSession) 1 (callsIn t) ++ stopLine (readingOf (traceScan t))
   unfolding start piecesOf
   replay-lines =
       ap (λ (l : List (List ℕ)). l ++ stopLine (readingOf (traceScan t)))
       (sym (lines-by-steps (entriesOf (traceScan t)))
-      ∙ lines-run freshRecord (oldestFirst (entriesOf (traceScan t))) 1 (start freshSession) (trace-bytes t bytes) fresh-start)
+      ∙ lines-run freshRecord 1 (oldestFirst (entriesOf (traceScan t))) 1 (start freshSession) (trace-bytes t bytes) fresh-start)
 
 -- ---- up to where it breaks
 

@@ -6,14 +6,14 @@ use native.Mathlib.Omega.{arith}
 use borrow.Author.Tests.{ltb-true, ltb-false}
 use lib.Dec.{ltb}
 use lib.ListN.{length}
-use Rattle.change.specs.Change.{kindOf, inverseOf}
+use Rattle.change.specs.Change.{kindOf, backOf, inverseOf, timed, takesBack}
 use Rattle.change.specs.declared.Edit.{Edit}
 use Rattle.entries.specs.Entries.{bodyLen}
 use Rattle.journal.specs.Add.{entryLen, endOf}
 use Rattle.journal.specs.declared.End.the-variants.{At, Full}
-use Rattle.session.specs.Session.{renewed, carriedTo, carriedOf}
+use Rattle.session.specs.Session.{renewed, withTimer, carriedTo, carriedOf}
 use Rattle.session.specs.declared.Session.{Session}
-use Rattle.links.specs.laws.Links.{kind-of-back}
+use Rattle.change.specs.laws.Timed.{kind-of-back, timed-kind}
 use Rattle.promises.specs.Demand1.{NoRoom}
 use Rattle.promises.specs.Demand2.{HasRoom}
 
@@ -39,7 +39,7 @@ end-full s e b n used f = go (ltb n used) (ltb (n - used) (entryLen b)) refl ref
 
 -- one that isn't makes the used journal longer
 end-longer : (s : Session) (e b : Edit) (n : ℕ) → carriedTo s e (endOf n (s .used) b) .full ≡ false → s .used < carriedTo s e (endOf n (s .used) b) .session .used
-unfolding endOf carriedTo renewed
+unfolding endOf carriedTo renewed withTimer
 end-longer s e b n f = go (ltb n (s .used)) (ltb (n - s .used) (entryLen b)) f
   where
     go : (x y : Bool) → carriedTo s e (cond x Full (cond y Full (At (s .used + entryLen b)))) .full ≡ false
@@ -50,17 +50,17 @@ end-longer s e b n f = go (ltb n (s .used)) (ltb (n - s .used) (entryLen b)) f
 
 pub carried-longer : (s : Session) (e : Edit) → carriedOf s e .full ≡ false → s .used < carriedOf s e .session .used
 unfolding carriedOf
-carried-longer s e f = end-longer s e (inverseOf (s .held) e) (length (s .journal)) f
+carried-longer s e f = end-longer s e (takesBack (s .held) (s .timer) e) (length (s .journal)) f
 
 module _ (s : Session) (long : length (s .journal) ≡ 2048) (e : Edit) (kind : ℕ) (is : kindOf (e .change) ≡ kind) where
-  entry-long : entryLen (inverseOf (s .held) e) ≡ bodyLen kind + 1
-  unfolding inverseOf
-  entry-long = ap (λ (k : ℕ). bodyLen k + 1) (kind-of-back (s .held) (e .change) ∙ is)
+  entry-long : entryLen (takesBack (s .held) (s .timer) e) ≡ bodyLen kind + 1
+  unfolding inverseOf timed takesBack
+  entry-long = ap (λ (k : ℕ). bodyLen k + 1) (timed-kind (s .timer) (backOf (s .held) (e .change)) ∙ kind-of-back (s .held) (e .change) ∙ is)
 
   pub has-room : carriedOf s e .full ≡ false → HasRoom s kind
   unfolding carriedOf
-  has-room f = omega (arith, end-room s e (inverseOf (s .held) e) (length (s .journal)) (s .used) f, entry-long, long)
+  has-room f = omega (arith, end-room s e (takesBack (s .held) (s .timer) e) (length (s .journal)) (s .used) f, entry-long, long)
 
   pub has-none : carriedOf s e .full ≡ true → NoRoom s kind
   unfolding carriedOf
-  has-none f = omega (arith, end-full s e (inverseOf (s .held) e) (length (s .journal)) (s .used) f, entry-long, long)
+  has-none f = omega (arith, end-full s e (takesBack (s .held) (s .timer) e) (length (s .journal)) (s .used) f, entry-long, long)

@@ -6,15 +6,15 @@ use mathlib.Core.List.{List}
 use lib.Dec.{ltb}
 use lib.ListN.{length}
 use Rattle.wire.specs.laws.Cases.{by-same}
-use Rattle.change.specs.Change.{kindOf, inverseOf}
+use Rattle.change.specs.Change.{kindOf, backOf, inverseOf, timed, takesBack}
 use Rattle.change.specs.declared.Edit.{Edit}
 use Rattle.entries.specs.Entries.{bodyLen}
 use Rattle.journal.specs.Add.{entryLen, endOf}
 use Rattle.journal.specs.declared.End.the-variants.{At, Full}
 use Rattle.session.specs.Session.{carriedTo, carriedOf}
-use Rattle.session.specs.Road.{Asks, refuses, tells, makes, moves, forgets, Said, kept, done, carriedSays, settled}
+use Rattle.session.specs.Road.{Asks, refuses, tells, makes, moves, forgets, passes, timerBell, Said, kept, done, carriedSays, settled}
 use Rattle.session.specs.declared.Session.{Session}
-use Rattle.links.specs.laws.Links.{kind-of-back}
+use Rattle.change.specs.laws.Timed.{kind-of-back, timed-kind}
 use Rattle.promises.specs.History.{keeps, adds, adding, deedBy}
 use Rattle.promises.specs.NoTrace.{SameSaid}
 
@@ -33,14 +33,14 @@ full-by-end s e b n used = go (ltb n used) (ltb (n - used) (entryLen b))
     go false false = refl
 
 pub full-by-kind : (s : Session) (e : Edit) → carriedOf s e .full ≡ noRoom (length (s .journal)) (s .used) (kindOf (e .change))
-unfolding carriedOf inverseOf
+unfolding carriedOf inverseOf timed takesBack
 full-by-kind s e =
-    full-by-end s e (inverseOf (s .held) e) (length (s .journal)) (s .used)
-    ∙ ap (noRoom (length (s .journal)) (s .used)) (kind-of-back (s .held) (e .change))
+    full-by-end s e (takesBack (s .held) (s .timer) e) (length (s .journal)) (s .used)
+    ∙ ap (noRoom (length (s .journal)) (s .used)) (timed-kind (s .timer) (backOf (s .held) (e .change)) ∙ kind-of-back (s .held) (e .change))
 
 -- ---- the same asked of both
 
-module _ (s t : Session) (full-is : (e : Edit) → carriedOf t e .full ≡ carriedOf s e .full) (d : List ℕ) where
+module _ (s t : Session) (full-is : (e : Edit) → carriedOf t e .full ≡ carriedOf s e .full) (timer-is : t .timer ≡ s .timer) (d : List ℕ) where
   alike : {x y : Said} → y .answer ≡ x .answer → y .bell ≡ x .bell → y .kind ≡ x .kind → y .reply ≡ x .reply → SameSaid x y
   alike a b k r = record { answer = a; bell = b; kind = k; reply = r }
 
@@ -54,3 +54,4 @@ module _ (s t : Session) (full-is : (e : Edit) → carriedOf t e .full ≡ carri
   )
   same-settled (moves w at e) = (alike refl refl refl refl, refl)
   same-settled (forgets n) = (alike refl refl refl refl, refl)
+  same-settled (passes n) = (alike refl (ap (timerBell n) timer-is) refl refl, refl)

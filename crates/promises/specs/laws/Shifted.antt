@@ -11,11 +11,13 @@ use Rattle.wire.specs.laws.Cases.{if-lt, else-lt, cond-cases}
 use Rattle.record.specs.Record.{noLog}
 use Rattle.record.specs.declared.Log.{Log}
 use Rattle.record.specs.declared.Record.{Record}
+use Rattle.record.specs.declared.Timer.{Timer}
 use Rattle.change.specs.Logs.{pendingOf, firstWith, findOf, removeAt, insertAt, pendsAt}
 use Rattle.change.specs.With.{withState, withRole, withCaps, withThrottles, withUser, withThermal, withLogs, withMask, withDeadman, withAreas}
-use Rattle.change.specs.Change.{accepted, refused, clearOf, unclearOf, resetOf, unresetOf, putWith, putOf, madeBy, kindOf}
+use Rattle.change.specs.Change.{accepted, refused, clearOf, unclearOf, resetOf, unresetOf, putWith, putOf, madeBy, kindOf, timedChange, timed, timerAfter}
+use Rattle.change.specs.laws.Timed.{by-timer, timer-kept, timed-cases, timed-other}
 use Rattle.change.specs.declared.Change.{Change}
-use Rattle.change.specs.declared.Change.the-variants.{Clear, Unclear, SetState, SetRole, SetCaps, SetUser, SetThermal, SetThrottles, Reset, Unreset, SetMask, SetDeadman, SetAreas}
+use Rattle.change.specs.declared.Change.the-variants.{Clear, Unclear, SetState, SetRole, SetCaps, SetUser, SetThermal, SetThrottles, Reset, Unreset, SetMask, SetDeadman, SetAreas, SetTimer}
 use Rattle.change.specs.declared.Changed.{Changed}
 use Rattle.change.specs.declared.Edit.{Edit}
 use Rattle.change.specs.declared.Tables.{Tables}
@@ -39,6 +41,7 @@ shiftedChange k (Unreset state made) = Unreset state made
 shiftedChange k (SetMask mask) = SetMask mask
 shiftedChange k (SetDeadman deadman) = SetDeadman deadman
 shiftedChange k (SetAreas areas) = SetAreas areas
+shiftedChange k (SetTimer timer) = SetTimer timer
 
 unfoldable pub shiftedEdit : ℕ → Edit → Edit
 shiftedEdit k e = record { change = shiftedChange k (e .change); tables = e .tables }
@@ -71,6 +74,23 @@ kind-shifted k (Unreset state made) = refl
 kind-shifted k (SetMask mask) = refl
 kind-shifted k (SetDeadman deadman) = refl
 kind-shifted k (SetAreas areas) = refl
+kind-shifted k (SetTimer timer) = refl
+
+change-timed : (k : ℕ) (t : Timer) (ch : Change) → timedChange t (shiftedChange k ch) ≡ shiftedChange k (timedChange t ch)
+unfolding timedChange kindOf shiftedChange
+change-timed k t =
+    timed-cases t (λ (a b : Change). timedChange t (shiftedChange k a) ≡ shiftedChange k b) (λ x. refl) (λ ch n. timed-other t (shiftedChange k ch) (λ z. n (sym (kind-shifted k ch) ∙ z)))
+
+-- a timer change is the same in both worlds
+pub shifted-timed : (k : ℕ) (t : Timer) (e : Edit) → timed t (shiftedEdit k e) ≡ shiftedEdit k (timed t e)
+unfolding timed shiftedEdit
+shifted-timed k t e = λ i. record { change = change-timed k t (e .change) i; tables = e .tables }
+
+pub after-shifted : (k : ℕ) (t : Timer) (ch : Change) → timerAfter t (shiftedChange k ch) ≡ timerAfter t ch
+unfolding timerAfter shiftedChange
+after-shifted k t =
+    by-timer (λ (ch : Change). timerAfter t (shiftedChange k ch) ≡ timerAfter t ch) (λ x. refl)
+    (λ ch n. timer-kept t (shiftedChange k ch) (λ z. n (sym (kind-shifted k ch) ∙ z)) ∙ sym (timer-kept t ch n))
 
 -- the same test in both worlds, then what was chosen there
 pub choose : {A B : Type 0} (f : A → B) {b c : Bool} {x y : A} {u v : B} → c ≡ b → u ≡ f x → v ≡ f y → cond c u v ≡ f (cond b x y)
@@ -233,6 +253,7 @@ module _ (k : ℕ) (low : 1 ≤ k) where
   put-with r t (SetMask mask) = refl
   put-with r t (SetDeadman deadman) = refl
   put-with r t (SetAreas areas) = refl
+  put-with r t (SetTimer timer) = refl
 
   pub applied-shifted : (base : Record) → R base ≡ base → (es : List Edit) → applied base (map (shiftedEdit k) es) ≡ R (applied base es)
   unfolding applied putOf shiftedEdit shiftedPut
@@ -260,3 +281,4 @@ module _ (k : ℕ) (low : 1 ≤ k) where
   logs-shifted (SetMask mask) = refl
   logs-shifted (SetDeadman deadman) = refl
   logs-shifted (SetAreas areas) = refl
+  logs-shifted (SetTimer timer) = refl

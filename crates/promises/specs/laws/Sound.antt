@@ -18,16 +18,17 @@ use Rattle.occ.specs.declared.Verdict.{Verdict}
 use Rattle.occ.specs.declared.Verdict.the-variants.{Refuse, Poll, Make}
 use Rattle.sbe.specs.Mailbox.{requestRuling}
 use Rattle.sbe.specs.declared.Ruling.{Ruling}
-use Rattle.sbe.specs.declared.Ruling.the-variants.{Decline, Grant}
-use Rattle.session.specs.Road.{Asks, refuses, tells, makes, moves, forgets}
+use Rattle.sbe.specs.declared.Ruling.the-variants.{Decline, Grant, Done, Read}
+use Rattle.session.specs.Road.{Asks, refuses, tells, makes, moves, forgets, passes}
 use Rattle.session.specs.laws.Road.{due-cases}
 use Rattle.session.specs.Session.{wellFormed}
 use Rattle.session.specs.Road.{heldIn}
 use Rattle.session.specs.declared.Session.{Session}
 use Rattle.forget_call.specs.Forget.{oldestAsks, forgetAsks}
 use Rattle.occ_call.specs.Occ.{occRefusal, verdictAsks, judgedAsks, askedFor, askedOf, occRead, occAsks}
-use Rattle.sbe_call.specs.Sbe.{sbeRefusal, rulingAsks, sbeRead, sbeAsks}
+use Rattle.sbe_call.specs.Sbe.{sbeRefusal, readStatus, readAt, judgedFor, rulingAsks, sbeRuling, sbeRead, sbeAsks}
 use Rattle.undo_call.specs.Undo.{moveAsks}
+use Rattle.time_call.specs.Time.{timeAsks}
 use Rattle.links.specs.Typed.{TypedRecord}
 use Rattle.links.specs.laws.Made.{Made}
 use Rattle.promises.specs.Demand2.{Newest, Movable}
@@ -40,6 +41,7 @@ module _ (s : Session) where
   Sound (tells bell y) = Unit {0}
   Sound (makes e bell y) = Made (s .held) (s .next) (e .tables) (e .change)
   Sound (forgets n) = Unit {0}
+  Sound (passes n) = Unit {0}
   Sound (moves w at e) = (n : Newest w s e) × (at ≡ length (written (n .older))) × Movable s e
 
   module _ (ok : recordOk (s .held) (s .next) ≡ true) (typed : TypedRecord (s .held)) (sender : ℕ) (c d : List ℕ) (bytes : Bytes c) where
@@ -62,14 +64,21 @@ module _ (s : Session) where
         (λ z. cond-cases (λ (x : Judged). Sound (asked x)) (not (eqb (packetStatus c) 0)) (λ f. tt) (λ f. verdict-sound (j .verdict) refl))
 
   module _ (r d : List ℕ) (bytes : Bytes r) where
-    ruling-sound : (v : Ruling) → requestRuling r ≡ v → Sound (rulingAsks r d v)
-    unfolding rulingAsks
-    ruling-sound (Decline primary secondary) e = tt
-    ruling-sound (Grant ch) e = sbe-made (s .held) (s .next) r bytes ch e
+    ruling-sound : (image room : ℕ) (v : Ruling) → requestRuling r ≡ v → Sound (rulingAsks r d (judgedFor image room v))
+    unfolding rulingAsks judgedFor readAt
+    ruling-sound image room (Decline primary secondary) e = tt
+    ruling-sound image room (Grant ch) e = sbe-made (s .held) (s .next) r bytes ch e
+    ruling-sound image room Done e = tt
+    ruling-sound image room (Read offset size) e =
+        cond-cases (λ (v : Ruling). Sound (rulingAsks r d v)) (not (eqb (readStatus image room offset size) 0)) (λ f. tt) (λ f. tt)
 
-    pub sbe-sound : Sound (sbeAsks s r d)
-    unfolding sbeAsks sbeRead
-    sbe-sound = due-cases Sound (sbeRefusal s (length r) (length d)) (λ n. tt) (λ z. ruling-sound (requestRuling r) refl)
+    pub sbe-sound : (m x : List ℕ) → Sound (sbeAsks s r d m x)
+    unfolding sbeAsks sbeRead sbeRuling
+    sbe-sound m x = due-cases Sound (sbeRefusal s (length r) (length d)) (λ n. tt) (λ z. ruling-sound (length m) (length x) (requestRuling r) refl)
+
+  pub time-sound : (n : ℕ) → Sound (timeAsks n s)
+  unfolding timeAsks
+  time-sound n = cond-cases Sound (not (wellFormed s)) (λ f. tt) (λ f. tt)
 
   pub forget-sound : (n : ℕ) → Sound (forgetAsks n s)
   unfolding forgetAsks oldestAsks

@@ -2,14 +2,16 @@
 use Prim.Native.Nat.{ℕ, suc, _<_, _≤_}
 use mathlib.Core.Bool.{cond}
 use mathlib.Core.Logic.{_⊎_, inl, inr, ⊎-elim}
-use mathlib.Core.Path.{_≡_, refl, sym, ap, ap₂, _∙_}
+use mathlib.Core.Path.{_≡_, refl, sym, ap, _∙_}
 use mathlib.Core.List.{List, [], _∷_}
 use native.Mathlib.Omega.{arith}
 use borrow.Author.Tests.{eqb-true, eqb-false, ltb-true, ltb-false}
 use lib.Dec.{eqb, ltb}
 use Rattle.wire.specs.laws.Cases.{if-lt, else-lt, if-eq, else-eq, cond-elim, cond-cases}
+use Rattle.record.specs.declared.Timer.{Timer}
+use Rattle.change.specs.Change.{timed}
 use Rattle.change.specs.declared.Edit.{Edit}
-use Rattle.promises.specs.Marks.{Mark, strike, latest, unstrike, left}
+use Rattle.promises.specs.Marks.{Mark, strike, latest, unstrike, struckBy, left}
 
 -- the changes struck after undo number since, the last struck first, in front of those collected so far
 unfoldable pub off : ℕ → List Mark → List Edit → List Edit
@@ -26,15 +28,15 @@ pub every-map : (P Q : ℕ → Type 0) → ((k : ℕ) → P k → Q k) → (ms :
 every-map P Q f [] a = a
 every-map P Q f (m ∷ ms) a = (f (m .stroke) (a .0), every-map P Q f ms (a .1))
 
-pub every-strike : (P : ℕ → Type 0) (n : ℕ) → P n → (ms : List Mark) → Every P ms → Every P (strike n ms)
+pub every-strike : (t : Timer) (P : ℕ → Type 0) (n : ℕ) → P n → (ms : List Mark) → Every P ms → Every P (strike t n ms)
 unfolding strike
-every-strike P n p [] a = a
-every-strike P n p (m ∷ ms) a = cond-elim (Every P) (eqb (m .stroke) 0) (p, a .1) (a .0, every-strike P n p ms (a .1))
+every-strike t P n p [] a = a
+every-strike t P n p (m ∷ ms) a = cond-elim (Every P) (eqb (m .stroke) 0) (p, a .1) (a .0, every-strike t P n p ms (a .1))
 
-pub every-unstrike : (P : ℕ → Type 0) (n : ℕ) → P 0 → (ms : List Mark) → Every P ms → Every P (unstrike n ms)
+pub every-unstrike : (t : Timer) (P : ℕ → Type 0) (n : ℕ) → P 0 → (ms : List Mark) → Every P ms → Every P (unstrike t n ms)
 unfolding unstrike
-every-unstrike P n p [] a = a
-every-unstrike P n p (m ∷ ms) a = cond-elim (Every P) (eqb (m .stroke) n) (p, a .1) (a .0, every-unstrike P n p ms (a .1))
+every-unstrike t P n p [] a = a
+every-unstrike t P n p (m ∷ ms) a = cond-elim (Every P) (eqb (m .stroke) n) (p, a .1) (a .0, every-unstrike t P n p ms (a .1))
 
 -- ---- the latest stroke
 
@@ -97,53 +99,72 @@ module _ (since : ℕ) where
   old-below n s f [] a b = tt
   old-below n s f (m ∷ ms) a b = (⊎-elim (λ h. h) (λ h. absurd (omega (arith, a .0, h .1, f (h .0)))) (b .0), old-below n s f ms (a .1) (b .1))
 
-  -- ---- one change is left here, and there it was struck last: an undo goes from here to there, a redo from there to here
+  -- ---- one change is left here, and there it was struck last, by undo n: an undo goes from here to there, a redo from there to here. The timer that a timer change
+  -- holds is another one then, as R says
 
-  pub record Struck (here there : List Mark) : Type 0 where
-    pub one : Edit
-    pub left-is : left here ≡ one ∷ left there
-    pub off-is : (acc : List Edit) → off since there acc ≡ one ∷ off since here acc
+  pub record Struck (R : Edit → Edit → Type 0) (n : ℕ) (here there : List Mark) : Type 0 where
+    pub live : Edit
+    pub gone : Edit
+    pub so : R live gone
+    pub left-is : left here ≡ live ∷ left there
+    pub off-is : (acc : List Edit) → off since there acc ≡ gone ∷ off since here acc
+    pub picked : struckBy n there ≡ gone ∷ []
     pub lined : Lined here × Lined there
 
-  struck-first : (a b : Mark) (ms : List Mark) → a .edit ≡ b .edit → a .stroke ≡ 0 → since < b .stroke → Old ms → Struck (a ∷ ms) (b ∷ ms)
-  struck-first a b ms same z h old =
-      record {
-        one = b .edit;
-        left-is = left-live a ms z ∙ ap₂ (λ (x : Edit) (l : List Edit). x ∷ l) same (sym (left-struck b ms (omega arith)));
-        off-is = λ acc. off-open b ms h acc ∙ off-old ms old (b .edit ∷ acc) ∙ ap (λ (l : List Edit). b .edit ∷ l) (sym (off-old (a ∷ ms) (omega arith, old) acc));
-        lined = (lined-front a ms old, lined-front b ms old);
-      }
+  module _ (R : Edit → Edit → Type 0) (n : ℕ) where
+    struck-first : (a b : Mark) (ms : List Mark) → R (a .edit) (b .edit) → a .stroke ≡ 0 → b .stroke ≡ n → since < n → Old ms → Struck R n (a ∷ ms) (b ∷ ms)
+    unfolding struckBy
+    struck-first a b ms so z is h old =
+        record {
+          live = a .edit;
+          gone = b .edit;
+          so = so;
+          left-is = left-live a ms z ∙ ap (λ (l : List Edit). a .edit ∷ l) (sym (left-struck b ms (omega (arith, is, h))));
+          off-is = λ acc. off-open b ms (omega (arith, is, h)) acc ∙ off-old ms old (b .edit ∷ acc) ∙ ap (λ (l : List Edit). b .edit ∷ l) (sym (off-old (a ∷ ms) (omega arith, old) acc));
+          picked = sym (if-eq _ _ is refl);
+          lined = (lined-front a ms old, lined-front b ms old);
+        }
 
-  struck-below : (m : Mark) (here there : List Mark) → 1 ≤ m .stroke → Every (Before (m .stroke)) here → Every (Before (m .stroke)) there → Struck here there
-      → Struck (m ∷ here) (m ∷ there)
-  unfolding off
-  struck-below m here there h p q w =
-      record {
-        one = w .one;
-        left-is = left-struck m here h ∙ w .left-is ∙ ap (λ (l : List Edit). w .one ∷ l) (sym (left-struck m there h));
-        off-is = λ acc. w .off-is (cond (ltb since (m .stroke)) (m .edit ∷ acc) acc);
-        lined = ((p, w .lined .0), (q, w .lined .1));
-      }
+    struck-below : (m : Mark) (here there : List Mark) → 1 ≤ m .stroke → (m .stroke ≡ n → ⊥) → Every (Before (m .stroke)) here → Every (Before (m .stroke)) there → Struck R n here there
+        → Struck R n (m ∷ here) (m ∷ there)
+    unfolding off struckBy
+    struck-below m here there h other p q w =
+        record {
+          live = w .live;
+          gone = w .gone;
+          so = w .so;
+          left-is = left-struck m here h ∙ w .left-is ∙ ap (λ (l : List Edit). w .live ∷ l) (sym (left-struck m there h));
+          off-is = λ acc. w .off-is (cond (ltb since (m .stroke)) (m .edit ∷ acc) acc);
+          picked = sym (else-eq _ _ other (sym (w .picked)));
+          lined = ((p, w .lined .0), (q, w .lined .1));
+        }
 
-  pub undone : (u : ℕ) → since ≤ u → (ms : List Mark) → Every (λ k. k ≤ u) ms → Lined ms → (e : Edit) (es : List Edit) → left ms ≡ e ∷ es → Struck ms (strike (suc u) ms)
-  unfolding strike left
-  undone u h [] a l e es q = let z : _≡_ {A = ℕ} 0 1 = cc in absurd (omega arith)
-  undone u h (m ∷ ms) a l e es q =
-      cond-cases (Struck (m ∷ ms)) (eqb (m .stroke) 0)
-      (λ t. let z : m .stroke ≡ 0 = eqb-true _ 0 t in
-      struck-first m (record { edit = m .edit; stroke = suc u }) ms refl z (omega arith) (old-below u (m .stroke) (λ s. absurd (omega arith)) ms (a .1) (l .0)))
-      (λ t. let s : 1 ≤ m .stroke = omega (arith, eqb-false (m .stroke) 0 t) in
-      struck-below m ms (strike (suc u) ms) s (l .0) (every-strike (Before (m .stroke)) (suc u) (inr (s, omega arith)) ms (l .0))
-      (undone u h ms (a .1) (l .1) e es (sym (left-struck m ms s) ∙ q)))
+  module _ (t : Timer) where
+    abbrev pub Undone : Edit → Edit → Type 0
+    Undone live gone = gone ≡ timed t live
 
-  pub redone : (n : ℕ) → since < n → (ms : List Mark) → latest ms ≡ n → Lined ms → Struck (unstrike n ms) ms
-  unfolding unstrike latest
-  redone n h [] e l = absurd (omega arith)
-  redone n h (m ∷ ms) e l =
-      cond-cases (λ (x : List Mark). Struck x (m ∷ ms)) (eqb (m .stroke) n)
-      (λ t. let s : m .stroke ≡ n = eqb-true _ n t in
-      struck-first (record { edit = m .edit; stroke = 0 }) m ms refl refl (omega arith)
-      (old-below n (m .stroke) (λ z. omega arith) ms (below-latest n (m ∷ ms) (omega (arith, e)) .1) (l .0)))
-      (λ t. let r : latest ms ≡ n = latest-below n m ms (eqb-false _ n t) e in
-      let s : 1 ≤ m .stroke = ⊎-elim (λ b. absurd (omega arith)) (λ b. b .0) (at-latest (Before (m .stroke)) ms (omega arith) (l .0)) in
-      struck-below m (unstrike n ms) ms s (every-unstrike (Before (m .stroke)) n (inl (omega arith)) ms (l .0)) (l .0) (redone n h ms r (l .1)))
+    abbrev pub Redone : Edit → Edit → Type 0
+    Redone live gone = live ≡ timed t gone
+
+    pub undone : (u : ℕ) → since ≤ u → (ms : List Mark) → Every (λ k. k ≤ u) ms → Lined ms → (e : Edit) (es : List Edit) → left ms ≡ e ∷ es → Struck Undone (suc u) ms (strike t (suc u) ms)
+    unfolding strike left
+    undone u h [] a l e es q = let z : _≡_ {A = ℕ} 0 1 = cc in absurd (omega arith)
+    undone u h (m ∷ ms) a l e es q =
+        cond-cases (Struck Undone (suc u) (m ∷ ms)) (eqb (m .stroke) 0)
+        (λ f. let z : m .stroke ≡ 0 = eqb-true _ 0 f in
+        struck-first Undone (suc u) m (record { edit = timed t (m .edit); stroke = suc u }) ms refl z refl (omega arith) (old-below u (m .stroke) (λ s. absurd (omega arith)) ms (a .1) (l .0)))
+        (λ f. let s : 1 ≤ m .stroke = omega (arith, eqb-false (m .stroke) 0 f) in
+        struck-below Undone (suc u) m ms (strike t (suc u) ms) s (λ z. omega (arith, z, a .0)) (l .0) (every-strike t (Before (m .stroke)) (suc u) (inr (s, omega (arith, a .0))) ms (l .0))
+        (undone u h ms (a .1) (l .1) e es (sym (left-struck m ms s) ∙ q)))
+
+    pub redone : (n : ℕ) → since < n → (ms : List Mark) → latest ms ≡ n → Lined ms → Struck Redone n (unstrike t n ms) ms
+    unfolding unstrike latest
+    redone n h [] e l = absurd (omega arith)
+    redone n h (m ∷ ms) e l =
+        cond-cases (λ (x : List Mark). Struck Redone n x (m ∷ ms)) (eqb (m .stroke) n)
+        (λ f. let s : m .stroke ≡ n = eqb-true _ n f in
+        struck-first Redone n (record { edit = timed t (m .edit); stroke = 0 }) m ms refl refl s h
+        (old-below n (m .stroke) (λ z. omega arith) ms (below-latest n (m ∷ ms) (omega (arith, e)) .1) (l .0)))
+        (λ f. let r : latest ms ≡ n = latest-below n m ms (eqb-false _ n f) e in
+        let s : 1 ≤ m .stroke = ⊎-elim (λ b. absurd (omega arith)) (λ b. b .0) (at-latest (Before (m .stroke)) ms (omega arith) (l .0)) in
+        struck-below Redone n m (unstrike t n ms) ms s (eqb-false _ n f) (every-unstrike t (Before (m .stroke)) n (inl (omega arith)) ms (l .0)) (l .0) (redone n h ms r (l .1)))

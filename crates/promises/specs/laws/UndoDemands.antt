@@ -17,7 +17,7 @@ use Rattle.wire.specs.laws.Wire.{tail-part, part-of-part}
 use Rattle.record.specs.declared.Record.{Record}
 use Rattle.change.specs.Change.{accepted, refused, clearOf, unclearOf, resetOf, unresetOf, putWith, putOf}
 use Rattle.change.specs.declared.Change.{Change}
-use Rattle.change.specs.declared.Change.the-variants.{Clear, Unclear, SetState, SetRole, SetCaps, SetUser, SetThermal, SetThrottles, Reset, Unreset, SetMask, SetDeadman, SetAreas}
+use Rattle.change.specs.declared.Change.the-variants.{Clear, Unclear, SetState, SetRole, SetCaps, SetUser, SetThermal, SetThrottles, Reset, Unreset, SetMask, SetDeadman, SetAreas, SetTimer}
 use Rattle.change.specs.declared.Changed.{Changed}
 use Rattle.change.specs.declared.Tables.{Tables}
 use Rattle.change.specs.declared.Edit.{Edit}
@@ -65,6 +65,7 @@ module _ (r : Record) (t : Tables) where
   goes-exactly (SetMask mask) = ((λ h. tt), (λ h. refl))
   goes-exactly (SetDeadman deadman) = ((λ h. tt), (λ h. refl))
   goes-exactly (SetAreas areas) = ((λ h. tt), (λ h. refl))
+  goes-exactly (SetTimer timer) = ((λ h. tt), (λ h. refl))
 
 -- ---- the newest entry
 

@@ -1,5 +1,4 @@
 -- The match is on the numbers that the definition tests; any other command is refused.
-use mathlib.Core.Logic.{⊎-elim}
 use mathlib.Core.Path.{refl}
 use Rattle.sbe.specs.Mailbox.{coreState}
 use Rattle.wire.specs.laws.Cases.{else-eq}
@@ -12,6 +11,9 @@ use Rattle.sbe.proofs.core_state.Tie as tie
 deadman-requires : tie.Need-deadman-requires
 deadman-requires c κs = search needs
 
+exit-contained-requires : tie.Need-exit-contained-requires
+exit-contained-requires c κs = search needs
+
 cores-requires : tie.Need-cores-requires
 cores-requires c κs = search needs
 
@@ -21,16 +23,29 @@ returns c = by-key (λ (k : ℕ). coreState k (c .before .before .before .args .
 
 returns-2 : tie.Need-returns-2
 unfolding coreState
-returns-2 c = by-key (λ (k : ℕ). coreState k (c .before .before .before .args .r .now)) (c .before .match .keys2) (c .cores .ensures)
+returns-2 c = by-key (λ (k : ℕ). coreState k (c .before .before .before .args .r .now)) (c .before .match .keys2) (c .exit-contained .ensures)
 
 returns-3 : tie.Need-returns-3
 unfolding coreState
-returns-3 c = let r = c .before .before .args .r .now in ⊎-elim (λ e. by-key (λ (k : ℕ). coreState k r) e refl) (λ e. by-key (λ (k : ℕ). coreState k r) e refl) (c .match .keys3)
+returns-3 c = by-key (λ (k : ℕ). coreState k (c .before .before .before .args .r .now)) (c .before .match .keys3) (c .cores .ensures)
 
 returns-4 : tie.Need-returns-4
 unfolding coreState
-returns-4 c = else-eq _ _ (c .match .rest .0 .0 .1) (else-eq _ _ (c .match .rest .0 .1) refl)
+returns-4 c = by-key (λ (k : ℕ). coreState k (c .before .before .args .r .now)) (c .match .keys4) refl
+
+returns-5 : tie.Need-returns-5
+unfolding coreState
+returns-5 c = let n = c .match .rest in else-eq _ _ (n .0 .0 .0 .1) (else-eq _ _ (n .0 .0 .1) (else-eq _ _ (n .0 .1) refl))
 
 pub core-state-spec : {M : Type 1} → statement M
 core-state-spec =
-    tie.close (tie.spec deadman-requires cores-requires returns returns-2 returns-3 returns-4)
+    tie.close
+    (tie.spec
+    deadman-requires
+    exit-contained-requires
+    cores-requires
+    returns
+    returns-2
+    returns-3
+    returns-4
+    returns-5)

@@ -4,19 +4,21 @@ use mathlib.Core.List.{List}
 use mathlib.Core.Path.{refl}
 use lib.ListN.{length}
 use Rattle.wire.specs.Wire.{pasted}
-use Rattle.sbe.specs.Mailbox.{requestRuling, bellOf, responseBytes}
+use Rattle.sbe.specs.Mailbox.{bellOf, responseBytes}
 use Rattle.sbe.specs.declared.Ruling.{Ruling}
-use Rattle.sbe.specs.declared.Ruling.the-variants.{Decline, Grant}
+use Rattle.sbe.specs.declared.Ruling.the-variants.{Decline, Grant, Done, Read}
 use Rattle.session.specs.laws.Road.{due-cases, Speaks}
 use Rattle.session.specs.declared.Session.{Session}
-use Rattle.sbe_call.specs.Sbe.{sbeRefusal, rulingAsks, sbeRead, sbeAsks}
+use Rattle.sbe_call.specs.Sbe.{sbeRefusal, rulingAsks, sbeRuling, sbeRead, sbeAsks}
 
 module _ (s : Session) (r d : List ℕ) where
   spoken : (v : Ruling) → Speaks s d (bellOf r) (pasted 0 (responseBytes 0x00 0x00 r) d) (rulingAsks r d v)
   unfolding rulingAsks
   spoken (Decline primary secondary) = refl
   spoken (Grant change) = (refl, refl)
+  spoken Done = refl
+  spoken (Read offset size) = refl
 
-  pub sbe-speaks : Speaks s d (bellOf r) (pasted 0 (responseBytes 0x00 0x00 r) d) (sbeAsks s r d)
+  pub sbe-speaks : (m x : List ℕ) → Speaks s d (bellOf r) (pasted 0 (responseBytes 0x00 0x00 r) d) (sbeAsks s r d m x)
   unfolding sbeAsks sbeRead
-  sbe-speaks = due-cases (Speaks s d (bellOf r) (pasted 0 (responseBytes 0x00 0x00 r) d)) (sbeRefusal s (length r) (length d)) (λ n. n) (λ z. spoken (requestRuling r))
+  sbe-speaks m x = due-cases (Speaks s d (bellOf r) (pasted 0 (responseBytes 0x00 0x00 r) d)) (sbeRefusal s (length r) (length d)) (λ n. n) (λ z. spoken (sbeRuling r m x))

@@ -49,6 +49,9 @@ enum-told-11 c = search needs
 enum-told-12 : tie.Need-enum-told-12
 enum-told-12 c = search needs
 
+enum-told-13 : tie.Need-enum-told-13
+enum-told-13 c = search needs
+
 returns : tie.Need-returns
 unfolding madeOf
 returns c = sym (ap madeOf (c .enum-told .given .1))
@@ -101,6 +104,10 @@ returns-13 : tie.Need-returns-13
 unfolding madeOf
 returns-13 c = sym (ap madeOf (c .enum-told12 .given .1))
 
+returns-14 : tie.Need-returns-14
+unfolding madeOf
+returns-14 c = sym (ap madeOf (c .enum-told13 .given .1))
+
 pub made-spec : {M : Type 1} → statement M
 made-spec =
     tie.close
@@ -120,6 +127,7 @@ made-spec =
     enum-told-10
     enum-told-11
     enum-told-12
+    enum-told-13
     returns
     returns-2
     returns-3
@@ -132,4 +140,5 @@ made-spec =
     returns-10
     returns-11
     returns-12
-    returns-13)
+    returns-13
+    returns-14)

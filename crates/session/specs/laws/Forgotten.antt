@@ -117,6 +117,7 @@ forgotten-formed n s whole =
     (record {
       record-ok = f .record-ok;
       worked-is = refl;
+      timer-ok = f .timer-ok;
       both-fit = omega (arith, f .both-fit);
       journal = subst (λ (k : ℕ). Store Before (movedDown k (s .journal)) (s .used - k)) (sym is) stands;
       marks-are = refl;

@@ -11,13 +11,13 @@ use Rattle.wire.specs.Wire.{allAre}
 use Rattle.wire.specs.laws.Cases.{else-lt, else-ne}
 use Rattle.record.specs.Record.{workedOf}
 use Rattle.record.specs.declared.Worked.{Worked}
-use Rattle.formed.specs.Formed.{recordOk, nextOk}
+use Rattle.formed.specs.Formed.{timerOk, recordOk, nextOk}
 use Rattle.formed.specs.laws.Formed.{both-hold, hold-both, sound}
 use Rattle.marks.specs.Marks.{same}
 use Rattle.marks.specs.laws.Tested.{same-is, is-same}
 use Rattle.journal.specs.Read.{entriesOk}
 use Rattle.session.specs.declared.Session.{Session}
-use Rattle.change.specs.Change.{inverseOf}
+use Rattle.change.specs.Change.{takesBack}
 use Rattle.change.specs.declared.Edit.{Edit}
 use Rattle.journal.specs.Add.{endOf}
 use Rattle.journal.specs.declared.End.{End}
@@ -73,6 +73,7 @@ store-ok w j used f = sym (else-lt _ _ {m = length j} {n = used} (f .fits) (sym 
 pub record Formed (s : Session) : Type 0 where
   pub record-ok : recordOk (s .held) (s .next) ≡ true
   pub worked-is : s .worked ≡ workedOf (s .held)
+  pub timer-ok : timerOk (s .timer) ≡ true
   pub both-fit : s .used + s .ahead ≤ 2048
   pub journal : Store Before (s .journal) (s .used)
   pub marks-are : s .marks ≡ marksFor (s .journal) (s .used)
@@ -83,12 +84,14 @@ unfolding wellFormed heldOk storesOk
 formed s h =
     let p = both-hold (heldOk (s .held) (s .worked) (s .next)) _ h in
     let q = both-hold (recordOk (s .held) (s .next)) _ (p .0) in
-    let r = ltb-hold 2048 (s .used + s .ahead) _ (p .1) in
+    let timer = both-hold (timerOk (s .timer)) _ (p .1) in
+    let r = ltb-hold 2048 (s .used + s .ahead) _ (timer .1) in
     let t = both-hold (storeOk Before (s .journal) (s .used)) _ (r .1) in
     let u = both-hold (same (s .marks) (marksFor (s .journal) (s .used))) _ (t .1) in
     record {
       record-ok = q .0;
       worked-is = sym (worked-same _ _ (q .1));
+      timer-ok = timer .0;
       both-fit = r .0;
       journal = store Before _ _ (t .0);
       marks-are = same-is _ _ (u .0);
@@ -100,7 +103,7 @@ unfolding wellFormed heldOk storesOk
 formed-ok s f =
     hold-both
     (hold-both (f .record-ok) (ap (workedFits (workedOf (s .held))) (f .worked-is) ∙ worked-fits (workedOf (s .held))))
-    (sym (else-lt _ _ {m = 2048} {n = s .used + s .ahead} (f .both-fit) (sym (hold-both (store-ok Before _ _ (f .journal)) (hold-both (ap (same (s .marks)) (sym (f .marks-are)) ∙ is-same (s .marks)) (store-ok After _ _ (f .redo)))))))
+    (hold-both (f .timer-ok) (sym (else-lt _ _ {m = 2048} {n = s .used + s .ahead} (f .both-fit) (sym (hold-both (store-ok Before _ _ (f .journal)) (hold-both (ap (same (s .marks)) (sym (f .marks-are)) ∙ is-same (s .marks)) (store-ok After _ _ (f .redo))))))))
 
 pub formed-next : (s : Session) → wellFormed s ≡ true → s .next ≤ 256
 unfolding nextOk
@@ -114,7 +117,7 @@ none-due false n h = let z : ⊥ = omega (arith, h) in absurd z
 -- after carrying out, what is worked out is the new record's
 pub carried-worked : (s : Session) (e : Edit) → carriedOf s e .full ≡ false → carriedOf s e .session .worked ≡ workedOf (carriedOf s e .session .held)
 unfolding carriedOf carriedTo renewed
-carried-worked s e f = go (endOf (length (s .journal)) (s .used) (inverseOf (s .held) e)) f
+carried-worked s e f = go (endOf (length (s .journal)) (s .used) (takesBack (s .held) (s .timer) e)) f
   where
     go : (x : End) → carriedTo s e x .full ≡ false → carriedTo s e x .session .worked ≡ workedOf (carriedTo s e x .session .held)
     go (At used) f = refl

@@ -14,6 +14,9 @@ put-rest-requires c κs = search needs
 put-redo-requires : tie.Need-put-redo-requires
 put-redo-requires c κs = search needs
 
+put-timer-requires : tie.Need-put-timer-requires
+put-timer-requires c κs = search needs
+
 put-named-requires : tie.Need-put-named-requires
 put-named-requires c κs = search needs
 
@@ -28,7 +31,7 @@ same-length c = search needs
 
 returns : tie.Need-returns
 unfolding sessionText wordNumber
-returns c = (search needs, pieces _ _ _ (c .before .before .before .before .before .before .before .before .before .before .before .before .before .before .before .before .before .before .before .before .before .before .put-settings .ensures) (pieces _ _ _ (c .before .before .before .before .before .before .before .before .before .before .before .before .before .before .before .before .before .before .put-rest .ensures) (pieces _ _ _ (c .before .before .before .before .before .before .before .before .before .before .before .before .before .before .put-redo .ensures) (pieces _ _ _ (c .before .before .before .before .before .before .before .before .before .before .put-named .ensures) (pieces _ _ _ (c .before .before .before .before .before .before .put-journal .ensures) (last-piece _ _ (c .before .before .put-word .ensures .1)))))))
+returns c = (search needs, pieces _ _ _ (c .before .before .before .before .before .before .before .before .before .before .before .before .before .before .before .before .before .before .before .before .before .before .before .before .before .before .put-settings .ensures) (pieces _ _ _ (c .before .before .before .before .before .before .before .before .before .before .before .before .before .before .before .before .before .before .before .before .before .before .put-rest .ensures) (pieces _ _ _ (c .before .before .before .before .before .before .before .before .before .before .before .before .before .before .before .before .before .before .put-redo .ensures) (pieces _ _ _ (c .before .before .before .before .before .before .before .before .before .before .before .before .before .before .put-timer .ensures) (pieces _ _ _ (c .before .before .before .before .before .before .before .before .before .before .put-named .ensures) (pieces _ _ _ (c .before .before .before .before .before .before .put-journal .ensures) (last-piece _ _ (c .before .before .put-word .ensures .1))))))))
 
 pub put-session-spec : {M : Type 1} → statement M
 put-session-spec =
@@ -37,6 +40,7 @@ put-session-spec =
     put-settings-requires
     put-rest-requires
     put-redo-requires
+    put-timer-requires
     put-named-requires
     put-journal-requires
     put-word-requires

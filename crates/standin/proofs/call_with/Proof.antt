@@ -17,8 +17,23 @@ array-borrow-prefix-reply c = search needs
 slice-aggregate-part : tie.Need-slice-aggregate-part
 slice-aggregate-part c = sym (length-take-le _ _ (omega arith))
 
+large-buffer-requires : tie.Need-large-buffer-requires
+large-buffer-requires c κs = search needs
+
+slice-aggregate-carry-out : tie.Need-slice-aggregate-carry-out
+slice-aggregate-carry-out c = search needs
+
 carry-out-requires : tie.Need-carry-out-requires
 carry-out-requires c κs = search needs
+
+slice-reshare-prefix-put-told : tie.Need-slice-reshare-prefix-put-told
+slice-reshare-prefix-put-told c = search needs
+
+slice-aggregate-put-told : tie.Need-slice-aggregate-put-told
+slice-aggregate-put-told c = sym (length-take-le _ _ (omega arith))
+
+slice-aggregate-put-told-2 : tie.Need-slice-aggregate-put-told-2
+slice-aggregate-put-told-2 c = search needs
 
 put-told-requires : tie.Need-put-told-requires
 put-told-requires c κs = search needs
@@ -46,7 +61,12 @@ call-with-spec =
     reply-len-requires
     array-borrow-prefix-reply
     slice-aggregate-part
+    large-buffer-requires
+    slice-aggregate-carry-out
     carry-out-requires
+    slice-reshare-prefix-put-told
+    slice-aggregate-put-told
+    slice-aggregate-put-told-2
     put-told-requires
     next-last-requires
     same-length

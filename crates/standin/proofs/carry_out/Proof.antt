@@ -45,12 +45,6 @@ send-requires c κs = simp length-take (omega arith)
 enum-told-3 : tie.Need-enum-told-3
 enum-told-3 c = search needs
 
-slice-reshare-prefix-sbe : tie.Need-slice-reshare-prefix-sbe
-slice-reshare-prefix-sbe c = search needs
-
-slice-aggregate-sbe : tie.Need-slice-aggregate-sbe
-slice-aggregate-sbe c = sym (length-take-le _ _ (omega arith))
-
 sbe-requires : tie.Need-sbe-requires
 sbe-requires c κs = search needs
 
@@ -77,6 +71,12 @@ enum-known-call c = search needs
 
 forget-requires : tie.Need-forget-requires
 forget-requires c κs = search needs
+
+enum-known-call-2 : tie.Need-enum-known-call-2
+enum-known-call-2 c = search needs
+
+time-requires : tie.Need-time-requires
+time-requires c κs = search needs
 
 enum-told-7 : tie.Need-enum-told-7
 enum-told-7 c = search needs
@@ -117,41 +117,50 @@ same-length-8 c = search needs
 same-length-9 : tie.Need-same-length-9
 same-length-9 c = search needs
 
-returns-3 : tie.Need-returns-3
-returns-3 c = search needs
-
 same-length-10 : tie.Need-same-length-10
 same-length-10 c = search needs
+
+returns-3 : tie.Need-returns-3
+returns-3 c = search needs
 
 same-length-11 : tie.Need-same-length-11
 same-length-11 c = search needs
 
-returns-4 : tie.Need-returns-4
-returns-4 c = search needs
-
 same-length-12 : tie.Need-same-length-12
 same-length-12 c = search needs
 
-returns-5 : tie.Need-returns-5
-returns-5 c = search needs
+returns-4 : tie.Need-returns-4
+returns-4 c = search needs
 
 same-length-13 : tie.Need-same-length-13
 same-length-13 c = search needs
 
-returns-6 : tie.Need-returns-6
-returns-6 c = search needs
+returns-5 : tie.Need-returns-5
+returns-5 c = search needs
 
 same-length-14 : tie.Need-same-length-14
 same-length-14 c = search needs
 
-returns-7 : tie.Need-returns-7
-returns-7 c = search needs
+returns-6 : tie.Need-returns-6
+returns-6 c = search needs
 
 same-length-15 : tie.Need-same-length-15
 same-length-15 c = search needs
 
+returns-7 : tie.Need-returns-7
+returns-7 c = search needs
+
+same-length-16 : tie.Need-same-length-16
+same-length-16 c = search needs
+
 returns-8 : tie.Need-returns-8
 returns-8 c = search needs
+
+same-length-17 : tie.Need-same-length-17
+same-length-17 c = search needs
+
+returns-9 : tie.Need-returns-9
+returns-9 c = search needs
 
 pub carry-out-spec : {M : Type 1} → statement M
 carry-out-spec =
@@ -170,8 +179,6 @@ carry-out-spec =
     slice-aggregate-send
     send-requires
     enum-told-3
-    slice-reshare-prefix-sbe
-    slice-aggregate-sbe
     sbe-requires
     enum-told-4
     load-requires
@@ -181,6 +188,8 @@ carry-out-spec =
     redo-requires
     enum-known-call
     forget-requires
+    enum-known-call-2
+    time-requires
     enum-told-7
     fresh-requires
     same-length
@@ -194,15 +203,18 @@ carry-out-spec =
     same-length-7
     same-length-8
     same-length-9
-    returns-3
     same-length-10
+    returns-3
     same-length-11
-    returns-4
     same-length-12
-    returns-5
+    returns-4
     same-length-13
-    returns-6
+    returns-5
     same-length-14
-    returns-7
+    returns-6
     same-length-15
-    returns-8)
+    returns-7
+    same-length-16
+    returns-8
+    same-length-17
+    returns-9)

@@ -1,14 +1,14 @@
 use mathlib.Core.Path.{_≡_}
 use lib.ListN.{length}
+use borrow.Author.Needs.{needs}
 use Rattle.standin.proofs.serve.Statement.{statement}
 use Rattle.standin.proofs.serve.Tie as tie
-use borrow.Author.Needs.{needs}
 
 abbrev Inv-loop : tie.InvT-loop
-Inv-loop lent₀ piece₀ line₀ sent₀ out₀ bench₀ held₀ left₀ lent piece line sent out bench held left = (length lent ≡ length lent₀) × (length piece ≡ length piece₀) × (length line ≡ length line₀) × (length sent ≡ length sent₀) × (length out ≡ length out₀)
+Inv-loop lent₀ seeprom piece₀ line₀ sent₀ out₀ bench₀ held₀ left₀ lent piece line sent out bench held left = (length lent ≡ length lent₀) × (length piece ≡ length piece₀) × (length line ≡ length line₀) × (length sent ≡ length sent₀) × (length out ≡ length out₀)
 
 abbrev μ-loop : tie.MeasureT-loop
-μ-loop lent₀ piece₀ line₀ sent₀ out₀ bench₀ held₀ left₀ lent piece line sent out bench held left = left
+μ-loop lent₀ seeprom piece₀ line₀ sent₀ out₀ bench₀ held₀ left₀ lent piece line sent out bench held left = left
 
 answer-with-requires : tie.Need-answer-with-requires Inv-loop μ-loop
 answer-with-requires c κs = search needs

@@ -7,9 +7,10 @@
  * buffer that is too short. The buffers of one call don't overlap. The proofs take that for granted: where they do, nothing is promised of the
  * result nor of the bytes in them.
  *
- * A call that changes nothing writes nothing to the session: polls, error replies, every answer but 0. That its bytes stay is proved; that nothing is
- * stored at all is tried, on memory that can't be written (examples/c/edges.c). Polls may so share a session; a call that changes it needs it alone,
- * and so does forgetting no changes, which stores the bytes that stand there.
+ * A call that changes nothing writes nothing to the session: polls, SBE requests that make no entry (D1 02, D3 01, D7 03), error replies, every answer
+ * but 0. That its bytes stay is proved; that nothing is stored at all is tried, on memory that can't be written (examples/c/edges.c). Polls may so
+ * share a session; a call that changes it needs it alone, and so do forgetting no changes, which stores the bytes that stand there, and every time
+ * report.
  *
  * The archive takes memcpy and memset from the C library, or from you, and nothing else. A call takes under 4 KB of stack.
  *
@@ -30,7 +31,10 @@
  *      with its id and reason; or a reset's log is to come back, and 4 pend. Never on a session that began fresh
  *   8  nothing to redo
  *   9  fewer changes are held than are to be forgotten
- * After any answer but 0 the session and the reply buffer hold the bytes that they held before.
+ * After any answer but 0 the session, the reply buffer and the buffer for data hold the bytes that they held before.
+ *
+ * The doorbell is a number of 16 bits, bit 0 the most significant: 0x8000 response (bit 0), 0x4000 acknowledge (bit 1), 0x0002 the timer has expired
+ * (bit 14). The first two are rung by SBE calls as the request's flags ask, with every answer 0, whatever the status; the third by a time report.
  */
 #ifndef BJARGOLSK_H
 #define BJARGOLSK_H
@@ -43,10 +47,10 @@ extern "C" {
 #endif
 
 /* Goes up with every change of a function, a constant or the image's bytes. */
-#define BJARGOLSK_VERSION 3
+#define BJARGOLSK_VERSION 4
 
 enum {
-    BJARGOLSK_SESSION = 4401, /* the image's length */
+    BJARGOLSK_SESSION = 4410, /* the image's length */
     BJARGOLSK_OCC_REPLY = 4096,
     BJARGOLSK_SBE_REPLY = 32,
     BJARGOLSK_HTMGT = 0x10,
@@ -84,21 +88,36 @@ uint32_t bjargolsk_occ(uint8_t *session, size_t session_length, uint8_t sender, 
                        uint8_t *reply, size_t reply_length);
 
 /* Answers an SBE mailbox request of 32 bytes by a response of 32; the reply buffer past it is kept. Answers 0, 1 and 3 to 5; the high 16
- * bits are the doorbell: 0x8000 response, 0x4000 acknowledge. */
+ * bits are the doorbell. It is bjargolsk_sbe_seeprom with an empty SEEPROM image and an empty buffer for data: so D7 03 with offset 0 and size 0
+ * succeeds, and every other read is refused by status 02/19. */
 uint32_t bjargolsk_sbe(uint8_t *session, size_t session_length, const uint8_t *request, size_t request_length, uint8_t *reply,
                        size_t reply_length);
 
+/* The same, with the image lent that D7 03 reads the SEEPROM from, and a buffer for the data that it reads. Of an image only the first 65,536 bytes
+ * count. Offset and size, which are to be multiples of 8, are judged against the image (02/19), then the size against the buffer (02/18). On success
+ * the data stands at the front of the buffer, as many bytes as the request's size asks for; past them, after a refusal and after every other request
+ * the buffer is kept. Neither is looked at by other requests; either may be of any length, also 0. Answers and doorbell as bjargolsk_sbe. */
+uint32_t bjargolsk_sbe_seeprom(uint8_t *session, size_t session_length, const uint8_t *request, size_t request_length, uint8_t *reply,
+                               size_t reply_length, const uint8_t *seeprom, size_t seeprom_length, uint8_t *data, size_t data_length);
+
+/* Reports that so many microseconds have passed. A timer that runs (D4 01 starts it) loses them; where as many as are left, or more, have passed, it
+ * is off, and the high 16 bits, the doorbell, are 0x0002, this once. With fewer, and while the timer is off, they are 0. It is no change: the journal and
+ * what can be redone stay. Answers 0 and 1. Time passes by this call alone. */
+uint32_t bjargolsk_time(uint8_t *session, size_t session_length, uint64_t microseconds);
+
 /* Takes the newest change back. Answers 0, 1, 6 and 7; the high 16 bits are the kind of the entry that was taken back, 0 if none was. Bits 8 to 15
  * are the number of entries passed on the way to it from the last mark (docs/IMAGE.md): those held, less one, less the greatest multiple of 32
- * not above that. */
+ * not above that. Of a timer command (kind 0x0C) it restores the timer as it stood just before that command or, if that was redone since, just before
+ * its last redo; no other undo touches the timer. */
 uint32_t bjargolsk_undo(uint8_t *session, size_t session_length);
 
 /* Puts the change that was last taken back in again; an accepted command that makes a change leaves none to put in. Answers 0, 1, 7 and 8;
- * the high 16 bits are the kind of its entry, 0 if none was put in. */
+ * the high 16 bits are the kind of its entry, 0 if none was put in. Of a timer command it restores the timer as it stood just before that undo; no other
+ * redo touches it. */
 uint32_t bjargolsk_redo(uint8_t *session, size_t session_length);
 
 /* Forgets the n oldest changes, which can't be taken back any more, and moves the rest down: their room in the journal is used again. The record, the
- * next id and what can be redone stay; n = 0 changes nothing. Answers 0, 1 and 9; nothing stands beside the answer. */
+ * timer, the next id and what can be redone stay; n = 0 changes nothing. Answers 0, 1 and 9; nothing stands beside the answer. */
 uint32_t bjargolsk_forget(uint8_t *session, size_t session_length, uint32_t n);
 
 #ifdef __cplusplus

@@ -2,10 +2,10 @@
 
 /// As in bjargolsk.h: goes up with every change of a function, a constant or the image's bytes.
 #[allow(dead_code)]
-pub const BJARGOLSK_VERSION: u32 = 3;
+pub const BJARGOLSK_VERSION: u32 = 4;
 /// The image's length.
 #[allow(dead_code)]
-pub const BJARGOLSK_SESSION: usize = 4401;
+pub const BJARGOLSK_SESSION: usize = 4410;
 
 extern "C" {
     pub fn bjargolsk_fresh(session: *mut u8, session_length: usize) -> u32;
@@ -26,6 +26,19 @@ extern "C" {
         reply: *mut u8,
         reply_length: usize,
     ) -> u32;
+    pub fn bjargolsk_sbe_seeprom(
+        session: *mut u8,
+        session_length: usize,
+        request: *const u8,
+        request_length: usize,
+        reply: *mut u8,
+        reply_length: usize,
+        seeprom: *const u8,
+        seeprom_length: usize,
+        data: *mut u8,
+        data_length: usize,
+    ) -> u32;
+    pub fn bjargolsk_time(session: *mut u8, session_length: usize, microseconds: u64) -> u32;
     pub fn bjargolsk_undo(session: *mut u8, session_length: usize) -> u32;
     pub fn bjargolsk_redo(session: *mut u8, session_length: usize) -> u32;
     pub fn bjargolsk_forget(session: *mut u8, session_length: usize, n: u32) -> u32;

@@ -1,4 +1,5 @@
-/* What bjargolsk.h says of its callers' buffers, tried: any alignment, NULL with length 0, sessions that calls which change nothing leave unwritten. */
+/* What bjargolsk.h says of its callers' buffers, tried: any alignment, NULL with length 0, sessions that calls which change nothing leave unwritten, data that a
+ * read of the SEEPROM gives and what it keeps. */
 #define _DEFAULT_SOURCE /* mmap's MAP_ANONYMOUS */
 #include <stdio.h>
 #include <sys/mman.h>
@@ -9,7 +10,10 @@ enum { ROOM = 2 * 4096 };
 
 static const uint8_t poll_packet[] = {1, 0x00, 0, 1, 0x10, 0, 0x12};
 static const uint8_t refused_packet[] = {2, 0x22, 0, 2, 0xFF, 0xFF, 0x02, 0x24};
+/* D7 03: 16 bytes from offset 8 on. */
+static const uint8_t read_request[BJARGOLSK_SBE_REPLY] = {0, 0, 1, 0, 0, 1, 0xD7, 0x03, 0, 0, 0, 8, 0, 0, 0, 16};
 static uint8_t reply[BJARGOLSK_OCC_REPLY + 64];
+static uint8_t image[24 + 64], data[17 + 64];
 static int failures;
 
 static void expect(const char *what, uint32_t result, uint32_t answer)
@@ -25,6 +29,36 @@ static uint32_t occ(uint8_t *session, const uint8_t *command, size_t length, siz
     return bjargolsk_occ(session, BJARGOLSK_SESSION, BJARGOLSK_HTMGT, command, length, reply + shift, BJARGOLSK_OCC_REPLY);
 }
 
+static uint32_t sbe(uint8_t *session, const uint8_t *request)
+{
+    return bjargolsk_sbe(session, BJARGOLSK_SESSION, request, BJARGOLSK_SBE_REPLY, reply, BJARGOLSK_SBE_REPLY);
+}
+
+/* An image of 24 bytes is lent, and a buffer of so many. */
+static uint32_t seeprom(uint8_t *session, size_t shift, size_t room)
+{
+    return bjargolsk_sbe_seeprom(session, BJARGOLSK_SESSION, read_request, sizeof read_request, reply + shift, BJARGOLSK_SBE_REPLY, image + shift, 24, data + shift, room);
+}
+
+/* The data stands at the front of the buffer, and the byte past it is kept; with a byte too few (status 02/18) all is kept. */
+static void reads(uint8_t *session, size_t shift)
+{
+    for (size_t room = 15; room <= 17; room++) {
+        for (size_t i = 0; i < sizeof image; i++)
+            image[i] = (uint8_t)(shift + i);
+        for (size_t i = 0; i < sizeof data; i++)
+            data[i] = 0xEE;
+        expect("read, any alignment", seeprom(session, shift, room), 0);
+        for (size_t i = 0; i < sizeof data; i++) {
+            uint8_t due = room >= 16 && i >= shift && i < shift + 16 ? image[8 + i] : 0xEE;
+            if (data[i] != due) {
+                printf("read, buffer of %u at %u: byte %u is %02X, not %02X\n", (unsigned)room, (unsigned)shift, (unsigned)i, data[i], due);
+                failures++;
+            }
+        }
+    }
+}
+
 static void nulls(uint8_t *session)
 {
     expect("fresh, no session", bjargolsk_fresh(NULL, 0), 1);
@@ -33,6 +67,11 @@ static void nulls(uint8_t *session)
     expect("occ, no reply", bjargolsk_occ(session, BJARGOLSK_SESSION, BJARGOLSK_HTMGT, poll_packet, sizeof poll_packet, NULL, 0), 3);
     expect("sbe, no request", bjargolsk_sbe(session, BJARGOLSK_SESSION, NULL, 0, reply, BJARGOLSK_SBE_REPLY), 4);
     expect("sbe, no reply", bjargolsk_sbe(session, BJARGOLSK_SESSION, poll_packet, sizeof poll_packet, NULL, 0), 3);
+    expect("read, no session", bjargolsk_sbe_seeprom(NULL, 0, read_request, sizeof read_request, reply, BJARGOLSK_SBE_REPLY, image, 24, data, 16), 1);
+    expect("read, no request", bjargolsk_sbe_seeprom(session, BJARGOLSK_SESSION, NULL, 0, reply, BJARGOLSK_SBE_REPLY, image, 24, data, 16), 4);
+    expect("read, no reply", bjargolsk_sbe_seeprom(session, BJARGOLSK_SESSION, read_request, sizeof read_request, NULL, 0, image, 24, data, 16), 3);
+    expect("read, no image, no buffer", bjargolsk_sbe_seeprom(session, BJARGOLSK_SESSION, read_request, sizeof read_request, reply, BJARGOLSK_SBE_REPLY, NULL, 0, NULL, 0), 0);
+    expect("time, no session", bjargolsk_time(NULL, 0, 0), 1);
     expect("undo, no session", bjargolsk_undo(NULL, 0), 1);
     expect("redo, no session", bjargolsk_redo(NULL, 0), 1);
     expect("forget, no session", bjargolsk_forget(NULL, 0, 0), 1);
@@ -42,10 +81,15 @@ static void nulls(uint8_t *session)
 static void unwritten(uint8_t *session)
 {
     static const uint8_t unknown_request[BJARGOLSK_SBE_REPLY] = {0, 0, 1, 0, 0, 1, 0xEE, 0xEE};
+    static const uint8_t exit_request[BJARGOLSK_SBE_REPLY] = {0, 0, 1, 0, 0, 1, 0xD1, 0x02};
+    static const uint8_t ring_request[BJARGOLSK_SBE_REPLY] = {0, 0, 1, 0, 0, 1, 0xD3, 0x01};
     expect("poll, read-only", occ(session, poll_packet, sizeof poll_packet, 0), 0);
     expect("refused by status, read-only", occ(session, refused_packet, sizeof refused_packet, 0), 0);
     expect("refused by answer, read-only", occ(session, poll_packet, 3, 0), 4);
-    expect("unknown request, read-only", bjargolsk_sbe(session, BJARGOLSK_SESSION, unknown_request, sizeof unknown_request, reply, BJARGOLSK_SBE_REPLY), 0);
+    expect("unknown request, read-only", sbe(session, unknown_request), 0);
+    expect("exit, read-only", sbe(session, exit_request), 0);
+    expect("ring, read-only", sbe(session, ring_request), 0);
+    expect("read, read-only", seeprom(session, 0, 16), 0);
     expect("undo of nothing, read-only", bjargolsk_undo(session, BJARGOLSK_SESSION), 6);
     expect("redo of nothing, read-only", bjargolsk_redo(session, BJARGOLSK_SESSION), 8);
     expect("forget more than there is, read-only", bjargolsk_forget(session, BJARGOLSK_SESSION, 1), 9);
@@ -58,13 +102,13 @@ static void full(uint8_t *session)
     uint32_t result = 0;
     bjargolsk_fresh(session, BJARGOLSK_SESSION);
     while (BJARGOLSK_ANSWER(result) == 0)
-        result = bjargolsk_sbe(session, BJARGOLSK_SESSION, mask_request, sizeof mask_request, reply, BJARGOLSK_SBE_REPLY);
+        result = sbe(session, mask_request);
     expect("full journal", result, 5);
     mprotect(session, ROOM, PROT_READ);
-    expect("full journal, read-only", bjargolsk_sbe(session, BJARGOLSK_SESSION, mask_request, sizeof mask_request, reply, BJARGOLSK_SBE_REPLY), 5);
+    expect("full journal, read-only", sbe(session, mask_request), 5);
     mprotect(session, ROOM, PROT_READ | PROT_WRITE);
     expect("forget, full journal", bjargolsk_forget(session, BJARGOLSK_SESSION, 1), 0);
-    expect("room again", bjargolsk_sbe(session, BJARGOLSK_SESSION, mask_request, sizeof mask_request, reply, BJARGOLSK_SBE_REPLY), 0);
+    expect("room again", sbe(session, mask_request), 0);
 }
 
 /* An entry that can't be put in (docs/IMAGE.md): a log is to come back at place 1, and none pends; next id 2, 4 bytes of journal. */
@@ -87,6 +131,8 @@ int main(void)
     for (size_t shift = 0; shift < 64; shift++) {
         expect("fresh, any alignment", bjargolsk_fresh(pages + shift, BJARGOLSK_SESSION), 0);
         expect("poll, any alignment", occ(pages + shift, poll_packet, sizeof poll_packet, shift), 0);
+        expect("time, any alignment", bjargolsk_time(pages + shift, BJARGOLSK_SESSION, 1), 0);
+        reads(pages + shift, shift);
     }
     bjargolsk_fresh(pages, BJARGOLSK_SESSION);
     nulls(pages);

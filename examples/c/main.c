@@ -1,4 +1,5 @@
-/* A master OCC brought up and capped; changes taken back, one step too far, and one put in again; a cap that is too high; the oldest changes forgotten. */
+/* A master OCC brought up and capped; changes taken back, one step too far, and one put in again; a cap that is too high; the oldest changes forgotten; the
+ * SBE's timer; a part of its SEEPROM read. */
 #include <stdio.h>
 
 #include "bjargolsk.h"
@@ -39,6 +40,25 @@ static void sbe(const char *name, const uint8_t *request, size_t length)
     show(BJARGOLSK_ANSWER(result) == 0 ? BJARGOLSK_SBE_REPLY : 0);
 }
 
+/* The call lends an image of the SEEPROM, and a buffer for what the request reads of it. */
+static void seeprom(const uint8_t *request, size_t length, const uint8_t *image, size_t image_length)
+{
+    uint8_t data[8] = {0};
+    uint32_t result = bjargolsk_sbe_seeprom(session, sizeof session, request, length, reply, sizeof reply, image, image_length, data, sizeof data);
+    printf("seeprom: answer %u bell %04X", (unsigned)BJARGOLSK_ANSWER(result), (unsigned)BJARGOLSK_HIGH(result));
+    show(BJARGOLSK_ANSWER(result) == 0 ? BJARGOLSK_SBE_REPLY : 0);
+    printf("data:");
+    for (size_t i = 0; i < sizeof data; i++)
+        printf(" %02X", data[i]);
+    printf("\n");
+}
+
+static void passes(unsigned microseconds)
+{
+    uint32_t result = bjargolsk_time(session, sizeof session, microseconds);
+    printf("time %u: answer %u bell %04X\n", microseconds, (unsigned)BJARGOLSK_ANSWER(result), (unsigned)BJARGOLSK_HIGH(result));
+}
+
 static void undo(void)
 {
     uint32_t result = bjargolsk_undo(session, sizeof session);
@@ -69,6 +89,9 @@ int main(void)
     static const uint8_t user[] = {0x03, 0xE8};
     static const uint8_t high[] = {0x07, 0xD0};
     static const uint8_t deadman[32] = {0, 0, 0x01, 0x01, 0, 7, 0xD1, 0x01, 0, 0, 0, 0, 0, 0, 0x03, 0xE8};
+    static const uint8_t timer[32] = {0, 0, 0x00, 0x01, 0, 8, 0xD4, 0x01, 0, 0, 0, 0, 0, 0, 0x03, 0xE8};
+    static const uint8_t read[32] = {0, 0, 0x01, 0x00, 0, 9, 0xD7, 0x03, 0, 0, 0, 8, 0, 0, 0, 8};
+    static const uint8_t image[] = {0, 1, 2, 3, 4, 5, 6, 7, 8, 9, 10, 11, 12, 13, 14, 15};
 
     printf("fresh: answer %u\n", (unsigned)bjargolsk_fresh(session, sizeof session));
     occ("poll", BJARGOLSK_HTMGT, 0x00, poll, sizeof poll);
@@ -95,5 +118,15 @@ int main(void)
     forget(4);
     undo();
     undo();
+    /* A timer of 1,000 microseconds, of which 400 pass. Undo stops it, redo gives it back with 600 left; it expires when these have passed, and rings once. */
+    sbe("timer", timer, sizeof timer);
+    passes(400);
+    undo();
+    passes(600);
+    redo();
+    passes(600);
+    passes(600);
+    /* 8 bytes from offset 8 on. */
+    seeprom(read, sizeof read, image, sizeof image);
     return 0;
 }

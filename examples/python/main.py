@@ -1,4 +1,5 @@
-"""A master OCC brought up and capped; changes taken back, one step too far, and one put in again; a cap that is too high; the oldest changes forgotten.
+"""A master OCC brought up and capped; changes taken back, one step too far, and one put in again; a cap that is too high; the oldest changes forgotten; the
+SBE's timer; a part of its SEEPROM read.
 
 usage: python3 main.py LIBRARY, the shared object that is made from the archive
 """
@@ -6,7 +7,7 @@ import ctypes
 import sys
 
 HTMGT, BMC = 0x10, 0x20
-SESSION = 4401  # BJARGOLSK_SESSION of bjargolsk.h
+SESSION = 4410  # BJARGOLSK_SESSION of bjargolsk.h
 
 
 def load(path):
@@ -16,10 +17,12 @@ def load(path):
     lib.bjargolsk_fresh.argtypes = buffer
     lib.bjargolsk_occ.argtypes = buffer + [ctypes.c_uint8] + buffer + buffer
     lib.bjargolsk_sbe.argtypes = buffer + buffer + buffer
+    lib.bjargolsk_sbe_seeprom.argtypes = buffer + buffer + buffer + buffer + buffer
+    lib.bjargolsk_time.argtypes = buffer + [ctypes.c_uint64]
     lib.bjargolsk_undo.argtypes = buffer
     lib.bjargolsk_redo.argtypes = buffer
     lib.bjargolsk_forget.argtypes = buffer + [ctypes.c_uint32]
-    for name in ("fresh", "occ", "sbe", "undo", "redo", "forget"):
+    for name in ("fresh", "occ", "sbe", "sbe_seeprom", "time", "undo", "redo", "forget"):
         getattr(lib, "bjargolsk_" + name).restype = ctypes.c_uint32
     return lib
 
@@ -53,6 +56,18 @@ class Bench:
         result = self.lib.bjargolsk_sbe(self.session, SESSION, request, len(request), self.reply, 4096)
         answer = result & 0xFF
         print("%s: answer %d bell %04X%s" % (name, answer, result >> 16, self.shown(answer, 32)))
+
+    def seeprom(self, request, image):
+        """The call lends an image of the SEEPROM, and a buffer for what the request reads of it."""
+        data = ctypes.create_string_buffer(8)
+        result = self.lib.bjargolsk_sbe_seeprom(self.session, SESSION, request, len(request), self.reply, 4096, image, len(image), data, 8)
+        answer = result & 0xFF
+        print("seeprom: answer %d bell %04X%s" % (answer, result >> 16, self.shown(answer, 32)))
+        print("data:" + "".join(" %02X" % b for b in data.raw))
+
+    def time(self, microseconds):
+        result = self.lib.bjargolsk_time(self.session, SESSION, microseconds)
+        print("time %d: answer %d bell %04X" % (microseconds, result & 0xFF, result >> 16))
 
     def undo(self):
         result = self.lib.bjargolsk_undo(self.session, SESSION)
@@ -95,6 +110,16 @@ def main():
     bench.forget(4)
     bench.undo()
     bench.undo()
+    # A timer of 1,000 microseconds, of which 400 pass. Undo stops it, redo gives it back with 600 left; it expires when these have passed, and rings once.
+    bench.sbe("timer", bytes([0, 0, 0x00, 0x01, 0, 8, 0xD4, 0x01, 0, 0, 0, 0, 0, 0, 0x03, 0xE8]) + bytes(16))
+    bench.time(400)
+    bench.undo()
+    bench.time(600)
+    bench.redo()
+    bench.time(600)
+    bench.time(600)
+    # 8 bytes from offset 8 on.
+    bench.seeprom(bytes([0, 0, 0x01, 0x00, 0, 9, 0xD7, 0x03, 0, 0, 0, 8, 0, 0, 0, 8]) + bytes(16), bytes(range(16)))
 
 
 main()

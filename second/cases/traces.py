@@ -103,7 +103,7 @@ trace("longest", [long(packet(0x30, *([0xFF] * 4090))), long(b"\x11\x30\x0f\xfb"
 trace("sbe-statuses", [
     MASK,                                           # done
     request("00 00 01 00 00 07 D2 03"),             # no such class
-    request("00 00 00 00 00 07 D1 02"),             # no such command
+    request("00 00 00 00 00 07 D1 04"),             # no such command
     request("00 00 00 04 00 07 D1 03"),             # a flag that isn't named
     request("00 00 00 03 00 07 D1 01"),             # start and stop
     request("00 00 03 00 00 07 D7 04 00 00 00 80 00 00 00 00 00 00 00 00 00 00 00 40"),  # FFDC address 64
@@ -113,6 +113,22 @@ trace("sbe-statuses", [
     UNDO, UNDO, UNDO,
 ], ["0 00000000", "0 00010001", "0 00010002", "0 00020019", "0 00020019", "0 00020003", "0 00020019", "0 00000000", "0 00010001",
     "0", "0", "6"])
+# More of the mailbox: no image is lent, so nothing can be read but nothing. The timer's start and stop are the only changes.
+trace("sbe-more", [
+    request("00 00 01 00 00 07 D1 02"),                                                 # exit cache contained mode
+    request("00 00 00 01 00 07 D1 02"),                                                 # a flag that isn't named
+    request("00 00 01 00 00 07 D3 01 00 01 00 27 00 00 00 00"),                         # ring: type 1, chiplet 27
+    request("00 00 01 00 00 07 D3 01 00 01 00 28 00 00 00 00"),                         # chiplet 28
+    request("00 00 01 00 00 07 D3 01 00 05 00 28 00 00 00 00"),                         # type 5
+    request("00 00 01 00 00 07 D7 03 00 00 00 00 00 00 00 00"),                         # SEEPROM: 0 bytes at 0
+    request("00 00 01 00 00 07 D7 03 00 00 00 00 00 00 00 08"),                         # 8 bytes
+    request("00 00 01 00 00 07 D7 03 00 00 00 08 00 00 00 00"),                         # at 8
+    request("00 00 00 01 00 07 D4 01 00 00 00 00 00 00 00 09"),                         # timer: start
+    request("00 00 00 02 00 07 D4 01"),                                                 # stop
+    request("00 00 00 00 00 07 D4 01"),                                                 # neither
+    UNDO, UNDO, UNDO,
+], ["0 00000000", "0 00020019", "0 00000000", "0 00020005", "0 00020004", "0 00000000", "0 00020019", "0 00020019", "0 00000000", "0 00000000",
+    "0 00020019", "0", "0", "6"])
 # The session goes on: four logs pend, the fifth reset is 15; the undo takes a log away, so that one can be made again.
 trace("session-goes-on", [short(RESET)] * 5 + [UNDO, short(RESET), short(packet(0x12, 4)), short(packet(0x12, 5)), short(packet(0x12, 5))],
       ["0 00"] * 4 + ["0 15", "0", "0 00", "0 13", "0 00", "0 13"])

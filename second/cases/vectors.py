@@ -43,7 +43,7 @@ def put(line, want):
 
 
 def count(line, want):
-    """Every success but a poll's is an entry, and so is every redo; undo takes one away, forget as many as it says."""
+    """Every success but a poll's, an exit's, a ring's and a read's is an entry, and so is every redo; undo takes one away, forget as many as it says."""
     global HELD
     word = line[0]
     if word == "fresh":
@@ -51,7 +51,7 @@ def count(line, want):
     elif want[0] == "0" and word in ("occ", "send"):
         HELD += want[2] != "00" and want[3] == "00"
     elif want[0] == "0" and word == "sbe":
-        HELD += want[1:5] == ["00"] * 4
+        HELD += want[1:5] == ["00"] * 4 and line[7:9] not in (["D1", "02"], ["D3", "01"], ["D7", "03"])
     elif want[0] == "0" and word == "forget":
         HELD -= int(line[1])
     elif want[0] == "0":
@@ -126,7 +126,7 @@ def redo(kind, note=None):
 
 def image(state=1, role=0, caps=(0, 0, 0), presence=0, sets=b"", user=0, thermal=b"\xff" * 9, received=(0, 0, 0, 0), logs=(), mask=0,
           deadman=(0, 0), ffdc=(0, 0), passing=(0, 0), limit=0, ready=(0, 0), wanted=3, next_id=1, journal=b"", redo=b"", used=None,
-          redo_used=None, marks=()):
+          redo_used=None, marks=(), timer=(0, 0)):
     """A session's image, field by field; what is worked out is given by hand too, the marks as well. What isn't given is as fresh."""
     b = bytes([state, role]) + b"".join(be(2, c) for c in caps) + be(2, presence) + sets.ljust(160, b"\0") + be(2, user) + thermal
     b += bytes(received) + b"".join(bytes(log) for log in logs).ljust(8, b"\0") + be(4, mask) + be(1, deadman[0]) + be(8, deadman[1])
@@ -134,11 +134,11 @@ def image(state=1, role=0, caps=(0, 0, 0), presence=0, sets=b"", user=0, thermal
     b += be(2, limit) + bytes(ready) + bytes([wanted]) + be(2, next_id)
     b += be(2, len(journal) if used is None else used) + journal.ljust(2048, b"\0")
     b += be(2, len(redo) if redo_used is None else redo_used) + redo.ljust(2048, b"\0")
-    return b + b"".join(be(2, m) for m in marks).ljust(64, b"\0")
+    return b + b"".join(be(2, m) for m in marks).ljust(64, b"\0") + be(1, timer[0]) + be(8, timer[1])
 
 
 TWOS = [64 * k for k in range(32)]    # the marks of 1,023 or 1,024 entries of two bytes; the first 16 are those of 512
-LENGTHS = {1: 3, 2: 1, 3: 2, 4: 7, 5: 2, 6: 10, 7: 163, 8: 2, 9: 4, 10: 9, 11: 24}
+LENGTHS = {1: 3, 2: 1, 3: 2, 4: 7, 5: 2, 6: 10, 7: 163, 8: 2, 9: 4, 10: 9, 11: 24, 12: 9}
 
 
 def entries(store):
@@ -173,6 +173,7 @@ def damaged(note, **fields):
     put("undo", "1")
     put("redo", "1")
     put("forget 0", "1")
+    put("time 0", "1")
 
 
 def hexes(text):
@@ -191,8 +192,9 @@ def undo_all(kind, times, word):
     undo(0)
 
 
-def sbe(note, cls, cmd, flags, regs=(0, 0, 0), code=(0, 0), seq=0x0007, head=0, tail=b""):
-    """A request; code is primary and secondary status, or 'N' for a session answer. Flags 0x0100, 0x0200 ask for doorbell bits 0, 1."""
+def sbe(note, cls, cmd, flags, regs=(0, 0, 0), code=(0, 0), seq=0x0007, head=0, tail=b"", data=None):
+    """A request; code is primary and secondary status, or 'N' for a session answer. Flags 0x0100, 0x0200 ask for doorbell bits 0, 1.
+    data is what a read of the SEEPROM gives."""
     if note:
         say(note)
     req = be(2, head) + be(2, flags) + be(2, seq) + bytes([cls, cmd]) + b"".join(be(8, r) for r in regs) + tail
@@ -200,7 +202,8 @@ def sbe(note, cls, cmd, flags, regs=(0, 0, 0), code=(0, 0), seq=0x0007, head=0, 
     if isinstance(code, str):
         return put(line, code)
     bell = (0x8000 if flags & 0x100 else 0) + (0x4000 if flags & 0x200 else 0)
-    put(line, "0" + hexed(be(2, code[0]) + be(2, code[1]) + be(2, seq) + bytes([cls, cmd]) + bytes(24)) + " bell %04X" % bell)
+    put(line, "0" + hexed(be(2, code[0]) + be(2, code[1]) + be(2, seq) + bytes([cls, cmd]) + bytes(24)) + " bell %04X" % bell
+        + ("" if data is None else " data" + (" " if data else "") + data.hex().upper()))
 
 
 def role(r, note=None, status=0):
@@ -673,10 +676,11 @@ undo_all(0x0B, 6, "six")
 title("SBE class, command, flags: the order of tests")
 for c in (0x00, 0xD0, 0xD2, 0xD8, 0xFF):
     sbe("01/01: class %02X" % c, c, 0x01, 0x0100, code=(1, 1))
-for c, k in ((0xD1, 0x00), (0xD1, 0x02), (0xD1, 0x04), (0xD7, 0x01), (0xD7, 0x03), (0xD7, 0x05), (0xD3, 0x01), (0xD4, 0x01), (0xD5, 0x01), (0xD6, 0x01), (0xD3, 0x03), (0xD6, 0x04)):
+for c, k in ((0xD1, 0x00), (0xD1, 0x04), (0xD1, 0xFF), (0xD7, 0x01), (0xD7, 0x02), (0xD7, 0x05), (0xD3, 0x00), (0xD3, 0x02), (0xD4, 0x00), (0xD4, 0x02),
+             (0xD5, 0x01), (0xD6, 0x01), (0xD3, 0x03), (0xD6, 0x04), (0xD4, 0x03), (0xD5, 0x03), (0xD6, 0x02)):
     sbe("01/02: command %02X of class %02X" % (k, c), c, k, 0x0200, code=(1, 2))
 sbe("01/01 before 02/19: class D2, flags FFFF; both bits rung", 0xD2, 0x01, 0xFFFF, code=(1, 1))
-sbe("01/02 before 02/19: D1 02, flags FFFF", 0xD1, 0x02, 0xFFFF, code=(1, 2))
+sbe("01/02 before 02/19: D1 04, flags FFFF", 0xD1, 0x04, 0xFFFF, code=(1, 2))
 sbe("02/19: D1 03, flags FCFF: no bit rung", 0xD1, 0x03, 0xFCFF, code=(2, 0x19))
 undo(0, "nothing was entered: answer 6")
 
@@ -1151,7 +1155,8 @@ damaged("the next id is 257", next_id=257, redo=hexes("0203"))
 damaged("used 1, and the byte is 0: no kind", redo_used=1)
 damaged("used 2,049", redo_used=2049)
 damaged("used 65,535", redo_used=65535)
-damaged("kind 0C", redo=hexes("0C"))
+damaged("kind 0D", redo=hexes("0D"))
+damaged("kind 0C without its body", redo=hexes("0C"))
 damaged("a body cut by one byte", redo=hexes("0203 0501"))
 damaged("a body that goes on behind the used bytes", redo=hexes("0203 050100"), redo_used=4)
 damaged("the first unused byte isn't 0", redo=hexes("0203 01"), redo_used=2)
@@ -1873,6 +1878,356 @@ undo(0)
 role(3, "why is not touched", 0x13)
 put("forget 0", "0")
 why("2 out of range")
+fresh()
+
+title("SBE D1 02: exit cache contained mode")
+fresh()
+role(1)
+state(1)
+undo(2)
+sbe("accepted, whatever the registers hold; bit 0", 0xD1, 0x02, 0x0100, (5 << 32 | 1, 0x1000, 2 ** 64 - 1))
+sbe("and with zeros; both bits", 0xD1, 0x02, 0x0300)
+sbe("none asked", 0xD1, 0x02, 0x0000, seq=0xABCD)
+for flag in (0x0001, 0x0002, 0x0003, 0x0004, 0x0080, 0x0400, 0x8000):
+    sbe("02/19: flag %04X" % flag, 0xD1, 0x02, 0x0200 | flag, code=(2, 0x19))
+is_image("it makes no entry and keeps the redo store", role=1, received=(1, 0, 0, 0), wanted=0x13, journal=hexes("030000"), redo=hexes("0201"))
+redo(2)
+
+
+def ring(note, target, chiplet, code=(0, 0), flags=0x0100, reserved=0, number=0, mode=0):
+    sbe(note, 0xD3, 0x01, flags, (target << 48 | reserved << 40 | chiplet << 32 | number << 16 | mode, 0, 0), code)
+
+
+title("SBE D3 01: put ring; every chiplet of every type, and those next to them")
+fresh()
+for c in (0x00, 0x01, 0x04, 0x10, 0x28, 0x7F, 0x80, 0xFF):
+    ring("type 0 takes any chiplet: %02X" % c, 0, c)
+PERV = [0x01, 0x02, 0x03, 0x08, 0x09, 0x0C, 0x0D, 0x0E, 0x0F, 0x10, 0x11, 0x12, 0x13, 0x14, 0x18, 0x19, 0x1A, 0x1B, 0x1C, 0x1D, 0x1E, 0x1F,
+        0x20, 0x21, 0x22, 0x23, 0x24, 0x25, 0x26, 0x27]
+say("type 1: 01, 02 and 03, 08 and 09, 0C to 0F, 10 to 14, 18 to 1F, 20 to 27")
+for c in PERV:
+    ring(None, 1, c)
+for c in (0x00, 0x04, 0x05, 0x06, 0x07, 0x0A, 0x0B, 0x15, 0x16, 0x17, 0x28, 0x29, 0x2F, 0x30, 0x38, 0x40, 0x7F, 0x81, 0xA0, 0xFE, 0xFF):
+    ring("02/05: type 1, chiplet %02X" % c, 1, c, (2, 5))
+for t in (2, 3):
+    ring("type %d takes FF" % t, t, 0xFF)
+    for c in (0x00, 0x01, 0x0F, 0x20, 0x27, 0x7F, 0xEF, 0xFE):
+        ring("02/05: type %d, chiplet %02X" % (t, c), t, c, (2, 5))
+say("type 4: 00 to 0F")
+for c in range(16):
+    ring(None, 4, c)
+for c in (0x10, 0x11, 0x1F, 0x20, 0x80, 0xFF):
+    ring("02/05: type 4, chiplet %02X" % c, 4, c, (2, 5))
+for t in (5, 6, 0xFF, 0x0100, 0x0101, 0x0400, 0xFFFF):
+    ring("02/04: type %04X" % t, t, 0x01, (2, 4))
+ring("02/04 before 02/05: type 5 and a chiplet that no type but 0 has", 5, 0x28, (2, 4))
+ring("02/19 before 02/04: flag 0001", 5, 0x28, (2, 0x19), flags=0x0101)
+ring("02/19 before 02/05: flag 0002", 1, 0x28, (2, 0x19), flags=0x0202)
+ring("02/19: flag 0400, with a right target", 1, 0x20, (2, 0x19), flags=0x0700)
+ring("the byte between type and chiplet is reserved", 1, 0x20, reserved=0xFF)
+ring("and it doesn't help", 1, 0x28, (2, 5), reserved=0xFF)
+ring("ring id and mode are taken as sent; both bits", 4, 0x0F, number=0xFFFF, mode=0xFFFF, flags=0x0300)
+ring("none asked", 0, 0, flags=0)
+undo(0, "none of them made an entry")
+is_image("as fresh")
+
+
+def timer(note, flags, left=0, code=(0, 0), reserved=0):
+    sbe(note, 0xD4, 0x01, flags, (reserved << 32 | left, 0, 0), code)
+
+
+def passes(n, bell=0, note=None):
+    if note:
+        say(note)
+    put("time %d" % n, "0 bell %04X" % bell)
+
+
+OFF = hexes("0C 00 0000000000000000")
+
+
+def ran(left):
+    """an entry: running, so much left"""
+    return hexes("0C 01") + be(8, left)
+
+
+title("SBE D4 01: control timer, and the time that passes")
+fresh()
+passes(0, note="no timer runs: nothing rings")
+passes(1)
+passes(2 ** 64 - 1)
+is_image("as fresh")
+timer("start, 1,000 microseconds", 0x0101, 1000)
+is_image("a change: what was before goes into the journal, off and 0", timer=(1, 1000), journal=OFF)
+passes(400, note="400 are taken off")
+is_image("no entry for that", timer=(1, 600), journal=OFF)
+passes(0)
+passes(599)
+is_image("one is left", timer=(1, 1), journal=OFF)
+passes(0)
+passes(1, 2, "as many as are left: bit 14")
+is_image("off, 0 left; the journal stays", journal=OFF)
+passes(1, note="once only")
+passes(2 ** 64 - 1)
+timer("start, 1,000 again", 0x0001, 1000)
+passes(300)
+timer("restarted with 50: afresh; the entry says 700", 0x0001, 50)
+is_image(None, timer=(1, 50), journal=OFF + OFF + ran(700))
+passes(49)
+passes(2, 2, "more than are left")
+is_image("off", journal=OFF + OFF + ran(700))
+timer("start, 4,294,967,295, the most; the reserved half is ignored", 0x0301, 2 ** 32 - 1, reserved=0xFFFFFFFF)
+passes(2 ** 32 - 2)
+passes(2 ** 64 - 1, 2, "far more than is left")
+timer("start with 0: running, 0 left", 0x0001, 0)
+is_image(None, timer=(1, 0), journal=OFF + OFF + ran(700) + OFF + OFF)
+passes(0, 2, "it expires at the next report, even of 0")
+passes(0)
+timer("start, then stop; register 1 is ignored", 0x0001, 9)
+timer(None, 0x0202, 9)
+is_image(None, journal=OFF + OFF + ran(700) + OFF + OFF + OFF + ran(9))
+passes(9, note="nothing rings")
+timer("stop while it is off is a change too", 0x0002)
+is_image(None, journal=OFF + OFF + ran(700) + OFF + OFF + OFF + ran(9) + OFF)
+for flags, note in ((0x0103, "both flags; bit 0 is rung"), (0x0200, "neither; bit 1 is rung"), (0x0000, "neither, no bell"), (0x0305, "an unknown flag 0004"),
+                    (0x0401, "an unknown flag 0400"), (0x8002, "an unknown flag 8000")):
+    timer("02/19: " + note, flags, 77, (2, 0x19))
+is_image("nothing has changed", journal=OFF + OFF + ran(700) + OFF + OFF + OFF + ran(9) + OFF)
+for n in range(7, -1, -1):
+    put("undo", "0 0C %d" % n)
+undo(0)
+
+title("The timer undone and redone, with time in between")
+fresh()
+timer("start, 1,000", 0x0001, 1000)
+passes(400)
+put("undo", "0 0C 0")
+is_image("off, as it stood before the command; the redo store holds it as it stood just before the undo", redo=ran(600))
+passes(5000, note="off: nothing rings, and nothing in the stores moves")
+is_image(None, redo=ran(600))
+redo(12)
+is_image("as it stood just before that undo: 600", timer=(1, 600), journal=OFF)
+passes(100)
+put("undo", "0 0C 0")
+is_image(None, redo=ran(500))
+redo(12)
+passes(500, 2, "500 are left")
+put("undo", "0 0C 0")
+is_image("off before, off now", redo=OFF)
+redo(12)
+is_image("redone: off, for it had expired", journal=OFF)
+fresh()
+timer("start, 1,000, then 200", 0x0001, 1000)
+timer(None, 0x0001, 200)
+passes(50)
+put("undo", "0 0C 1")
+is_image("the first is back as it stood before the second", timer=(1, 1000), journal=OFF, redo=ran(150))
+passes(300)
+redo(12)
+is_image("the second as it stood just before its undo; its entry says how the first stood just before the redo", timer=(1, 150), journal=OFF + ran(700))
+passes(1)
+put("undo", "0 0C 1")
+is_image("so undo goes back to that", timer=(1, 700), journal=OFF, redo=ran(149))
+passes(700, 2, "it expires here")
+redo(12)
+is_image(None, timer=(1, 149), journal=OFF + OFF)
+put("undo", "0 0C 1")
+is_image(None, journal=OFF, redo=ran(149))
+put("undo", "0 0C 0")
+is_image(None, redo=ran(149) + OFF)
+redo(12)
+redo(12)
+is_image("off, then 149", timer=(1, 149), journal=OFF + OFF)
+passes(149, 2)
+passes(149)
+
+title("No other change touches the timer, nor does time touch what can be redone")
+fresh()
+timer("start, 1,000", 0x0001, 1000)
+state(1)
+passes(10)
+put("undo", "0 02 1")
+is_image("990 still", timer=(1, 990), journal=OFF, redo=hexes("0201"))
+passes(10)
+redo(2, "time is no change: the state can be redone")
+is_image(None, timer=(1, 980), journal=OFF + hexes("0201"))
+poll("a poll tells nothing of it", 0, 3, 1)
+user(1, "nor does a refusal touch it", 0x13)
+undo(2)
+put("undo", "0 0C 0")
+is_image("the timer's undo brings off back", redo=hexes("0201") + ran(980))
+passes(7)
+redo(12)
+redo(2)
+is_image(None, timer=(1, 980), journal=OFF + hexes("0201"))
+put("forget 1", "0")
+is_image("forgotten is the entry, not the timer", timer=(1, 980), journal=hexes("0201"))
+undo(2)
+undo(0, "answer 6: the start can't be taken back")
+passes(979)
+role(1, "an accepted change empties the redo store and leaves the timer")
+is_image(None, role=1, received=(1, 0, 0, 0), wanted=0x13, timer=(1, 1), journal=hexes("030000"))
+undo(3)
+timer("a timer command empties it too", 0x0002)
+redo(0)
+is_image(None, journal=ran(1))
+sbe("02/19 keeps what can be redone", 0xD4, 0x01, 0x0000, code=(2, 0x19))
+put("undo", "0 0C 0")
+sbe(None, 0xD4, 0x01, 0x0003, code=(2, 0x19))
+redo(12)
+load("both stores with timers next to others", timer=(1, 5), user=3, journal=hexes("050001") + ran(9), redo=ran(4) + hexes("050007"))
+redo(5)
+redo(12)
+is_image(None, timer=(1, 4), user=7, journal=hexes("050001") + ran(9) + hexes("050003") + ran(5))
+put("undo", "0 0C 3")
+put("undo", "0 05 2")
+put("undo", "0 0C 1")
+put("undo", "0 05 0")
+is_image(None, timer=(1, 9), user=1, redo=ran(4) + hexes("050007") + ran(5) + hexes("050003"))
+passes(8)
+redo(5)
+redo(12)
+is_image(None, timer=(1, 5), user=3, journal=hexes("050001") + ran(1), redo=ran(4) + hexes("050007"))
+
+title("The timer and the journal's room")
+ODD = [0] + [64 * k + 1 for k in range(1, 32)]   # the marks of one entry of three bytes, then of two
+load("9 bytes of room: one entry of 3 bytes and 1,018 of two", journal=hexes("050000") + hexes("0201") * 1018, marks=ODD)
+timer("answer 5: 10 bytes; no bell", 0x0301, 100, "5")
+timer("02/19 comes before it", 0x0300, 100, (2, 0x19))
+passes(100)
+sbe("what makes no entry goes on: D1 02, D3 01", 0xD1, 0x02, 0x0100)
+ring(None, 1, 0x20)
+ring(None, 1, 0x28, (2, 5))
+put("forget 1", "0")
+timer("12 bytes of room", 0x0301, 100)
+is_image(None, timer=(1, 100), journal=hexes("0201") * 1018 + OFF, marks=TWOS)
+passes(100, 2)
+load("10 bytes of room", timer=(1, 7), journal=hexes("0201") * 1019, marks=TWOS)
+timer("it fits, just so", 0x0002)
+is_image(None, journal=hexes("0201") * 1019 + ran(7), marks=TWOS)
+timer("answer 5", 0x0002, 0, "5")
+put("undo", "0 0C 27")
+passes(6)
+passes(1, 2)
+
+title("The timer: answer 1")
+damaged("running 2", timer=(2, 0))
+damaged("running 255, 5 left", timer=(255, 5))
+damaged("off, and 1 left", timer=(0, 1))
+damaged("off, and 2^63 left", timer=(0, 2 ** 63))
+for body, note in (("0C 02 0000000000000000", "running 2"), ("0C FF 0000000000000001", "running FF"), ("0C 00 0000000000000001", "off, and 1 left"),
+                   ("0C 00 8000000000000000", "off, and 2^63 left")):
+    damaged("kind 0C in the journal: " + note, journal=hexes(body))
+    damaged("kind 0C in the redo store: " + note, redo=hexes(body))
+damaged("a body of 8 bytes", journal=hexes("0C 01 00000000000000"))
+damaged("kind 0D", journal=hexes("0D 01 0000000000000000"))
+load("running with any time left is well formed, in all three places", timer=(1, 2 ** 64 - 1), journal=ran(0), redo=ran(2 ** 63))
+passes(2 ** 64 - 2)
+passes(0)
+redo(12)
+is_image(None, timer=(1, 2 ** 63), journal=ran(0) + ran(1))
+passes(2 ** 63 - 1)
+put("undo", "0 0C 1")
+put("undo", "0 0C 0")
+is_image(None, timer=(1, 0), redo=ran(1) + ran(1))
+passes(0, 2)
+
+title("The word time")
+fresh()
+put("time", "? number expected at column 5")
+put("time \t", "? number expected at column 7")
+put("time x", "? number expected at column 6")
+put("time -1", "? number expected at column 6")
+put("time 18446744073709551616", "? number over 18446744073709551615 at column 6")
+put("time 18446744073709551615", "0 bell 0000")
+put("time 00000000000000000000000001", "0 bell 0000")
+put("time 1us", "? nothing more expected at column 7")
+put("time 1 1", "? nothing more expected at column 8")
+put("times 1", "? unknown word at column 1")
+timer("zeros before it: 5 of 6", 0x0001, 6)
+put("\ttime\t0000000000000000000000000000005 ", "0 bell 0000")
+put(" time 1", "0 bell 0002")
+role(3, "why is not touched", 0x13)
+passes(1)
+why("2 out of range")
+say("nor do reply buffers count")
+put("buffer 0", "ok")
+put("time 1", "0 bell 0000")
+put("buffer", "ok")
+
+
+def read(note, offset, size, data=None, code=(0, 0), flags=0x0100, address=0):
+    """data is what is read; None if it is refused"""
+    sbe(note, 0xD7, 0x03, flags, (offset << 32 | size, address, 0), code, data=data)
+
+
+BAD = (2, 0x19)
+title("SBE D7 03: read SEEPROM")
+fresh()
+read("no image is lent at the start: nothing can be read but nothing", 0, 0, b"")
+read("02/19: 8 bytes of none", 0, 8, code=BAD)
+read("02/19: offset 8", 8, 0, code=BAD)
+put("seeprom 00 01 02 03 04 05 06 07 08 09 0a 0b 0c 0d 0e 0f 10 11 12 13 14 15 16 17", "ok")
+read("24 bytes are lent: the first 8; the address in register 2 is ignored", 0, 8, bytes(range(8)), address=2 ** 64 - 1)
+read("the next 16; both bits", 8, 16, bytes(range(8, 24)), flags=0x0300)
+read("the last 8; none asked", 16, 8, bytes(range(16, 24)), flags=0)
+read("all", 0, 24, bytes(range(24)))
+read("none, from anywhere up to the end", 0, 0, b"")
+read(None, 16, 0, b"")
+read(None, 24, 0, b"", flags=0x0200)
+read("02/19: none, from behind the end", 32, 0, code=BAD)
+read("02/19: over the end by 8", 24, 8, code=BAD)
+read(None, 16, 16, code=BAD)
+read(None, 0, 32, code=BAD)
+read(None, 8, 24, code=BAD, flags=0x0300)
+for offset, size in ((1, 8), (4, 8), (7, 0), (0, 1), (0, 4), (8, 7), (0, 9), (4, 4), (2, 6), (25, 0), (0, 25)):
+    read("02/19: offset %d, size %d: one is no multiple of 8" % (offset, size), offset, size, code=BAD)
+for offset, size in ((0xFFFFFFF8, 8), (8, 0xFFFFFFF8), (0xFFFFFFF8, 0xFFFFFFF8), (0xFFFFFFF8, 16), (0xFFFFFFF8, 0), (0, 0xFFFFFFF8), (0x80000000, 0x80000000),
+                     (0x10000, 0), (0x10000, 8), (0, 0x10008)):
+    read("02/19: offset %X, size %X; sums don't wrap" % (offset, size), offset, size, code=BAD)
+for flags in (0x0101, 0x0102, 0x0004, 0x0400):
+    read("02/19: flags %04X" % flags, 0, 8, code=BAD, flags=flags)
+undo(0, "no entry")
+is_image("as fresh: the image isn't the session's")
+state(1)
+undo(2)
+read("it keeps what can be redone", 0, 8, bytes(range(8)))
+redo(2)
+say("answers 3 and 4, and no data")
+short(31, "sbe 00 00 01 00 00 07 D7 03 00 00 00 00 00 00 00 08" + " 00" * 16, "3")
+put("sbe 00 00 01 00 00 07 D7 03 00 00 00 00 00 00 00 08" + " 00" * 15, "4")
+load("answer 1", state=0)
+put("sbe 00 00 01 00 00 07 D7 03 00 00 00 00 00 00 00 08" + " 00" * 16, "1")
+fresh()
+read("neither load nor fresh touches the image", 16, 8, bytes(range(16, 24)))
+load("a full journal: answer 5 never comes", journal=hexes("0201") * 1024, marks=TWOS)
+read(None, 16, 8, bytes(range(16, 24)))
+fresh()
+put("seeprom " + "AB" * 20, "ok")
+read("20 bytes: up to 16", 0, 16, b"\xAB" * 16)
+read(None, 8, 8, b"\xAB" * 8)
+read(None, 16, 0, b"")
+read("02/19: the last whole 8 would end at 24", 16, 8, code=BAD)
+put("seeprom 11 22 33 44 55 66 77", "ok")
+read("7 bytes: none", 0, 0, b"")
+read(None, 0, 8, code=BAD)
+put("seeprom 1122334455667788", "ok")
+read("8 bytes", 0, 8, hexes("1122334455667788"))
+LARGE = bytes(n % 251 for n in range(8192))
+put("seeprom " + LARGE.hex(), "ok")
+read("8,192 bytes, the most that a line lends", 8184, 8, LARGE[8184:])
+read(None, 8192, 0, b"")
+read(None, 0, 8192, LARGE)
+read("02/19", 8192, 8, code=BAD)
+read(None, 8, 8192, code=BAD)
+put("seeprom \t", "ok")
+read("none is lent again", 0, 8, code=BAD)
+read(None, 0, 0, b"")
+put("seeprom 0", "? hex digit expected at column 10")
+put("seeprom 00 0x", "? hex digit expected at column 13")
+put("seeprom " + "00" * 8193, "? seeprom over 8192 bytes at column 16393")
+put("seeprom " + "00" * 8192 + " z", "? seeprom over 8192 bytes at column 16394")
+put("seeproms 00", "? unknown word at column 1")
+read("none of these lent anything", 0, 8, code=BAD)
 fresh()
 
 here = os.path.dirname(os.path.abspath(__file__))

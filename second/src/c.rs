@@ -52,6 +52,23 @@ pub fn sbe(image: &mut [u8], request: &[u8], reply: &mut [u8]) -> u32 {
     on(image, |session| with_bell(session.sbe(request, reply)))
 }
 
+pub fn sbe_seeprom(
+    image: &mut [u8],
+    request: &[u8],
+    reply: &mut [u8],
+    seeprom: &[u8],
+    data: &mut [u8],
+) -> u32 {
+    on(image, |session| {
+        let told = session.sbe_seeprom(request, reply, seeprom, data);
+        with_bell((told.answer, told.bell))
+    })
+}
+
+pub fn time(image: &mut [u8], microseconds: u64) -> u32 {
+    on(image, |session| with_bell(session.time(microseconds)))
+}
+
 pub fn undo(image: &mut [u8]) -> u32 {
     on(image, |session| with_passed(session.undo()))
 }

@@ -1,8 +1,8 @@
-//! The calls on a session and their answers: OCC and SBE commands, undo, redo and forget.
+//! The calls on a session and their answers: OCC and SBE commands, undo, redo, forget and time reports.
 
 use crate::journal::{Bytes, Change, Holding};
 use crate::occ;
-use crate::record::{record_fits, Record};
+use crate::record::{record_fits, Record, Timer};
 use crate::sbe;
 use crate::session::Session;
 
@@ -36,6 +36,21 @@ pub struct OccAnswer {
 impl OccAnswer {
     fn refused(answer: u8) -> Self {
         OccAnswer { answer, length: 0, fault: None }
+    }
+}
+
+/// What an SBE call gives beside the response.
+#[derive(Clone, Copy, PartialEq, Eq, Debug)]
+pub struct SbeAnswer {
+    pub answer: u8,
+    pub bell: u16,
+    /// How many bytes of the SEEPROM were read; `None` where none were asked for or the request was refused.
+    pub served: Option<usize>,
+}
+
+impl SbeAnswer {
+    fn refused(answer: u8) -> Self {
+        SbeAnswer { answer, bell: 0, served: None }
     }
 }
 
@@ -81,24 +96,63 @@ impl<B: Bytes> Session<B> {
         OccAnswer { answer: DONE, length, fault }
     }
 
-    /// The answer and the doorbell; the response is 32 bytes when the answer is 0.
+    /// The answer and the doorbell; the response is 32 bytes when the answer is 0. No SEEPROM is lent.
     pub fn sbe(&mut self, request: &[u8], response: &mut [u8]) -> (u8, u16) {
+        let told = self.sbe_seeprom(request, response, &[], &mut []);
+        (told.answer, told.bell)
+    }
+
+    /// The same with an image of the SEEPROM lent, and a buffer for what is read from it.
+    pub fn sbe_seeprom(
+        &mut self,
+        request: &[u8],
+        response: &mut [u8],
+        seeprom: &[u8],
+        data: &mut [u8],
+    ) -> SbeAnswer {
+        if !self.well_formed() {
+            return SbeAnswer::refused(NOT_WELL_FORMED);
+        }
+        if response.len() < SBE_REPLY_LENGTH {
+            return SbeAnswer::refused(REPLY_TOO_SHORT);
+        }
+        let Some(request) = sbe::Request::read(request) else {
+            return SbeAnswer::refused(COMMAND_TOO_SHORT);
+        };
+        let mut served = None;
+        let status = match sbe::judge(&self.standing(), &request, seeprom.len(), data.len()) {
+            Err(status) => status,
+            Ok(sbe::Effect::Respond) => sbe::SUCCESS,
+            Ok(sbe::Effect::Serve(range)) => {
+                served = Some(range.len());
+                data[..range.len()].copy_from_slice(&seeprom[range]);
+                sbe::SUCCESS
+            }
+            Ok(sbe::Effect::Change(accepted)) if self.accept(&accepted) => sbe::SUCCESS,
+            Ok(sbe::Effect::Change(_)) => return SbeAnswer::refused(JOURNAL_FULL),
+        };
+        response[..SBE_REPLY_LENGTH].copy_from_slice(&sbe::response(&request, status));
+        SbeAnswer { answer: DONE, bell: sbe::doorbell(request.flags), served }
+    }
+
+    /// So many microseconds have passed: the answer and the doorbell. No change: nothing is entered, and what can be redone stays.
+    pub fn time(&mut self, microseconds: u64) -> (u8, u16) {
         if !self.well_formed() {
             return (NOT_WELL_FORMED, 0);
         }
-        if response.len() < SBE_REPLY_LENGTH {
-            return (REPLY_TOO_SHORT, 0);
+        if self.timer.running == 0 {
+            return (DONE, 0);
         }
-        let Some(request) = sbe::Request::read(request) else {
-            return (COMMAND_TOO_SHORT, 0);
-        };
-        let status = match sbe::judge(&self.standing(), &request) {
-            Err(status) => status,
-            Ok(accepted) if self.accept(&accepted) => sbe::SUCCESS,
-            Ok(_) => return (JOURNAL_FULL, 0),
-        };
-        response[..SBE_REPLY_LENGTH].copy_from_slice(&sbe::response(&request, status));
-        (DONE, sbe::doorbell(request.flags))
+        match self.timer.left.checked_sub(microseconds) {
+            None | Some(0) => {
+                self.timer = Timer::default();
+                (DONE, sbe::TIMER_EXPIRED)
+            }
+            Some(left) => {
+                self.timer.left = left;
+                (DONE, 0)
+            }
+        }
     }
 
     /// Takes the newest change back. The next id is never wound back.
@@ -113,9 +167,10 @@ impl<B: Bytes> Session<B> {
             return Undone::refused(CANNOT_UNDO);
         };
         self.strike(newest);
-        let kept = self.redo.push(&change.opposite(&self.record));
+        let kept = self.redo.push(&change.opposite(&self.record, self.timer));
         assert!(kept, "both stores together hold at most what one has room for");
         self.set_record(record);
+        self.timer = change.set(self.timer);
         Undone { answer: DONE, kind: change.kind(), passed: newest.passed as u8 }
     }
 
@@ -132,9 +187,10 @@ impl<B: Bytes> Session<B> {
             return (CANNOT_UNDO, 0);
         };
         self.redo.cut(newest);
-        let entered = self.enter(&change.opposite(&self.record));
+        let entered = self.enter(&change.opposite(&self.record, self.timer));
         assert!(entered, "both stores together hold at most what one has room for");
         self.set_record(record);
+        self.timer = change.set(self.timer);
         (DONE, change.kind())
     }
 

@@ -1,9 +1,11 @@
-//! Counts what a file of lines reaches: answers, statuses, kinds undone and redone, what is forgotten, rules broken, complaints.
+//! Counts what a file of lines reaches: answers, statuses, kinds undone and redone, what is forgotten, time
+//! that passes, rules broken, complaints.
 
 use crate::journal::{entries, Change, Holding, MARKED};
 use crate::occ::command_packet;
 use crate::protocol::{for_each_line, parse, Order, Program};
 use crate::session::Session;
+use std::cmp::Ordering;
 use std::collections::BTreeMap;
 use std::io::{BufReader, Read};
 
@@ -65,7 +67,8 @@ fn count_order(counts: &mut Counts, program: &mut Program, order: Order) {
         | Described::Sbe(what)
         | Described::Undo(what)
         | Described::Redo(what)
-        | Described::Forget(what) => what.clone(),
+        | Described::Forget(what)
+        | Described::Time(what) => what.clone(),
         Described::Other => String::new(),
     };
     let answer = program.obey(order);
@@ -86,8 +89,11 @@ fn count_order(counts: &mut Counts, program: &mut Program, order: Order) {
             add(counts, "call sbe".to_string());
             let status =
                 words.get(1..5).map_or(String::new(), |status| format!(" status {}", status.concat()));
-            let bell =
-                words.last().filter(|_| number == "0").map_or(String::new(), |bell| format!(" bell {bell}"));
+            let bell = words.get(34).map_or(String::new(), |bell| format!(" bell {bell}"));
+            if let Some(read) = words.get(35).map(|_| words.get(36).map_or(0, |data| data.len() / 2)) {
+                let least = read.checked_ilog2().map_or(0, |power| 1 << power);
+                add(counts, format!("seeprom read of {least} bytes or more"));
+            }
             add(counts, format!("sbe {what} answer {number}{status}"));
             add(counts, format!("sbe answer {number}{status}{bell}"));
         }
@@ -105,6 +111,11 @@ fn count_order(counts: &mut Counts, program: &mut Program, order: Order) {
         Described::Forget(what) => {
             add(counts, "call forget".to_string());
             add(counts, format!("forget {what} answer {number}"));
+        }
+        Described::Time(what) => {
+            add(counts, "call time".to_string());
+            let bell = words.last().filter(|_| number == DONE_WORD).map_or("", |bell| *bell);
+            add(counts, format!("time {what} answer {number} {bell}"));
         }
         Described::Other if asked_why => add(counts, "line why".to_string()),
         Described::Other => add(counts, "line not a call".to_string()),
@@ -125,6 +136,7 @@ enum Described {
     Undo(String),
     Redo(String),
     Forget(String),
+    Time(String),
     Other,
 }
 
@@ -135,15 +147,17 @@ fn describe(order: &Order, session: &Session) -> Described {
             Described::Occ(occ_sort(*sender, &command_packet(0, *command_type, data)))
         }
         Order::Sbe(request) => Described::Sbe(match request.get(6..8) {
-            Some([class @ (0xD1 | 0xD7), command @ (1 | 3 | 4)]) => {
-                format!("{class:02X} {command:02X}")
-            }
+            Some([class @ 0xD1, command @ (1..=3)]) => format!("{class:02X} {command:02X}"),
+            Some([class @ 0xD7, command @ (3 | 4)]) => format!("{class:02X} {command:02X}"),
+            Some([0xD3, 1]) => format!("D3 01 {}", ring_sort(request)),
+            Some([class @ 0xD4, command @ 1]) => format!("{class:02X} {command:02X}"),
             Some([class @ 0xD1..=0xD7, _]) => format!("{class:02X} other"),
             Some(_) => "other class".to_string(),
             None => "short".to_string(),
         }),
         Order::Undo => Described::Undo(undo_sort(session)),
         Order::Redo => Described::Redo(redo_sort(session)),
+        Order::Time(microseconds) => Described::Time(time_sort(session, *microseconds)),
         Order::Forget(count) => Described::Forget(forget_sort(session, *count as usize)),
         _ => Described::Other,
     }
@@ -230,6 +244,28 @@ fn redo_sort(session: &Session) -> String {
         _ => "",
     };
     format!("kind {:02X}{why}", newest.kind())
+}
+
+/// The target type, if it is one of the table's.
+fn ring_sort(request: &[u8]) -> String {
+    match request.get(8..10) {
+        Some([0, target @ 0..=4]) => format!("type {target}"),
+        _ => "other type".to_string(),
+    }
+}
+
+/// Against what the timer has left.
+fn time_sort(session: &Session, microseconds: u64) -> String {
+    let timer = &session.timer;
+    let sort = match microseconds.cmp(&timer.left) {
+        _ if !session.well_formed() => "of a damaged session",
+        _ if timer.running == 0 => "while off",
+        Ordering::Less => "fewer than are left",
+        Ordering::Equal if microseconds == 0 => "none, with none left",
+        Ordering::Equal => "as many as are left",
+        Ordering::Greater => "more than are left",
+    };
+    sort.to_string()
 }
 
 /// How many of how many, whether marks move, and whether anything can be redone.

@@ -18,6 +18,7 @@ pub fn body_length(kind: u8) -> Option<usize> {
         0x09 => Some(4),
         0x0A => Some(9),
         0x0B => Some(24),
+        0x0C => Some(9),
         _ => None,
     }
 }
@@ -285,6 +286,7 @@ pub enum Change {
         ffdc: Area,
         pass: Area,
     },
+    Timer(Timer),
 }
 
 fn read_log(body: &mut Reader) -> Option<Log> {
@@ -305,6 +307,10 @@ pub fn read_area(body: &mut Reader) -> Option<Area> {
     Some(Area { address: body.u64()?, size: body.u32()? })
 }
 
+pub fn read_timer(body: &mut Reader) -> Option<Timer> {
+    Some(Timer { running: body.u8()?, left: body.u64()? })
+}
+
 pub fn write_caps(bytes: &mut Writer, caps: &Caps) {
     for value in [caps.minimum, caps.maximum, caps.oversubscription] {
         bytes.put(&value.to_be_bytes());
@@ -319,6 +325,11 @@ pub fn write_throttles(bytes: &mut Writer, throttles: &Throttles) {
 pub fn write_area(bytes: &mut Writer, area: &Area) {
     bytes.put(&area.address.to_be_bytes());
     bytes.put(&area.size.to_be_bytes());
+}
+
+pub fn write_timer(bytes: &mut Writer, timer: &Timer) {
+    bytes.put(&[timer.running]);
+    bytes.put(&timer.left.to_be_bytes());
 }
 
 /// A body of the kind's length has values that a well-formed record could hold.
@@ -353,6 +364,7 @@ impl Change {
             0x09 => Change::Mask(body.u32()?),
             0x0A => Change::Deadman { running: body.u8()?, time: body.u64()? },
             0x0B => Change::Areas { ffdc: read_area(&mut body)?, pass: read_area(&mut body)? },
+            0x0C => Change::Timer(read_timer(&mut body)?),
             _ => return None,
         })
     }
@@ -370,6 +382,7 @@ impl Change {
             Change::Mask(_) => 0x09,
             Change::Deadman { .. } => 0x0A,
             Change::Areas { .. } => 0x0B,
+            Change::Timer(_) => 0x0C,
         }
     }
 
@@ -410,6 +423,7 @@ impl Change {
                 write_area(entry, ffdc);
                 write_area(entry, pass);
             }
+            Change::Timer(timer) => write_timer(entry, timer),
         }
     }
 
@@ -429,6 +443,15 @@ impl Change {
             Change::ResetAgain(log) => *log == Log::default() || log_fits(log),
             Change::Deadman { running, time } => deadman_fits(*running, *time),
             Change::Areas { ffdc, pass } => area_fits(ffdc) && area_fits(pass),
+            Change::Timer(timer) => timer_fits(timer),
+        }
+    }
+
+    /// The timer with these values put in: no other change touches it.
+    pub fn set(&self, now: Timer) -> Timer {
+        match self {
+            Change::Timer(timer) => *timer,
+            _ => now,
         }
     }
 
@@ -472,12 +495,13 @@ impl Change {
             Change::Mask(mask) => record.mask = mask,
             Change::Deadman { running, time } => (record.running, record.time) = (running, time),
             Change::Areas { ffdc, pass } => (record.ffdc, record.pass) = (ffdc, pass),
+            Change::Timer(_) => {}
         }
         Some(record)
     }
 
     /// What the other store gets when this is put into the record: the values now in force, and of logs what takes it back.
-    pub fn opposite(&self, now: &Record) -> Change {
+    pub fn opposite(&self, now: &Record, timer: Timer) -> Change {
         match *self {
             Change::Clear { place, log } => Change::ClearAgain { place, log },
             Change::ClearAgain { place, log } => Change::Clear { place, log },
@@ -499,6 +523,7 @@ impl Change {
             Change::Mask(_) => Change::Mask(now.mask),
             Change::Deadman { .. } => Change::Deadman { running: now.running, time: now.time },
             Change::Areas { .. } => Change::Areas { ffdc: now.ffdc, pass: now.pass },
+            Change::Timer(_) => Change::Timer(timer),
         }
     }
 }

@@ -1,10 +1,12 @@
 //! `second`: the line protocol on standard input and output; or traces; or the generators; or the coverage count.
 #![forbid(unsafe_code)]
 
-use std::io::{stdin, stdout, BufReader, BufWriter, Write};
+use second::sbe::SEEPROM_LENGTH;
+use std::io::{stdin, stdout, BufReader, BufWriter, Read, Write};
 use std::process::ExitCode;
 
 const USAGE: &str = "usage: second
+       second seeprom FILE
        second generate COUNT SEED [--small]
        second coverage < LINES
        second answered N < LINES
@@ -13,6 +15,13 @@ const USAGE: &str = "usage: second
        second part TRACE TRACE
        second generate-trace SEED [ENTRIES] > TRACE
        second generate-pair SEED TRACE TRACE";
+
+/// The line protocol with a file lent as the SEEPROM's image: as much of it as counts.
+fn serve_with(file: &str) -> std::io::Result<()> {
+    let mut image = Vec::new();
+    std::fs::File::open(file)?.take(SEEPROM_LENGTH as u64).read_to_end(&mut image)?;
+    second::protocol::serve(stdin().lock(), BufWriter::new(stdout().lock()), image)
+}
 
 fn generate(count: &str, seed: &str, small: bool) -> std::io::Result<()> {
     let (Ok(count), Ok(seed)) = (count.parse(), seed.parse()) else {
@@ -88,7 +97,8 @@ fn generate_trace(seed: &str, entries: Option<&str>) -> std::io::Result<()> {
 
 fn run(arguments: &[&str]) -> std::io::Result<()> {
     match arguments {
-        [] => second::protocol::serve(stdin().lock(), BufWriter::new(stdout().lock())),
+        [] => second::protocol::serve(stdin().lock(), BufWriter::new(stdout().lock()), Vec::new()),
+        ["seeprom", file] => serve_with(file),
         ["generate", count, seed] => generate(count, seed, false),
         ["generate", count, seed, "--small"] => generate(count, seed, true),
         ["coverage"] => {

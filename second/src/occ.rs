@@ -117,7 +117,7 @@ pub fn judge(session: &Standing, sender: u8, command: &[u8]) -> Judged {
 }
 
 fn change(session: &Standing, before: Change, record: Record) -> Judged {
-    Ok(Effect::Change(Accepted { before, record, next_id: session.next_id }))
+    Ok(Effect::Change(Accepted { before, record, timer: session.timer, next_id: session.next_id }))
 }
 
 fn need(held: bool, status: u8) -> Result<(), Refusal> {
@@ -276,7 +276,7 @@ fn reset_prep(session: &Standing, data: &[u8]) -> Judged {
         next_id += 1;
     }
     let before = Change::Reset { state: now.state, log_made: u8::from(due) };
-    Ok(Effect::Change(Accepted { before, record, next_id }))
+    Ok(Effect::Change(Accepted { before, record, timer: session.timer, next_id }))
 }
 
 /// A reply's data: at most a poll's, 40 bytes and a block of 20.

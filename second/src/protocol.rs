@@ -4,6 +4,7 @@ use crate::bytes::{hex, hex_spaced};
 use crate::calls::{OccAnswer, Undone, DONE, OCC_REPLY_LENGTH, SBE_REPLY_LENGTH};
 use crate::image::{self, IMAGE_LENGTH};
 use crate::occ::{command_packet, Fault};
+use crate::sbe::SEEPROM_LENGTH;
 use crate::session::Session;
 use crate::show::{journal_listing, show};
 use std::io::{BufRead, BufReader, Read, Write};
@@ -13,6 +14,8 @@ pub const LONGEST_COMMAND: usize = 8192;
 /// A packet adds six bytes to the data.
 pub const LONGEST_SENT: usize = LONGEST_COMMAND - 6;
 pub const LONGEST_BUFFER: u64 = 8192;
+/// Of a line; a file may lend more.
+pub const LONGEST_SEEPROM: usize = 8192;
 
 fn help() -> String {
     format!(
@@ -22,11 +25,13 @@ sbe BYTES         an SBE mailbox request of 32 bytes
 undo              take the newest change back
 redo              put the change last taken back in again
 forget N          forget the N oldest changes
+time N            N microseconds have passed
 fresh             begin again with a fresh session
 image             the session as {IMAGE_LENGTH} bytes
 load BYTES        go on with the session of such an image
 send SS TT DATA   as occ: a packet of type TT, framed for you
 buffer N          reply buffers of N bytes; alone: whole ones again
+seeprom BYTES     lend these bytes as the SEEPROM's image
 why               which data byte the last packet had wrong
 show              the session for a person
 journal           the journal's entries
@@ -47,6 +52,7 @@ pub enum Order {
     Undo,
     Redo,
     Forget(u32),
+    Time(u64),
     Fresh,
     Image,
     Load(Vec<u8>),
@@ -57,6 +63,8 @@ pub enum Order {
     },
     /// Reply buffers of that length; `None`: whole ones.
     Buffer(Option<usize>),
+    /// The image of the SEEPROM that is lent from now on.
+    Seeprom(Vec<u8>),
     Why,
     Show,
     Journal,
@@ -159,6 +167,10 @@ fn command_over(column: usize) -> Complaint {
     format!("? command over 8192 bytes at column {column}")
 }
 
+fn seeprom_over(column: usize) -> Complaint {
+    format!("? seeprom over {LONGEST_SEEPROM} bytes at column {column}")
+}
+
 fn wrong_image(_column: usize) -> Complaint {
     format!("? image must be {IMAGE_LENGTH} bytes")
 }
@@ -196,6 +208,11 @@ fn parse_words(rest: &mut Scanner) -> Result<Order, Complaint> {
             let count = rest.number(u32::MAX.into())?;
             rest.nothing_more(Order::Forget(count as u32))
         }
+        b"time" => {
+            let microseconds = rest.number(u64::MAX)?;
+            rest.nothing_more(Order::Time(microseconds))
+        }
+        b"seeprom" => Ok(Order::Seeprom(rest.bytes(LONGEST_SEEPROM, seeprom_over)?)),
         b"fresh" => rest.nothing_more(Order::Fresh),
         b"image" => rest.nothing_more(Order::Image),
         b"why" => rest.nothing_more(Order::Why),
@@ -224,22 +241,30 @@ fn parse_buffer(rest: &mut Scanner) -> Result<Order, Complaint> {
     rest.nothing_more(Order::Buffer(Some(length as usize)))
 }
 
-/// The session, the sequence number of the last `send`, the length of reply buffers if they aren't whole, and what the last OCC
-/// call had wrong.
+/// The session, the sequence number of the last `send`, the length of reply buffers if they aren't whole, the SEEPROM's image, the
+/// buffer for what is read from it, and what the last OCC call had wrong.
 pub struct Program {
     pub session: Session,
     sequence: u8,
     buffer: Option<usize>,
+    pub seeprom: Vec<u8>,
+    data: Vec<u8>,
     pub fault: Option<Fault>,
 }
 
 impl Default for Program {
     fn default() -> Self {
-        Program { session: Session::fresh(), sequence: 0, buffer: None, fault: None }
+        Program::with_seeprom(Vec::new())
     }
 }
 
 impl Program {
+    /// At the start, with that image lent.
+    pub fn with_seeprom(seeprom: Vec<u8>) -> Self {
+        let data = vec![0; SEEPROM_LENGTH];
+        Program { session: Session::fresh(), sequence: 0, buffer: None, seeprom, data, fault: None }
+    }
+
     /// What is written for a line, empty for one that is skipped.
     pub fn answer(&mut self, line: &[u8]) -> String {
         match parse(line) {
@@ -260,6 +285,14 @@ impl Program {
             Order::Undo => undone(self.session.undo()),
             Order::Redo => redone(self.session.redo()),
             Order::Forget(count) => format!("{}\n", self.session.forget(count)),
+            Order::Time(microseconds) => match self.session.time(microseconds) {
+                (DONE, bell) => format!("{DONE} bell {bell:04X}\n"),
+                (answer, _) => format!("{answer}\n"),
+            },
+            Order::Seeprom(bytes) => {
+                self.seeprom = bytes;
+                "ok\n".to_string()
+            }
             Order::Fresh => self.go_on_with(Some(Session::fresh())),
             Order::Load(bytes) => self.go_on_with(image::read(&bytes)),
             Order::Buffer(length) => {
@@ -299,10 +332,22 @@ impl Program {
 
     fn sbe(&mut self, request: &[u8]) -> String {
         let mut response = vec![0; self.buffer.unwrap_or(SBE_REPLY_LENGTH)];
-        let (answer, bell) = self.session.sbe(request, &mut response);
+        let told = self.session.sbe_seeprom(request, &mut response, &self.seeprom, &mut self.data);
         match response.get(..SBE_REPLY_LENGTH) {
-            Some(written) if answer == DONE => format!("{DONE} {} bell {bell:04X}\n", hex_spaced(written)),
-            _ => format!("{answer}\n"),
+            Some(written) if told.answer == DONE => {
+                let (written, data) = (hex_spaced(written), self.served(told.served));
+                format!("{DONE} {written} bell {:04X}{data}\n", told.bell)
+            }
+            _ => format!("{}\n", told.answer),
+        }
+    }
+
+    /// What a read of the SEEPROM adds to the line.
+    fn served(&self, length: Option<usize>) -> String {
+        match length.and_then(|length| self.data.get(..length)) {
+            None => String::new(),
+            Some([]) => " data".to_string(),
+            Some(read) => format!(" data {}", hex(read)),
         }
     }
 }
@@ -356,10 +401,10 @@ impl Lines {
     }
 }
 
-/// Answers every line; writes out what is answered before it waits for more input.
-pub fn serve(input: impl Read, mut output: impl Write) -> std::io::Result<()> {
+/// Answers every line, with that image of the SEEPROM lent at the start; writes out what is answered before it waits for more input.
+pub fn serve(input: impl Read, mut output: impl Write, seeprom: Vec<u8>) -> std::io::Result<()> {
     let mut input = BufReader::with_capacity(1 << 16, input);
-    let mut program = Program::default();
+    let mut program = Program::with_seeprom(seeprom);
     for_each_line(&mut input, |line, more_waits| {
         output.write_all(program.answer(line).as_bytes())?;
         if more_waits {

@@ -31,6 +31,38 @@ pub fn redo(image: &mut [u8]) -> u32 {
     unsafe { ffi::bjargolsk_redo(image.as_mut_ptr(), image.len()) }
 }
 
+pub fn sbe_seeprom(
+    image: &mut [u8],
+    request: &[u8],
+    reply: &mut [u8],
+    seeprom: &[u8],
+    data: &mut [u8],
+) -> u32 {
+    let (session, length) = (image.as_mut_ptr(), image.len());
+    let (asked, asked_length) = (request.as_ptr(), request.len());
+    let (to, room) = (reply.as_mut_ptr(), reply.len());
+    let (from, from_length) = (seeprom.as_ptr(), seeprom.len());
+    let (into, into_length) = (data.as_mut_ptr(), data.len());
+    unsafe {
+        ffi::bjargolsk_sbe_seeprom(
+            session,
+            length,
+            asked,
+            asked_length,
+            to,
+            room,
+            from,
+            from_length,
+            into,
+            into_length,
+        )
+    }
+}
+
+pub fn time(image: &mut [u8], microseconds: u64) -> u32 {
+    unsafe { ffi::bjargolsk_time(image.as_mut_ptr(), image.len(), microseconds) }
+}
+
 pub fn forget(image: &mut [u8], count: u32) -> u32 {
     unsafe { ffi::bjargolsk_forget(image.as_mut_ptr(), image.len(), count) }
 }

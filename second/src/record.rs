@@ -43,6 +43,13 @@ pub struct Throttles {
     pub sets: [ThrottleSet; PAIRS],
 }
 
+/// The SBE's one timer, microseconds left. It stands beside the record: time passes without a command.
+#[derive(Clone, Copy, PartialEq, Eq, Debug, Default)]
+pub struct Timer {
+    pub running: u8,
+    pub left: u64,
+}
+
 /// Plain bytes and numbers, so that a damaged record can be held and judged.
 #[derive(Clone, Copy, PartialEq, Eq, Debug)]
 pub struct Record {
@@ -222,6 +229,10 @@ pub fn thermal_fits(received: u8, thermal: &[u8; 9]) -> bool {
 
 pub fn deadman_fits(running: u8, time: u64) -> bool {
     flag_fits(running) && (running == 1 || time == 0)
+}
+
+pub fn timer_fits(timer: &Timer) -> bool {
+    flag_fits(timer.running) && (timer.running == 1 || timer.left == 0)
 }
 
 /// What D7 04 says of an area whose size isn't 0.

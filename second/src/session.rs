@@ -13,6 +13,7 @@ pub struct Session<B = [u8; STORE_LENGTH]> {
     pub redo: Store<B>,
     /// Of the journal's entries.
     pub marks: Marks,
+    pub timer: Timer,
 }
 
 /// What commands are judged by: the session without its stores.
@@ -20,12 +21,14 @@ pub struct Standing<'a> {
     pub record: &'a Record,
     pub worked_out: &'a WorkedOut,
     pub next_id: u16,
+    pub timer: Timer,
 }
 
 /// A command that passed every status: what stood before, and what shall stand.
 pub struct Accepted {
     pub before: Change,
     pub record: Record,
+    pub timer: Timer,
     pub next_id: u16,
 }
 
@@ -73,6 +76,7 @@ pub const RULES: &[Rule] = &[
     // Where the journal can't be read to its end, no mark has an entry to be at.
     ("marks at their entries", |s| !s.journal.reads() || s.marks_fit(0, s.journal.used_marks())),
     ("unused marks zero", |s| !s.journal.reads() || s.marks_fit(s.journal.used_marks(), MARKS)),
+    ("timer", |s| timer_fits(&s.standing.timer)),
 ];
 
 impl Inspection<'_> {
@@ -92,14 +96,26 @@ impl Inspection<'_> {
 impl Session {
     pub fn fresh() -> Self {
         let record = Record::fresh();
-        let (journal, redo) = (Store::empty(), Store::empty());
-        Session { record, worked_out: record.work_out(), next_id: 1, journal, redo, marks: [0; MARKS] }
+        Session {
+            record,
+            worked_out: record.work_out(),
+            next_id: 1,
+            journal: Store::empty(),
+            redo: Store::empty(),
+            marks: [0; MARKS],
+            timer: Timer::default(),
+        }
     }
 }
 
 impl<B: Bytes> Session<B> {
     pub fn standing(&self) -> Standing<'_> {
-        Standing { record: &self.record, worked_out: &self.worked_out, next_id: self.next_id }
+        Standing {
+            record: &self.record,
+            worked_out: &self.worked_out,
+            next_id: self.next_id,
+            timer: self.timer,
+        }
     }
 
     pub fn inspect(&self) -> Inspection<'_> {
@@ -190,6 +206,7 @@ impl<B: Bytes> Session<B> {
             return false;
         }
         self.set_record(accepted.record);
+        self.timer = accepted.timer;
         self.next_id = accepted.next_id;
         self.redo.cut(0);
         true

@@ -101,6 +101,10 @@ fn write_rest(text: &mut String, session: &Session) -> std::fmt::Result {
         writeln!(text, "area {name} {:016X} {:08X}", area.address, area.size)?;
     }
     writeln!(text, "{}", redo_line(session))?;
+    match session.timer {
+        Timer { running: 0, .. } => writeln!(text, "timer off")?,
+        Timer { left, .. } => writeln!(text, "timer on {left}")?,
+    }
     writeln!(text, "next id {}", session.next_id)?;
     let listing = journal_listing(session);
     writeln!(text, "{}", listing.lines().next().unwrap_or(""))?;

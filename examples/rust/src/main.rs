@@ -1,4 +1,5 @@
-//! A master OCC brought up and capped; changes taken back, one step too far, and one put in again; a cap that is too high; the oldest changes forgotten.
+//! A master OCC brought up and capped; changes taken back, one step too far, and one put in again; a cap that is too high; the oldest changes forgotten; the
+//! SBE's timer; a part of its SEEPROM read.
 
 #[path = "../../../include/bjargolsk.rs"]
 mod ffi;
@@ -86,6 +87,39 @@ impl Bench {
         );
     }
 
+    /// The call lends an image of the SEEPROM, and a buffer for what the request reads of it.
+    fn seeprom(&mut self, request: &[u8], image: &[u8]) {
+        let mut data = [0u8; 8];
+        let result = unsafe {
+            ffi::bjargolsk_sbe_seeprom(
+                self.session.as_mut_ptr(),
+                self.session.len(),
+                request.as_ptr(),
+                request.len(),
+                self.reply.as_mut_ptr(),
+                self.reply.len(),
+                image.as_ptr(),
+                image.len(),
+                data.as_mut_ptr(),
+                data.len(),
+            )
+        };
+        let (answer, bell) = (result & 0xFF, result >> 16);
+        println!(
+            "seeprom: answer {answer} bell {bell:04X}{}",
+            self.shown(answer, 32)
+        );
+        let data: String = data.iter().map(|b| format!(" {b:02X}")).collect();
+        println!("data:{data}");
+    }
+
+    fn time(&mut self, microseconds: u64) {
+        let (session, length) = (self.session.as_mut_ptr(), self.session.len());
+        let result = unsafe { ffi::bjargolsk_time(session, length, microseconds) };
+        let (answer, bell) = (result & 0xFF, result >> 16);
+        println!("time {microseconds}: answer {answer} bell {bell:04X}");
+    }
+
     fn undo(&mut self) {
         let result = unsafe { ffi::bjargolsk_undo(self.session.as_mut_ptr(), self.session.len()) };
         let (answer, passed, kind) = (result & 0xFF, result >> 8 & 0xFF, result >> 16);
@@ -104,11 +138,22 @@ impl Bench {
     }
 }
 
+/// A request of these bytes and zeros.
+fn request(front: [u8; 16]) -> [u8; 32] {
+    let mut request = [0; 32];
+    request[..16].copy_from_slice(&front);
+    request
+}
+
 fn main() {
-    let mut deadman = [0u8; 32];
-    deadman[..16].copy_from_slice(&[
+    let deadman = request([
         0, 0, 0x01, 0x01, 0, 7, 0xD1, 0x01, 0, 0, 0, 0, 0, 0, 0x03, 0xE8,
     ]);
+    let timer = request([
+        0, 0, 0x00, 0x01, 0, 8, 0xD4, 0x01, 0, 0, 0, 0, 0, 0, 0x03, 0xE8,
+    ]);
+    let read = request([0, 0, 0x01, 0x00, 0, 9, 0xD7, 0x03, 0, 0, 0, 8, 0, 0, 0, 8]);
+    let image = [0, 1, 2, 3, 4, 5, 6, 7, 8, 9, 10, 11, 12, 13, 14, 15];
 
     let mut bench = Bench::fresh();
     bench.occ("poll", HTMGT, 0x00, &[0x10]);
@@ -145,4 +190,14 @@ fn main() {
     bench.forget(4);
     bench.undo();
     bench.undo();
+    // A timer of 1,000 microseconds, of which 400 pass. Undo stops it, redo gives it back with 600 left; it expires when these have passed, and rings once.
+    bench.sbe("timer", &timer);
+    bench.time(400);
+    bench.undo();
+    bench.time(600);
+    bench.redo();
+    bench.time(600);
+    bench.time(600);
+    // 8 bytes from offset 8 on.
+    bench.seeprom(&read, &image);
 }

@@ -89,6 +89,10 @@ const OTHER_DAMAGES: &[Damage] = &[
     |r, s| together(r, s, 2049),
     |r, s| together(r, s, 2050),
     |r, s| together(r, s, 4096),
+    |r, s| s.timer.running = r.pick(&[2, 3, 255]),
+    |r, s| s.timer = Timer { running: r.pick(&[2, 128]), left: 0 },
+    |r, s| s.timer = Timer { running: 0, left: r.pick(&[1, 1 << 32, u64::MAX]) },
+    |_, s| s.timer = Timer { running: 0, left: 1 << 63 },
 ];
 
 /// Each breaks one rule of the marks.
@@ -230,6 +234,8 @@ const WRONG_CHANGES: &[fn(&mut Random) -> Change] = &[
     |_| Change::Deadman { running: 2, time: 0 },
     |r| Change::Areas { ffdc: r.pick(&WRONG_AREAS), pass: Area::default() },
     |r| Change::Areas { ffdc: scene::area(r), pass: r.pick(&WRONG_AREAS) },
+    |r| Change::Timer(Timer { running: 0, left: r.pick(&[1, 1 << 56]) }),
+    |r| Change::Timer(Timer { running: r.pick(&[2, 255]), left: 0 }),
 ];
 
 /// The same where the redo store's bodies differ from the journal's.
@@ -423,7 +429,7 @@ fn cut_newest(random: &mut Random, store: &mut Store) {
 }
 
 fn unknown_kind(random: &mut Random, session: &mut Session, holding: Holding) {
-    let kind = random.pick(&[0x00, 0x0C, 0x0D, 0xFF]);
+    let kind = random.pick(&[0x00, 0x0D, 0x0E, 0xFF]);
     insert_entry(random, session, holding, |store| store.push_bytes(&[kind]));
 }
 
@@ -538,11 +544,11 @@ pub fn hard_redo(random: &mut Random, session: &mut Session, number: usize) {
 }
 
 /// Where a changed byte tells most: head, received marks, logs, areas, worked-out values, ids, the stores' edges, the
-/// journal's marks.
+/// journal's marks, the timer.
 fn telling_place(random: &mut Random, image: &[u8]) -> usize {
     let used = usize::from(u16::from_be_bytes([image[237], image[238]])).min(STORE_LENGTH);
     let redo = usize::from(u16::from_be_bytes([image[2287], image[2288]])).min(STORE_LENGTH);
-    match random.below(17) {
+    match random.below(18) {
         0 | 1 => random.below(10),
         2 => 170 + random.below(15),
         3 | 4 => 185 + random.below(8),
@@ -557,6 +563,7 @@ fn telling_place(random: &mut Random, image: &[u8]) -> usize {
         13 => 2289 + redo.min(STORE_LENGTH - 1),
         14 => 4337 + random.below(2 * MARKS),
         15 => 4337 + random.below(6),
+        16 => 4401 + random.below(9),
         _ => random.below(IMAGE_LENGTH),
     }
 }
@@ -586,6 +593,7 @@ pub fn random_bytes(random: &mut Random) -> Vec<u8> {
         (2287, 2050),
         (2289, 2048),
         (4337, 64),
+        (4401, 9),
     ];
     let (start, length) = random.pick(&parts);
     let bytes = random.bytes(length);
@@ -598,7 +606,7 @@ pub fn random_stores(random: &mut Random, session: &mut Session) {
     (session.journal, session.redo) = (Store::empty(), Store::empty());
     for store in [&mut session.journal, &mut session.redo] {
         for _ in 0..random.below(4) {
-            let kind = random.between(1, 11) as u8;
+            let kind = random.between(1, 12) as u8;
             let mut entry = vec![kind];
             entry.extend(random.bytes(body_length(kind).unwrap_or(0)).iter().map(|byte| byte & 3));
             store.push_bytes(&entry);

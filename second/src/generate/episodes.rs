@@ -7,9 +7,9 @@ use crate::record::*;
 use crate::session::Session;
 
 /// The lengths of the entries that `change` makes: state, deadman, cores, areas, role, reset, user cap, clear,
-/// caps, thermal, throttles.
-const ENTRY_LENGTHS: [usize; CHANGES] = [2, 10, 5, 25, 3, 3, 3, 4, 8, 11, 164];
-const CHANGES: usize = 11;
+/// caps, thermal, throttles, timer.
+const ENTRY_LENGTHS: [usize; CHANGES] = [2, 10, 5, 25, 3, 3, 3, 4, 8, 11, 164, 10];
+const CHANGES: usize = 12;
 
 /// Reply buffers at the bounds of SBE and OCC calls and of `buffer`.
 const BUFFER_LENGTHS: [usize; 6] = [0, 31, 32, 4095, 4096, 8192];
@@ -43,6 +43,11 @@ impl<B: Bench> Generator<B> {
         self.every_redo();
         self.every_mark();
         self.every_forget();
+        self.every_chiplet();
+        self.every_seeprom();
+        for _ in 0..if self.small { 2 } else { 6 } {
+            self.timers();
+        }
         self.every_fault();
         self.every_buffer();
         self.every_wrong_byte();
@@ -120,6 +125,81 @@ impl<B: Bench> Generator<B> {
             self.undo_to_the_start();
             self.redo_to_the_end();
         }
+        self.look();
+    }
+
+    /// Every chiplet of every type, and a type too many; in a small file those at the ends of the table's ranges.
+    fn every_chiplet(&mut self) {
+        self.give(Order::Fresh);
+        for target in 0..6 {
+            for chiplet in 0..=0x28 {
+                let end = [0, 1, 3, 4, 8, 9, 10, 12, 15, 16, 20, 21, 24, 31, 32, 39, 40].contains(&chiplet);
+                if !self.small || (target == 1 && end) || chiplet == 0x10 {
+                    self.put_ring(target, chiplet);
+                }
+            }
+            self.put_ring(target, 0xFE);
+            self.put_ring(target, 0xFF);
+        }
+    }
+
+    fn put_ring(&mut self, target: u8, chiplet: u8) {
+        let mut request = vec![0; 32];
+        request[6..8].copy_from_slice(&[0xD3, 1]);
+        (request[9], request[11]) = (target, chiplet);
+        self.give(Order::Sbe(request));
+    }
+
+    /// Images of several lengths, read in every way.
+    fn every_seeprom(&mut self) {
+        self.give(Order::Fresh);
+        let lengths: &[usize] = if self.small { &[0, 20, 64] } else { &[0, 7, 8, 64, 8192, 65536, 70000] };
+        for length in lengths {
+            let length = self.bench.longest_seeprom().min(*length);
+            let image = self.random.bytes(length);
+            self.give(Order::Seeprom(image));
+            for _ in 0..if self.small { 8 } else { 40 } {
+                let request = requests::seeprom(&mut self.random, self.bench.seeprom());
+                self.give(Order::Sbe(request));
+            }
+        }
+        self.lend();
+    }
+
+    /// The timer started and stopped, undone and redone, with time between all of them, and other changes.
+    fn timers(&mut self) {
+        if self.random.one_in(3) {
+            let session = scene::session(&mut self.random);
+            self.load_session(&session);
+        } else {
+            self.give(Order::Fresh);
+        }
+        for _ in 0..self.random.between(10, 40) {
+            match self.random.below(10) {
+                0..=2 => self.timer(),
+                3 | 4 if self.session().timer.running == 0 => self.timer(),
+                3 | 4 => self.pass_time(),
+                5 | 6 => self.undo(),
+                7 => self.redo(),
+                8 => {
+                    self.undo();
+                    self.pass_time();
+                    self.redo();
+                    self.pass_time();
+                    self.undo();
+                }
+                _ => {
+                    let number = self.random.below(CHANGES);
+                    self.change(number);
+                }
+            }
+            if self.random.one_in(2) {
+                self.pass_time();
+            }
+        }
+        self.undos(4);
+        self.pass_time();
+        self.redos(4);
         self.look();
     }
 
@@ -216,7 +296,7 @@ impl<B: Bench> Generator<B> {
     }
 
     pub fn episode(&mut self) {
-        let loads = if self.small { 34 } else { 146 };
+        let loads = if self.small { 34 } else { 162 };
         match self.random.below(loads) {
             0..=9 => self.bring_up(),
             10..=13 => self.walk_from_fresh(),
@@ -228,8 +308,9 @@ impl<B: Bench> Generator<B> {
             28 if self.small => self.ids_near_their_end(),
             29 if self.small => self.scene(),
             30 if self.small => self.room_made(),
-            31 if self.small => self.every_redo(),
-            32 | 33 if self.small => self.wrong_packets(),
+            31 if self.small => self.timers(),
+            32 if self.small => self.wrong_packets(),
+            33 if self.small => self.timers(),
             28..=37 => self.ids_near_their_end(),
             38..=53 => self.scene(),
             54..=59 => {
@@ -258,6 +339,8 @@ impl<B: Bench> Generator<B> {
                 self.about_marks(count);
             }
             135..=144 => self.room_made(),
+            145..=156 => self.timers(),
+            157..=160 => self.lend(),
             _ => self.bounds(),
         }
         if !self.small || self.random.one_in(4) {
@@ -273,12 +356,15 @@ impl<B: Bench> Generator<B> {
                 self.right(about);
             }
             34..=61 => self.nearly_right(),
-            62..=82 => self.sbe(),
+            62..=78 => self.sbe(),
+            79 => self.timer(),
+            80..=82 => self.pass_time(),
             83..=91 => self.undo(),
             92..=95 => self.redo(),
             96 if self.random.one_in(2) => self.forget_some(),
             96 => self.redo(),
             97 if self.random.one_in(4) => self.long_packet(),
+            97 if self.random.one_in(4) => self.lend(),
             97 => self.right(About::Poll),
             _ => self.odd_line(),
         }
@@ -355,7 +441,7 @@ impl<B: Bench> Generator<B> {
     fn every_redo(&mut self) {
         self.give(Order::Fresh);
         self.framed(0x10, 0x21, &[FORMAT_ROLE, 1]);
-        for number in [5, 4, 8, 9, 10, 6, 0, 1, 2, 3, 7, 5] {
+        for number in [5, 4, 8, 9, 10, 6, 0, 1, 2, 3, 7, 5, 11] {
             self.change(number);
             self.undo();
             self.redo();
@@ -517,9 +603,10 @@ impl<B: Bench> Generator<B> {
 
     fn sbe_right(&mut self, which: usize) {
         let mut request = vec![0; 32];
-        let head = [[0xD1, 1], [0xD1, 3], [0xD7, 4]][which % 3];
+        let head = [[0xD1, 1], [0xD1, 3], [0xD7, 4], [0xD4, 1]][which % 4];
         request[6..8].copy_from_slice(&head);
-        request[3] = if which == 0 { 1 + self.random.below(2) as u8 } else { 0 };
+        request[3] = if which.is_multiple_of(3) { 1 + self.random.below(2) as u8 } else { 0 };
+        request[15] = if which == 3 { self.random.byte() } else { 0 };
         self.give(Order::Sbe(request));
     }
 
@@ -546,7 +633,8 @@ impl<B: Bench> Generator<B> {
             7 => self.right(About::Clear),
             8 => self.right(About::Caps),
             9 => self.right(About::Thermal),
-            _ => self.right(About::Throttles),
+            10 => self.right(About::Throttles),
+            _ => self.sbe_right(3),
         }
     }
 
@@ -634,6 +722,7 @@ impl<B: Bench> Generator<B> {
         self.redo();
         self.sbe();
         self.forget_some();
+        self.pass_time();
         if self.random.one_in(12) {
             self.other_buffers();
         }
@@ -683,7 +772,7 @@ impl<B: Bench> Generator<B> {
         for _ in 0..count {
             self.long_packet();
         }
-        let mut request = requests::any(&mut self.random);
+        let mut request = requests::any(&mut self.random, self.bench.seeprom());
         request.extend(self.random.bytes(40));
         self.give(Order::Sbe(request));
     }

@@ -3,7 +3,7 @@
 use super::random::Random;
 use super::spelling::{self, Style};
 use super::{Bench, Generator};
-use crate::protocol::{parse, Order, Program};
+use crate::protocol::{parse, Order, Program, LONGEST_SEEPROM};
 use crate::session::Session;
 use std::io::Write;
 
@@ -28,11 +28,11 @@ pub fn generate(count: u64, seed: u64, small: bool, output: &mut impl Write) -> 
     generator.bench.write_to(output)
 }
 
+/// All but what looks at the session, puts another in its place or lends buffers.
 fn is_call(order: &Order) -> bool {
-    matches!(
-        order,
-        Order::Occ { .. } | Order::Sbe(_) | Order::Undo | Order::Redo | Order::Send { .. } | Order::Forget(_)
-    )
+    let looks = matches!(order, Order::Image | Order::Why | Order::Show | Order::Journal | Order::Help);
+    let lends = matches!(order, Order::Buffer(_) | Order::Seeprom(_));
+    !looks && !lends && !matches!(order, Order::Fresh | Order::Load(_))
 }
 
 impl Bench for Lines {
@@ -44,6 +44,18 @@ impl Bench for Lines {
         self.left
     }
 
+    fn seeprom(&self) -> usize {
+        self.program.seeprom.len()
+    }
+
+    fn longest_seeprom(&self) -> usize {
+        if self.small {
+            100
+        } else {
+            LONGEST_SEEPROM
+        }
+    }
+
     fn give(&mut self, random: &mut Random, order: Order) {
         match &order {
             Order::Occ { sender, command } => self.line(random, "occ", &[&[*sender], command]),
@@ -53,6 +65,8 @@ impl Bench for Lines {
             Order::Sbe(request) => self.line(random, "sbe", &[request]),
             Order::Load(image) => self.line(random, "load", &[image]),
             Order::Buffer(Some(length)) => self.number(random, "buffer", *length as u64),
+            Order::Time(microseconds) => self.number(random, "time", *microseconds),
+            Order::Seeprom(image) => self.line(random, "seeprom", &[image]),
             Order::Buffer(None) => self.line(random, "buffer", &[]),
             Order::Undo => self.line(random, "undo", &[]),
             Order::Redo => self.line(random, "redo", &[]),

@@ -2,7 +2,7 @@
 
 use super::random::Random;
 use crate::image::IMAGE_LENGTH;
-use crate::protocol::{LONGEST_COMMAND, LONGEST_LINE, LONGEST_SENT};
+use crate::protocol::{LONGEST_COMMAND, LONGEST_LINE, LONGEST_SEEPROM, LONGEST_SENT};
 
 const SHORT: &[&str] = &[
     "poll",
@@ -59,6 +59,22 @@ const SHORT: &[&str] = &[
     "forget 18446744073709551616",
     "forget1",
     "Forget 1",
+    "time",
+    "time\t ",
+    "time -1",
+    "time 1.5",
+    "time 1 2",
+    "time 18446744073709551616",
+    "time 0018446744073709551616x",
+    "time 99999999999999999999999",
+    "times 1",
+    "time1",
+    "seeprom 0",
+    "seeprom 0g",
+    "seeprom 00 1",
+    "seeprom 00,",
+    "Seeprom 00",
+    "seeproms",
     "why 1",
     "why\twhy",
     "why?",
@@ -149,10 +165,10 @@ pub fn odd(random: &mut Random) -> Vec<u8> {
     line
 }
 
-const LONG_COUNT: usize = 22;
+const LONG_COUNT: usize = 25;
 
 /// Numbers that a small file can do without.
-pub const MORE_OF_THE_SAME: [usize; 6] = [0, 1, 5, 6, 7, 10];
+pub const MORE_OF_THE_SAME: [usize; 7] = [0, 1, 5, 6, 7, 10, 24];
 
 pub fn long_count() -> usize {
     LONG_COUNT
@@ -196,6 +212,9 @@ pub fn long(random: &mut Random, number: usize) -> Vec<u8> {
         18 => repeated("load ", "00", IMAGE_LENGTH, " z"),
         19 => repeated("load", " 00", IMAGE_LENGTH - 1, " 0z"),
         20 => padded("buffer ", b'9', LONGEST_LINE),
-        _ => repeated("buffer ", "0", LONGEST_LINE - 11, "4096"),
+        21 => repeated("buffer ", "0", LONGEST_LINE - 11, "4096"),
+        22 => repeated("seeprom ", "5A", LONGEST_SEEPROM, " "),
+        23 => repeated("seeprom ", "5A", LONGEST_SEEPROM, " zz"),
+        _ => repeated("seeprom", " 5A", LONGEST_SEEPROM, "5A"),
     }
 }

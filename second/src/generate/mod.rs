@@ -29,6 +29,10 @@ pub trait Bench {
 
     fn give(&mut self, random: &mut Random, order: Order);
 
+    /// The length of the SEEPROM's image that is lent, and of the longest that can be.
+    fn seeprom(&self) -> usize;
+    fn longest_seeprom(&self) -> usize;
+
     /// A line that need not be an order: for a bench that reads lines.
     fn say(&mut self, _random: &mut Random, _line: &[u8]) {}
 }
@@ -112,7 +116,48 @@ impl<B: Bench> Generator<B> {
     }
 
     fn sbe(&mut self) {
-        let request = requests::any(&mut self.random);
+        let request = requests::any(&mut self.random, self.bench.seeprom());
+        self.give(Order::Sbe(request));
+    }
+
+    /// Lends another image of the SEEPROM, and reads from it.
+    fn lend(&mut self) {
+        let longest = self.bench.longest_seeprom();
+        let any = self.random.below(longest + 1);
+        let short = self.random.pick(&[0, 1, 7, 8, 9, 16, 63, 64, 100]);
+        let bound = self.random.pick(&[4096, 8184, 8192, 65528, 65535, 65536, 65537, 65544, 70000]);
+        let length = match self.random.below(20) {
+            0 => any,
+            1..=3 => bound,
+            _ => short,
+        };
+        let image = self.random.bytes(length.min(longest));
+        self.give(Order::Seeprom(image));
+        for _ in 0..self.random.between(1, 5) {
+            let request = requests::seeprom(&mut self.random, self.bench.seeprom());
+            self.give(Order::Sbe(request));
+        }
+    }
+
+    /// About as much time as the timer has left.
+    fn pass_time(&mut self) {
+        let left = self.session().timer.left;
+        let random = &mut self.random;
+        let any = random.u64();
+        let microseconds = match random.below(8) {
+            0 => left,
+            1 => left.wrapping_add(1),
+            2 | 3 => left.saturating_sub(1),
+            4 => left / 2,
+            5 => random.pick(&[0, 1, u64::MAX, 1 << 63, 1 << 32, left.wrapping_sub(1)]),
+            6 if random.one_in(4) => any,
+            _ => any % 300,
+        };
+        self.give(Order::Time(microseconds));
+    }
+
+    fn timer(&mut self) {
+        let request = requests::timer(&mut self.random);
         self.give(Order::Sbe(request));
     }
 

@@ -63,6 +63,16 @@ fn deadman(random: &mut Random) -> (u8, u64) {
     random.pick(&[(0, 0), (1, 0), (1, time), (1, u64::MAX)])
 }
 
+pub fn timer(random: &mut Random) -> Timer {
+    let any = random.u64();
+    match random.below(6) {
+        0 | 1 => Timer::default(),
+        2 => Timer { running: 1, left: random.pick(&[0, 1, u64::MAX, 1 << 32]) },
+        3 => Timer { running: 1, left: any },
+        _ => Timer { running: 1, left: any % 1000 },
+    }
+}
+
 /// Rising ids below the next id, which is often near its end.
 fn logs(random: &mut Random) -> ([Log; LOG_PLACES], u16) {
     let count = random.between(0, LOG_PLACES);
@@ -141,16 +151,18 @@ pub fn change(random: &mut Random, kind: u8, holding: Holding) -> Change {
             let (running, time) = deadman(random);
             Change::Deadman { running, time }
         }
-        _ => Change::Areas { ffdc: area(random), pass: area(random) },
+        0x0B => Change::Areas { ffdc: area(random), pass: area(random) },
+        _ => Change::Timer(timer(random)),
     }
 }
 
 /// Kinds with the length of their whole entry, longest first.
-const LENGTHS: [(u8, usize); 11] = [
+const LENGTHS: [(u8, usize); 12] = [
     (0x07, 164),
     (0x0B, 25),
     (0x06, 11),
     (0x0A, 10),
+    (0x0C, 10),
     (0x04, 8),
     (0x09, 5),
     (0x01, 4),
@@ -196,6 +208,7 @@ pub fn session_with_room(random: &mut Random, room: usize) -> Session {
     let (logs, next_id) = logs(random);
     session.set_record(Record { logs, ..record(random) });
     session.next_id = next_id;
+    session.timer = timer(random);
     fill(random, &mut session.journal, room, Holding::Before);
     session.mark_all();
     if random.one_in(2) {

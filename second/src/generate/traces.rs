@@ -81,7 +81,7 @@ impl Maker {
             }
             4 | 5 => self.nearly_right(),
             6..=8 => {
-                let request = requests::any(&mut self.random);
+                let request = requests::any(&mut self.random, 0);
                 self.add(trace::sbe_entry(&request));
             }
             9 if self.random.one_in(6) => {

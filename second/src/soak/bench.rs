@@ -1,7 +1,7 @@
 //! The bench of the soak: each order of the generator is a call by both programs.
 
 use super::call::{Call, NAMES};
-use super::pair::{Difference, Pair, SHIFTS};
+use super::pair::{Difference, Pair, LONGEST_SEEPROM, SHIFTS};
 use second::calls::DONE;
 use second::generate::{Bench, Random};
 use second::image::{self, IMAGE_LENGTH};
@@ -9,6 +9,7 @@ use second::occ::command_packet;
 use second::protocol::{Order, LONGEST_BUFFER, LONGEST_COMMAND};
 use second::session::Session;
 use std::collections::BTreeMap;
+use std::rc::Rc;
 use std::time::{Duration, Instant};
 
 /// Reply buffers, and how often one of them is lent in place of a whole one.
@@ -59,7 +60,7 @@ impl Reached {
         }
         match (call, reply) {
             (Call::Occ { .. }, [_, _, status, ..]) => self.occ_statuses[usize::from(status & 31)] += 1,
-            (Call::Sbe { .. }, [a, b, c, d, ..]) => {
+            (Call::Sbe { .. } | Call::SbeSeeprom { .. }, [a, b, c, d, ..]) => {
                 *self.sbe_statuses.entry(u32::from_be_bytes([*a, *b, *c, *d])).or_default() += 1
             }
             _ => {}
@@ -91,6 +92,8 @@ pub struct Soak {
     sequence: u8,
     /// The length of reply buffers, if not whole.
     buffer: Option<usize>,
+    /// The image of the SEEPROM that is lent.
+    seeprom: Rc<Vec<u8>>,
     start: Vec<u8>,
     calls: Vec<Call>,
     before: Vec<u8>,
@@ -117,6 +120,7 @@ impl Soak {
             session: None,
             sequence: 0,
             buffer: None,
+            seeprom: Rc::default(),
             before: start.clone(),
             start,
             calls: Vec::new(),
@@ -185,11 +189,30 @@ impl Soak {
         }
     }
 
+    /// With the SEEPROM lent, or by the call that lends none. The second buffer is as long as what is asked for, a little less or
+    /// more, or as long as can be.
+    fn sbe(&self, random: &mut Random, request: Vec<u8>) -> Call {
+        if random.one_in(3) {
+            return Call::Sbe { request, room: 0 };
+        }
+        let size =
+            request.get(12..16).map_or(0, |size| u32::from_be_bytes([size[0], size[1], size[2], size[3]]));
+        let size = (size as usize).min(LONGEST_SEEPROM - 8);
+        let data_room = match random.below(6) {
+            0 => size,
+            1 => size.saturating_sub(random.pick(&[1, 8])),
+            2 => size + random.pick(&[1, 8]),
+            3 => random.pick(&[0, 1, 7, 8]),
+            _ => 65536.min(size + 4096),
+        };
+        Call::SbeSeeprom { request, room: 0, seeprom: Rc::clone(&self.seeprom), data_room }
+    }
+
     /// The same call on the image at hand, cut or with more behind it: nothing may change.
     fn on_another_length(&mut self, random: &mut Random, call: &Call) {
         let any = random.below(2 * IMAGE_LENGTH);
         let length =
-            random.pick(&[0, 1, 230, 2287, IMAGE_LENGTH - 1, IMAGE_LENGTH + 1, 4401, 4411, any, any]);
+            random.pick(&[0, 1, 230, 2287, IMAGE_LENGTH - 1, IMAGE_LENGTH + 1, 4337, 4401, 4411, any, any]);
         if length == IMAGE_LENGTH {
             return;
         }
@@ -234,6 +257,14 @@ impl Bench for Soak {
         self.left
     }
 
+    fn seeprom(&self) -> usize {
+        self.seeprom.len()
+    }
+
+    fn longest_seeprom(&self) -> usize {
+        LONGEST_SEEPROM
+    }
+
     fn give(&mut self, random: &mut Random, order: Order) {
         match order {
             Order::Occ { sender, command } => self.call(random, Call::Occ { sender, command, room: 0 }),
@@ -242,7 +273,12 @@ impl Bench for Soak {
                 let command = command_packet(self.sequence, command_type, &data);
                 self.call(random, Call::Occ { sender, command, room: 0 });
             }
-            Order::Sbe(request) => self.call(random, Call::Sbe { request, room: 0 }),
+            Order::Sbe(request) => {
+                let call = self.sbe(random, request);
+                self.call(random, call);
+            }
+            Order::Time(microseconds) => self.call(random, Call::Time(microseconds)),
+            Order::Seeprom(image) => self.seeprom = Rc::new(image),
             Order::Undo => self.call(random, Call::Undo),
             Order::Redo => self.call(random, Call::Redo),
             Order::Forget(count) => self.call(random, Call::Forget(count)),

@@ -4,6 +4,10 @@ use super::proved;
 use second::bytes::hex;
 use second::c;
 use second::calls::{OCC_REPLY_LENGTH, SBE_REPLY_LENGTH};
+use std::rc::Rc;
+
+/// Image, request, reply, the SEEPROM's image, the second buffer.
+type SbeSeeprom = fn(&mut [u8], &[u8], &mut [u8], &[u8], &mut [u8]) -> u32;
 
 /// The functions of bjargolsk.h, by one of the two programs.
 pub struct Library {
@@ -13,6 +17,8 @@ pub struct Library {
     undo: fn(&mut [u8]) -> u32,
     redo: fn(&mut [u8]) -> u32,
     forget: fn(&mut [u8], u32) -> u32,
+    sbe_seeprom: SbeSeeprom,
+    time: fn(&mut [u8], u64) -> u32,
 }
 
 pub const PROVED: Library = Library {
@@ -22,22 +28,58 @@ pub const PROVED: Library = Library {
     undo: proved::undo,
     redo: proved::redo,
     forget: proved::forget,
+    sbe_seeprom: proved::sbe_seeprom,
+    time: proved::time,
 };
-pub const SECOND: Library =
-    Library { fresh: c::fresh, occ: c::occ, sbe: c::sbe, undo: c::undo, redo: c::redo, forget: c::forget };
+pub const SECOND: Library = Library {
+    fresh: c::fresh,
+    occ: c::occ,
+    sbe: c::sbe,
+    undo: c::undo,
+    redo: c::redo,
+    forget: c::forget,
+    sbe_seeprom: c::sbe_seeprom,
+    time: c::time,
+};
 
 /// All that a call's outcome hangs on beside the session; `room` is the length of the reply buffer.
 #[derive(Clone)]
 pub enum Call {
     Fresh,
-    Occ { sender: u8, command: Vec<u8>, room: usize },
-    Sbe { request: Vec<u8>, room: usize },
+    Occ {
+        sender: u8,
+        command: Vec<u8>,
+        room: usize,
+    },
+    Sbe {
+        request: Vec<u8>,
+        room: usize,
+    },
     Undo,
     Redo,
     Forget(u32),
+    /// With an image of the SEEPROM lent, and a buffer of `data_room` bytes for what is read.
+    SbeSeeprom {
+        request: Vec<u8>,
+        room: usize,
+        seeprom: Rc<Vec<u8>>,
+        data_room: usize,
+    },
+    Time(u64),
 }
 
-pub const NAMES: [&str; 6] = ["fresh", "occ", "sbe", "undo", "redo", "forget"];
+pub const NAMES: [&str; 8] = ["fresh", "occ", "sbe", "undo", "redo", "forget", "sbe_seeprom", "time"];
+
+pub const SBE_SEEPROM: usize = 6;
+
+/// The buffers that a call is lent: `input` and `seeprom` hold its bytes, `reply` and `data` have its rooms.
+pub struct Lending<'a> {
+    pub image: &'a mut [u8],
+    pub input: &'a [u8],
+    pub reply: &'a mut [u8],
+    pub seeprom: &'a [u8],
+    pub data: &'a mut [u8],
+}
 
 impl Call {
     /// Its place in `NAMES`.
@@ -49,13 +91,17 @@ impl Call {
             Call::Undo => 3,
             Call::Redo => 4,
             Call::Forget(_) => 5,
+            Call::SbeSeeprom { .. } => SBE_SEEPROM,
+            Call::Time(_) => 7,
         }
     }
 
     /// The bytes that it is lent to read.
     pub fn input(&self) -> &[u8] {
         match self {
-            Call::Occ { command: bytes, .. } | Call::Sbe { request: bytes, .. } => bytes,
+            Call::Occ { command: bytes, .. }
+            | Call::Sbe { request: bytes, .. }
+            | Call::SbeSeeprom { request: bytes, .. } => bytes,
             _ => &[],
         }
     }
@@ -63,14 +109,30 @@ impl Call {
     /// The length of the buffer that it is lent to write.
     pub fn room(&self) -> usize {
         match self {
-            Call::Occ { room, .. } | Call::Sbe { room, .. } => *room,
+            Call::Occ { room, .. } | Call::Sbe { room, .. } | Call::SbeSeeprom { room, .. } => *room,
             _ => 0,
         }
     }
 
     pub fn set_room(&mut self, length: usize) {
-        if let Call::Occ { room, .. } | Call::Sbe { room, .. } = self {
+        if let Call::Occ { room, .. } | Call::Sbe { room, .. } | Call::SbeSeeprom { room, .. } = self {
             *room = length;
+        }
+    }
+
+    /// The image of the SEEPROM that it is lent.
+    pub fn seeprom(&self) -> &[u8] {
+        match self {
+            Call::SbeSeeprom { seeprom, .. } => seeprom,
+            _ => &[],
+        }
+    }
+
+    /// The length of the second buffer that it is lent to write.
+    pub fn data_room(&self) -> usize {
+        match self {
+            Call::SbeSeeprom { data_room, .. } => *data_room,
+            _ => 0,
         }
     }
 
@@ -78,13 +140,14 @@ impl Call {
     pub fn whole_room(&self) -> usize {
         match self {
             Call::Occ { .. } => OCC_REPLY_LENGTH,
-            Call::Sbe { .. } => SBE_REPLY_LENGTH,
+            Call::Sbe { .. } | Call::SbeSeeprom { .. } => SBE_REPLY_LENGTH,
             _ => 0,
         }
     }
 
-    /// Made by a program on lent buffers; `input` holds the bytes above, `reply` has the length above.
-    pub fn make(&self, library: &Library, image: &mut [u8], input: &[u8], reply: &mut [u8]) -> u32 {
+    /// Made by a program on lent buffers.
+    pub fn make(&self, library: &Library, lent: Lending) -> u32 {
+        let Lending { image, input, reply, seeprom, data } = lent;
         match self {
             Call::Fresh => (library.fresh)(image),
             Call::Occ { sender, .. } => (library.occ)(image, *sender, input, reply),
@@ -92,6 +155,8 @@ impl Call {
             Call::Undo => (library.undo)(image),
             Call::Redo => (library.redo)(image),
             Call::Forget(count) => (library.forget)(image, *count),
+            Call::SbeSeeprom { .. } => (library.sbe_seeprom)(image, input, reply, seeprom, data),
+            Call::Time(microseconds) => (library.time)(image, *microseconds),
         }
     }
 
@@ -99,7 +164,8 @@ impl Call {
     pub fn line(&self) -> String {
         match self {
             Call::Occ { sender, command, .. } => format!("occ {sender:02X} {}", hex(command)),
-            Call::Sbe { request, .. } => format!("sbe {}", hex(request)),
+            Call::Sbe { request, .. } | Call::SbeSeeprom { request, .. } => format!("sbe {}", hex(request)),
+            Call::Time(microseconds) => format!("time {microseconds}"),
             Call::Forget(count) => format!("forget {count}"),
             Call::Fresh | Call::Undo | Call::Redo => NAMES[self.number()].to_string(),
         }

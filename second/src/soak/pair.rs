@@ -1,6 +1,6 @@
 //! A call made by both programs on buffers of their own, and everything compared.
 
-use super::call::{Call, PROVED, SECOND};
+use super::call::{Call, Lending, PROVED, SECOND};
 use second::image::IMAGE_LENGTH;
 
 /// Bytes before and after each buffer, which no call may touch.
@@ -53,11 +53,22 @@ struct Side {
     image: Lent,
     input: Lent,
     reply: Lent,
+    seeprom: Lent,
+    data: Lent,
 }
+
+/// The longest image of the SEEPROM, and the longest second buffer.
+pub const LONGEST_SEEPROM: usize = 70_000;
 
 impl Side {
     fn new(longest: usize) -> Self {
-        Side { image: Lent::new(2 * IMAGE_LENGTH), input: Lent::new(longest), reply: Lent::new(longest) }
+        Side {
+            image: Lent::new(2 * IMAGE_LENGTH),
+            input: Lent::new(longest),
+            reply: Lent::new(longest),
+            seeprom: Lent::new(LONGEST_SEEPROM),
+            data: Lent::new(LONGEST_SEEPROM),
+        }
     }
 }
 
@@ -68,6 +79,8 @@ pub enum Difference {
     Image { at: isize, proved: u8, second: u8 },
     Input { at: isize, proved: u8, second: u8 },
     Reply { at: isize, proved: u8, second: u8 },
+    Seeprom { at: isize, proved: u8, second: u8 },
+    Data { at: isize, proved: u8, second: u8 },
 }
 
 impl Difference {
@@ -82,6 +95,8 @@ impl Difference {
             Difference::Image { at, proved, second } => byte("image", at, proved, second),
             Difference::Input { at, proved, second } => byte("command", at, proved, second),
             Difference::Reply { at, proved, second } => byte("reply buffer", at, proved, second),
+            Difference::Seeprom { at, proved, second } => byte("SEEPROM's image", at, proved, second),
+            Difference::Data { at, proved, second } => byte("second buffer", at, proved, second),
         }
     }
 }
@@ -109,6 +124,7 @@ impl Pair {
     pub fn paint(&mut self, around_image: bool, paint: u8) {
         for side in [&mut self.proved, &mut self.second] {
             side.reply.bytes.fill(paint);
+            side.data.bytes.fill(paint);
             if around_image {
                 let end = side.image.start + side.image.length;
                 side.image.bytes[..side.image.start].fill(paint);
@@ -133,7 +149,17 @@ impl Pair {
                 side.input.place(shift, call.input().len());
                 side.input.lend().copy_from_slice(call.input());
                 side.reply.place(shift, call.room());
-                call.make(&library, side.image.lend(), side.input.lent(), side.reply.lend())
+                side.seeprom.place(shift, call.seeprom().len());
+                side.seeprom.lend().copy_from_slice(call.seeprom());
+                side.data.place(shift, call.data_room());
+                let lent = Lending {
+                    image: side.image.lend(),
+                    input: side.input.lent(),
+                    reply: side.reply.lend(),
+                    seeprom: side.seeprom.lent(),
+                    data: side.data.lend(),
+                };
+                call.make(&library, lent)
             });
         let (one, two) = (&self.proved, &self.second);
         if proved != second {
@@ -141,6 +167,12 @@ impl Pair {
         }
         if let Some((at, proved, second)) = one.reply.differs(&two.reply) {
             return Err(Difference::Reply { at, proved, second });
+        }
+        if let Some((at, proved, second)) = one.data.differs(&two.data) {
+            return Err(Difference::Data { at, proved, second });
+        }
+        if let Some((at, proved, second)) = one.seeprom.differs(&two.seeprom) {
+            return Err(Difference::Seeprom { at, proved, second });
         }
         if let Some((at, proved, second)) = one.image.differs(&two.image) {
             return Err(Difference::Image { at, proved, second });

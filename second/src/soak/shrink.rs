@@ -1,11 +1,11 @@
 //! The shortest lines that show a difference again.
 
 use super::bench::Found;
-use super::call::Call;
+use super::call::{Call, SBE_SEEPROM};
 use super::pair::{Difference, Pair};
 use second::bytes::hex;
 use second::image::{self, IMAGE_LENGTH};
-use second::protocol::{LONGEST_BUFFER, LONGEST_COMMAND};
+use second::protocol::{LONGEST_BUFFER, LONGEST_COMMAND, LONGEST_SEEPROM};
 use second::session::Session;
 
 /// An image and calls on it, made again on new buffers.
@@ -99,7 +99,15 @@ impl Run {
             text += &format!("load {}\n", hex(&self.image));
         }
         let mut whole = true;
+        let mut lent: &[u8] = &[];
         for call in &self.calls {
+            if call.number() == SBE_SEEPROM && call.seeprom() != lent {
+                lent = call.seeprom();
+                text += &match lent.len() {
+                    0..=LONGEST_SEEPROM => format!("seeprom {}\n", hex(lent)),
+                    length => format!("# with an image of {length} bytes lent, which no line can do\n"),
+                };
+            }
             if call.room() != call.whole_room() {
                 text += &format!("buffer {}\n", call.room());
             } else if !whole && call.whole_room() > 0 {

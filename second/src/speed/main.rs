@@ -16,6 +16,8 @@ mod proved;
 const ROUNDS: usize = 7;
 const ROUND: Duration = Duration::from_millis(150);
 const HTMGT: u8 = 0x10;
+/// An image that is lent.
+static SEEPROM: [u8; 65536] = [0x5A; 65536];
 
 enum Call {
     Occ(Vec<u8>),
@@ -23,6 +25,9 @@ enum Call {
     Undo,
     Redo,
     Forget(u32),
+    Time(u64),
+    /// With all of `SEEPROM` lent.
+    Seeprom(Vec<u8>),
     /// Back to where the calls started: made along, but not counted.
     Again(Box<Start>),
 }
@@ -47,6 +52,11 @@ fn proved(image: &mut [u8], call: &Call, reply: &mut [u8]) -> u32 {
         Call::Undo => proved::undo(image),
         Call::Redo => proved::redo(image),
         Call::Forget(count) => proved::forget(image, *count),
+        Call::Time(microseconds) => proved::time(image, *microseconds),
+        Call::Seeprom(request) => {
+            let (reply, data) = reply.split_at_mut(32);
+            proved::sbe_seeprom(image, request, reply, &SEEPROM, data)
+        }
         Call::Again(start) => {
             image.copy_from_slice(&start.image);
             0
@@ -61,6 +71,12 @@ fn on_value(session: &mut Session, call: &Call, reply: &mut [u8]) -> u32 {
         Call::Undo => c::with_passed(session.undo()),
         Call::Redo => c::with_kind(session.redo()),
         Call::Forget(count) => session.forget(*count).into(),
+        Call::Time(microseconds) => c::with_bell(session.time(*microseconds)),
+        Call::Seeprom(request) => {
+            let (reply, data) = reply.split_at_mut(32);
+            let told = session.sbe_seeprom(request, reply, &SEEPROM, data);
+            c::with_bell((told.answer, told.bell))
+        }
         Call::Again(start) => {
             session.clone_from(&start.session);
             0
@@ -75,6 +91,11 @@ fn on_image(image: &mut [u8], call: &Call, reply: &mut [u8]) -> u32 {
         Call::Undo => c::undo(image),
         Call::Redo => c::redo(image),
         Call::Forget(count) => c::forget(image, *count),
+        Call::Time(microseconds) => c::time(image, *microseconds),
+        Call::Seeprom(request) => {
+            let (reply, data) = reply.split_at_mut(32);
+            c::sbe_seeprom(image, request, reply, &SEEPROM, data)
+        }
         Call::Again(start) => {
             image.copy_from_slice(&start.image);
             0
@@ -144,6 +165,19 @@ fn mask() -> Call {
     Call::Sbe(request)
 }
 
+fn timer_stop() -> Call {
+    let mut request = vec![0; 32];
+    (request[3], request[6], request[7]) = (0x02, 0xD4, 0x01);
+    Call::Sbe(request)
+}
+
+/// 2,048 bytes from the image's midst.
+fn seeprom_read() -> Call {
+    let mut request = vec![0; 32];
+    (request[6], request[7], request[10], request[14]) = (0xD7, 0x03, 0x80, 0x08);
+    Call::Seeprom(request)
+}
+
 fn works() -> Vec<Work> {
     let poll = || vec![occ(0x00, &[0x10])];
     let state = || vec![occ(0x20, &[0, 1, 0]), Call::Undo];
@@ -159,6 +193,9 @@ fn works() -> Vec<Work> {
         work("undo and redo of the throttles", &throttled, back()),
         work("4,096-byte packet (0x11)", &up, vec![occ(0x30, &[0xFF; 4090])]),
         work("SBE mask and undo", &up, vec![mask(), Call::Undo]),
+        work("SBE timer stop and undo", &up, vec![timer_stop(), Call::Undo]),
+        work("SBE read of 2,048 bytes of the SEEPROM", &up, vec![seeprom_read()]),
+        work("time report", &up, vec![Call::Time(1)]),
         work("poll, 500 entries", &half, poll()),
         work("set state and undo, 500 entries", &half, state()),
         work("poll, 1,000 entries", &full, poll()),
@@ -289,6 +326,8 @@ fn stacks() {
         ("occ: user cap", brought_up(), occ(0x22, &[0x03, 0xE8])),
         ("occ: throttle packet, 195 data bytes", brought_up(), occ(0x21, &throttle_sets())),
         ("sbe: mask", brought_up(), mask()),
+        ("sbe_seeprom: 2,048 bytes", brought_up(), seeprom_read()),
+        ("time", brought_up(), Call::Time(1)),
         ("undo", capped, Call::Undo),
         ("redo", undone, Call::Redo),
         ("forget: 500 of 1,000 entries", full, Call::Forget(500)),

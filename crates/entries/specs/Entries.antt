@@ -3,6 +3,7 @@
 use Prim.Native.Nat.{ℕ, zero, suc, _≤_}
 use mathlib.Core.Bool.{cond}
 use mathlib.Core.List.{List, [], _∷_, _++_}
+use mathlib.Core.Path.{_≡_}
 use lib.Dec.{ltb, eqb}
 use lib.ListN.{length, getD, drop}
 use Rattle.entries.specs.declared.Reading.{Reading}
@@ -110,3 +111,8 @@ journalTable k = withKind (bodyLen k)
 
 abbrev pub scan : List ℕ → Scan
 scan j = scanBy journalTable j
+
+-- bytes that read as entries of the journal
+pub record ReadsWhole (j : List ℕ) : Type 0 where
+  pub entries : List Entry
+  pub reads : scan j ≡ between entries

@@ -12,7 +12,7 @@ use Rattle.wire.specs.Wire.{Bytes, pasted}
 use Rattle.wire.specs.laws.Cases.{if-lt, else-lt}
 use Rattle.wire.specs.laws.Wire.{tail-part}
 use Rattle.record.specs.Record.{workedOf}
-use Rattle.entries.specs.Entries.{Entry, entriesOf, scan, written}
+use Rattle.entries.specs.Entries.{Entry, entriesOf, scan, written, ReadsWhole}
 use Rattle.marks.specs.Marks.{marksOf}
 use Rattle.marks.specs.laws.Marks.{length-marks}
 use Rattle.journal.specs.declared.Way.the-variants.{Before, After}
@@ -30,7 +30,7 @@ use Rattle.inplace.specs.laws.Silent as silent
 use Rattle.inplace.specs.laws.Marked.{formed-marked}
 use Rattle.forget_call.specs.declared.Oldest.{Oldest}
 use Rattle.forget_call.specs.declared.Oldest.the-variants.{End, Fewer}
-use Rattle.forget_call.specs.Forget.{oldestAsks, forgetAsks, forgetCall, forgetLeft, forgotBy, forgetOn, ReadsWhole, OldestEnd}
+use Rattle.forget_call.specs.Forget.{oldestAsks, forgetAsks, forgetCall, forgetLeft, forgotBy, forgetOn, OldestEnd}
 use Rattle.forget_call.proofs.Walks.{enough, ends-at}
 
 -- ---- the first i bytes are moved

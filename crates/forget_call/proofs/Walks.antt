@@ -4,72 +4,32 @@ use mathlib.Core.Path.{_≡_, refl, sym, ap, _∙_}
 use mathlib.Core.List.{List, [], _∷_, _++_}
 use native.Mathlib.Numerals.{add-one}
 use native.Mathlib.Omega.{arith}
-use lib.ListN.{length, getD, take, drop, replicate, length-append, take-append-drop}
+use lib.ListN.{length, getD, take, drop, replicate, length-append}
 use lib.Seq.{drop-at}
 use Rattle.wire.specs.Wire.{toBE, pasted}
 use Rattle.wire.specs.laws.Cases.{if-eq, else-eq}
-use Rattle.entries.specs.Entries.{Entry, Scan, bodyLen, journalTable, between, within, unknown, opened, eat, scanFrom, scanBy, scan, entriesOf, written}
-use Rattle.entries.specs.laws.Entries.{scan-append, scan-proper}
-use Rattle.entries.specs.laws.Places.{Place, entryAt, first-place, place-written, scan-end, whole-fits, next-place}
+use Rattle.entries.specs.Entries.{Entry, bodyLen, scan, entriesOf, written, ReadsWhole}
+use Rattle.entries.specs.laws.Entries.{scan-proper}
+use Rattle.entries.specs.laws.Places.{Place, entryAt, first-place, place-written, place-entries, scan-end, whole-fits, next-place}
 use Rattle.marks.specs.Marks.{milestones, spelled, marksOf}
 use Rattle.marks.specs.laws.Marks.{thirty-second, two-each, length-marks, keeps-marks, marks-more}
 use Rattle.session.specs.Road.{oldest}
 use Rattle.forget_call.specs.declared.Oldest.the-variants.{End, Fewer}
-use Rattle.forget_call.specs.Forget.{ReadsWhole, OldestEnd, markedAt}
+use Rattle.forget_call.specs.Forget.{OldestEnd, markedAt}
 
 -- ---- the entries before a place are the oldest
-
--- a reading, after entries es
-unfoldable shifted : List Entry → Scan → Scan
-shifted es (between ns) = between (ns ++ es)
-shifted es (within ns k b n) = within (ns ++ es) k b n
-shifted es (unknown ns) = unknown (ns ++ es)
-
-shifted-opened : (es ns : List Entry) (k n : ℕ) → opened (ns ++ es) k n ≡ shifted es (opened ns k n)
-unfolding opened shifted
-shifted-opened es ns k zero = refl
-shifted-opened es ns k (suc zero) = refl
-shifted-opened es ns k (suc (suc n)) = refl
-
-shifted-eat : (es : List Entry) (s : Scan) (x : ℕ) → eat journalTable (shifted es s) x ≡ shifted es (eat journalTable s x)
-unfolding eat shifted
-shifted-eat es (between ns) x = shifted-opened es ns x (journalTable x)
-shifted-eat es (within ns k b zero) x = refl
-shifted-eat es (within ns k b (suc n)) x = refl
-shifted-eat es (unknown ns) x = refl
-
-shifted-from : (es : List Entry) (s : Scan) (xs : List ℕ) → scanFrom journalTable (shifted es s) xs ≡ shifted es (scanFrom journalTable s xs)
-unfolding scanFrom shifted
-shifted-from es s [] = refl
-shifted-from es s (x ∷ xs) =
-    ap (λ (u : Scan). scanFrom journalTable u xs) (shifted-eat es s x) ∙ shifted-from es (eat journalTable s x) xs
-
-entries-shifted : (es : List Entry) (s : Scan) → entriesOf (shifted es s) ≡ entriesOf s ++ es
-unfolding entriesOf shifted
-entries-shifted es (between ns) = refl
-entries-shifted es (within ns k b n) = refl
-entries-shifted es (unknown ns) = refl
 
 oldest-last : (ns es : List Entry) → oldest (length es) (ns ++ es) ≡ es
 unfolding oldest
 oldest-last ns es = drop-at ns es (length (ns ++ es) - length es) (omega (arith, length-append ns es))
 
 module _ (j : List ℕ) (at : ℕ) (es : List Entry) (p : Place j at es) where
-  all-are : entriesOf (scan j) ≡ entriesOf (scan (drop at j)) ++ es
-  unfolding scanBy shifted
-  all-are =
-      ap (λ (l : List ℕ). entriesOf (scan l)) (sym (take-append-drop at j))
-      ∙ ap entriesOf (scan-append (take at j) (drop at j))
-      ∙ ap (λ (s : Scan). entriesOf (scanFrom journalTable s (drop at j))) (p .reads)
-      ∙ ap entriesOf (shifted-from es (between []) (drop at j))
-      ∙ entries-shifted es (scan (drop at j))
-
   module _ (n : ℕ) (counted : length es ≡ n) where
     pub oldest-are : oldest n (entriesOf (scan j)) ≡ es
-    oldest-are = (λ i. oldest (sym counted i) (all-are i)) ∙ oldest-last (entriesOf (scan (drop at j))) es
+    oldest-are = (λ i. oldest (sym counted i) (place-entries p i)) ∙ oldest-last (entriesOf (scan (drop at j))) es
 
     pub enough : n ≤ length (entriesOf (scan j))
-    enough = omega (arith, counted, ap length all-are, length-append (entriesOf (scan (drop at j))) es)
+    enough = omega (arith, counted, ap length (place-entries p), length-append (entriesOf (scan (drop at j))) es)
 
     pub ends-at : at ≡ length (written (oldest n (entriesOf (scan j))))
     ends-at = place-written p ∙ ap (λ (l : List Entry). length (written l)) (sym oldest-are)

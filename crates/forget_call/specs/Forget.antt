@@ -8,7 +8,7 @@ use lib.ListN.{length}
 use lib.Dec.{ltb, eqb}
 use Rattle.wire.specs.Conditions.{_and_}
 use Rattle.wire.specs.Wire.{toBE, pasted}
-use Rattle.entries.specs.Entries.{Entry, between, entriesOf, scan}
+use Rattle.entries.specs.Entries.{Entry, entriesOf, scan}
 use Rattle.entries.specs.laws.Places.{Place}
 use Rattle.session.specs.Session.{wellFormed}
 use Rattle.session.specs.Road.{heldIn, Asks, refuses, forgets, Said, settled}
@@ -48,10 +48,6 @@ abbrev pub ForgetAllows : ℕ → List ℕ → Told → List ℕ → Type 0
 ForgetAllows n b told image = (told ≡ forgetOn n b .told) and (image ≡ forgetOn n b .image)
 
 -- ---- walks over a journal's bytes, which read as entries
-
-pub record ReadsWhole (j : List ℕ) : Type 0 where
-  pub entries : List Entry
-  pub reads : scan j ≡ between entries
 
 -- the n oldest stand before a place; or there are fewer
 abbrev pub OldestEnd : List ℕ → ℕ → Oldest → Type 0

@@ -5,14 +5,14 @@ ghost use mathlib.Core.List.{_++_};
 ghost use mathlib.Core.Path.{_≡_};
 ghost use Prim.Native.Nat.{_≤_, _<_, _-_};
 ghost use lib.ListN.{length, take, drop};
-ghost use Rattle.entries.specs.Entries.{entriesOf, scan};
+ghost use Rattle.entries.specs.Entries.{entriesOf, scan, ReadsWhole};
 ghost use Rattle.marks.specs.Marks.{marksOf};
 ghost use Rattle.session.specs.Session.{wellFormed, entriesIn};
 ghost use Rattle.session.specs.Road.{movedDown, sessionFreed};
 ghost use Rattle.image.specs.Image.{imageOf, withPart, withStore, journalIn, sessionIn};
 ghost use Rattle.layout.specs.Layout.{marksSize, journalAt, marksAt, imageLength};
 ghost use Rattle.inplace.specs.InPlace.{HeadStands};
-ghost use Rattle.forget_call.specs.Forget.{oldestAsks, forgotBy, ForgetAllows, ReadsWhole, OldestEnd, markedAt};
+ghost use Rattle.forget_call.specs.Forget.{oldestAsks, forgotBy, ForgetAllows, OldestEnd, markedAt};
 use image::Head;
 use inplace::Told;
 

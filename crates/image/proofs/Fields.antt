@@ -51,7 +51,7 @@ pub length-session : (s : Session) → length (joined (recordRows (s .held))) �
 unfolding sumOf widthsOf imageOf sessionRows workedRows timerRows toBE
 length-session s h e f g =
     let rest = workedRows (s .worked) (s .next) (s .used) ++ (s .journal ∷ toBE 2 (s .ahead) ∷ s .redo ∷ laterRows s) in
-    let m = length-joined rest ∙ ap sumOf (λ i. 2 ∷ 1 ∷ 1 ∷ 1 ∷ 2 ∷ 2 ∷ e i ∷ 2 ∷ f i ∷ g i ∷ 1 ∷ 8 ∷ []) in
+    let m = length-joined rest ∙ ap sumOf (λ i. 2 ∷ 1 ∷ 1 ∷ 1 ∷ 2 ∷ 2 ∷ e i ∷ 2 ∷ f i ∷ g i ∷ 1 ∷ 8 ∷ 1 ∷ []) in
     ap length (joined-append (recordRows (s .held)) rest) ∙ length-append (joined (recordRows (s .held))) (joined rest) ∙ ap₂ (λ (a b : ℕ). a + b) h m
 
 -- a buffer that is filled by what is written
@@ -132,10 +132,12 @@ module _ (d : List ℕ) (long : 239 ≤ length d) where
       let k = rows-on 239 d long 0 181 three (logsRows (r .received) (r .logs)) x y (lit< tt) (from-front three (1 ∷ 1 ∷ 2 ∷ 2 ∷ 2 ∷ 2 ∷ 160 ∷ 2 ∷ 9 ∷ []) (λ i. 1 ∷ 1 ∷ 2 ∷ 2 ∷ 2 ∷ 2 ∷ sets i ∷ 2 ∷ thermal i ∷ [])) q h in
       rows-on 239 d long 0 193 four (mailboxRows (r .mask) (r .deadman) (r .areas)) y z (lit< tt) (from-front four (take 21 recordWidths) (ap (take 21) (widths-record r sets thermal))) k j
 
-pub timer-put : (d : List ℕ) → imageLength ≤ length d → (t : Timer) (x y : List ℕ) → x ≡ pasted 4401 (byte (t .running)) d → y ≡ pasted 4402 (toBE 8 (t .left)) x
-    → y ≡ pasted timerAt (joined (timerRows t)) d
+pub timer-put : (d : List ℕ) → imageLength ≤ length d → (t : Timer) (profile : ℕ) (x y z : List ℕ) → x ≡ pasted 4401 (byte (t .running)) d → y ≡ pasted 4402 (toBE 8 (t .left)) x
+    → z ≡ pasted 4410 (byte profile) y → z ≡ pasted timerAt (joined (timerRows t profile)) d
 unfolding joined timerRows toBE
-timer-put d long t x y p q = row-on 4402 d (omega arith) 4401 4402 (byte (t .running) ∷ []) (toBE 8 (t .left)) x y (lit< tt) refl p q
+timer-put d long t profile x y z p q r =
+    let both = row-on 4402 d (omega arith) 4401 4402 (byte (t .running) ∷ []) (toBE 8 (t .left)) x y (lit< tt) refl p q in
+    row-on 4410 d (omega arith) 4401 4410 (byte (t .running) ∷ toBE 8 (t .left) ∷ []) (byte profile) y z (lit< tt) refl both r
 
 -- the whole image, field after field
 module _ (d : List ℕ) (long : 4401 ≤ length d) (s : Session) (wide : length (joined (recordRows (s .held))) ≡ 230) (journal : length (s .journal) ≡ 2048)
@@ -181,10 +183,10 @@ module _ (d : List ℕ) (long : 4401 ≤ length d) (s : Session) (wide : length 
 
   pub session-put : (x y u v w z a : List ℕ) → x ≡ pasted 0 (joined (recordRows (s .held))) d → y ≡ pasted 230 (joined (workedRows (s .worked) (s .next) (s .used))) x
       → u ≡ pasted 239 (s .journal) y → v ≡ pasted 2287 (toBE 2 (s .ahead)) u → w ≡ pasted 2289 (s .redo) v → z ≡ pasted 4337 (s .marks) w
-      → a ≡ pasted 4401 (joined (timerRows (s .timer))) z → a ≡ pasted 0 (imageOf s) d
+      → a ≡ pasted 4401 (joined (timerRows (s .timer) (s .profile))) z → a ≡ pasted 0 (imageOf s) d
   unfolding imageOf sessionRows
   session-put x y u v w z a p q r t k m n =
-      let timer = timerRows (s .timer) in
+      let timer = timerRows (s .timer) (s .profile) in
       let two = rows-on 4401 d long 0 230 (recordRows (s .held)) (workedRows (s .worked) (s .next) (s .used)) x y (lit< tt) (zero-add _ ∙ wide) p q in
       let three = row-on 4401 d long 0 239 head (s .journal) y u (lit< tt) (zero-add _ ∙ length-head) two r in
       let four = row-on 4401 d long 0 2287 toJournal (toBE 2 (s .ahead)) u v (lit< tt) (zero-add _ ∙ length-journal) three t in

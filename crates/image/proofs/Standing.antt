@@ -34,7 +34,7 @@ stores-put d j r m x y z p q t long wj wr wm =
 
 module _ (d : List ℕ) (long : length d ≡ imageLength) (h : Head) (x y z a : List ℕ) (wide : length (joined (recordRows (h .held))) ≡ 230)
     (p : x ≡ pasted 0 (joined (recordRows (h .held))) d) (q : y ≡ pasted 230 (joined (workedRows (h .worked) (h .next) (h .used))) x)
-    (r : z ≡ pasted 2287 (toBE 2 (h .ahead)) y) (t : a ≡ pasted 4401 (joined (timerRows (h .timer))) z) where
+    (r : z ≡ pasted 2287 (toBE 2 (h .ahead)) y) (t : a ≡ pasted 4401 (joined (timerRows (h .timer) (h .profile))) z) where
   abbrev first : List ℕ
   first = joined (recordRows (h .held))
 

@@ -1,4 +1,4 @@
--- The image of a session: its fields one after the other, numbers big-endian, no padding, 4,410 bytes. Beside each row is its offset.
+-- The image of a session: its fields one after the other, numbers big-endian, no padding, 4,411 bytes. Beside each row is its offset.
 use Prim.Native.Nat.{ℕ, _+_}
 use mathlib.Core.Bool.{cond, not}
 use mathlib.Core.List.{List, [], _∷_, _++_}
@@ -18,7 +18,7 @@ use Rattle.record.specs.declared.Worked.{Worked}
 use Rattle.journal.specs.declared.Way.{Way}
 use Rattle.journal.specs.declared.Way.the-variants.{Before, After}
 use Rattle.session.specs.declared.Session.{Session}
-use Rattle.layout.specs.Layout.{storeSize, marksSize, journalAt, aheadAt, redoAt, marksAt, timerAt, imageLength}
+use Rattle.layout.specs.Layout.{storeSize, marksSize, journalAt, aheadAt, redoAt, marksAt, timerAt, profileAt, imageLength}
 use Rattle.image.specs.declared.Head.{Head}
 
 -- ---- a session as bytes
@@ -92,17 +92,19 @@ recordRows r =
     ++ (logsRows (r .received) (r .logs)
     ++ mailboxRows (r .mask) (r .deadman) (r .areas))))
 
-unfoldable pub timerRows : Timer → List (List ℕ)
-timerRows t =
+-- and the profile
+unfoldable pub timerRows : Timer → ℕ → List (List ℕ)
+timerRows t profile =
     byte (t .running)  -- 4401
     ∷ toBE 8 (t .left)  -- 4402
+    ∷ byte profile  -- 4410
     ∷ []
 
 -- what stands after the redo store, as wide as `laterWidths` says (layout/specs/Layout.antt)
 abbrev pub laterRows : Session → List (List ℕ)
 laterRows s =
     s .marks  -- 4337
-    ∷ timerRows (s .timer)
+    ∷ timerRows (s .timer) (s .profile)
 
 unfoldable pub sessionRows : Session → List (List ℕ)
 sessionRows s =
@@ -177,15 +179,19 @@ timerIn b = record { running = byteAt timerAt b; left = numberAt 8 (timerAt + 1)
 
 -- a session's head: all but its journal, its redo store and its marks
 unfoldable pub headIn : List ℕ → Head
-headIn b = record { held = recordIn b; worked = workedIn b; next = numberAt 2 235 b; used = numberAt 2 237 b; ahead = numberAt 2 aheadAt b; timer = timerIn b }
+headIn b = record { held = recordIn b; worked = workedIn b; next = numberAt 2 235 b; used = numberAt 2 237 b; ahead = numberAt 2 aheadAt b; timer = timerIn b; profile = byteAt profileAt b }
 
 -- a head from a head: this record, with what is worked out of it, this next id and these used lengths; whatever isn't named here is kept
 unfoldable pub headRenewed : Head → Record → ℕ → ℕ → ℕ → Head
-headRenewed h held next used ahead = record { held = held; worked = workedOf held; next = next; used = used; ahead = ahead; timer = h .timer }
+headRenewed h held next used ahead = record { held = held; worked = workedOf held; next = next; used = used; ahead = ahead; timer = h .timer; profile = h .profile }
 
 -- and one with another timer
 unfoldable pub headTimed : Head → Timer → Head
-headTimed h timer = record { held = h .held; worked = h .worked; next = h .next; used = h .used; ahead = h .ahead; timer = timer }
+headTimed h timer = record { held = h .held; worked = h .worked; next = h .next; used = h .used; ahead = h .ahead; timer = timer; profile = h .profile }
+
+-- and one with another profile
+unfoldable pub headProfiled : Head → ℕ → Head
+headProfiled h profile = record { held = h .held; worked = h .worked; next = h .next; used = h .used; ahead = h .ahead; timer = h .timer; profile = profile }
 
 -- where each store stands: the journal, which holds what was before, and the redo store, which holds what was after
 unfoldable pub storeAt : Way → ℕ
@@ -214,7 +220,7 @@ marksIn b = partAt marksSize marksAt b
 -- a head, and the stores and marks that stand in the bytes
 unfoldable pub sessionIn : Head → List ℕ → Session
 sessionIn h b =
-    record { held = h .held; worked = h .worked; next = h .next; used = h .used; journal = journalIn b; ahead = h .ahead; redo = redoIn b; marks = marksIn b; timer = h .timer }
+    record { held = h .held; worked = h .worked; next = h .next; used = h .used; journal = journalIn b; ahead = h .ahead; redo = redoIn b; marks = marksIn b; timer = h .timer; profile = h .profile }
 
 unfoldable pub sessionOf : List ℕ → Session
 sessionOf b = sessionIn (headIn b) b

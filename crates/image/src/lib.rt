@@ -1,9 +1,9 @@
-// A session as 4,410 bytes, its image: its head read and written at the fields' offsets, numbers big-endian, no padding.
+// A session as 4,411 bytes, its image: its head read and written at the fields' offsets, numbers big-endian, no padding.
 ghost use mathlib.Core.Path.{_≡_};
 ghost use Prim.Native.Nat.{_≤_, _+_};
 ghost use lib.ListN.{length};
 ghost use Rattle.wire.specs.Wire.{pasted, Bytes, joined};
-ghost use Rattle.image.specs.Image.{headRows, throttlesRows, thermalRows, logsRows, mailboxRows, workedRows, recordRows, imageOf, writtenTo, partAt, capsIn, throttlesIn, receivedIn, logAt, logsIn, deadmanIn, areasIn, recordIn, workedIn, timerRows, timerIn, headIn, headRenewed, headTimed, storeAt, journalIn, redoIn, marksIn, sessionIn};
+ghost use Rattle.image.specs.Image.{headRows, throttlesRows, thermalRows, logsRows, mailboxRows, workedRows, recordRows, imageOf, writtenTo, partAt, capsIn, throttlesIn, receivedIn, logAt, logsIn, deadmanIn, areasIn, recordIn, workedIn, timerRows, timerIn, headIn, headRenewed, headTimed, headProfiled, storeAt, journalIn, redoIn, marksIn, sessionIn};
 ghost use Rattle.layout.specs.Layout.{journalAt, timerAt, imageLength};
 use journal::Way;
 use record::Area;
@@ -26,6 +26,7 @@ pub struct Head {
     pub used: u16,
     pub ahead: u16,
     pub timer: Timer,
+    pub profile: u8,
 }
 
 // A head from a head: this record, with what is worked out of it, this next id and these used lengths; the rest is kept.
@@ -48,6 +49,15 @@ pub fn with_timer(h: Head, timer: Timer) -> Head
 {
     let mut after = h;
     after.timer = timer;
+    after
+}
+
+// And one with another profile.
+pub fn with_profile(h: Head, profile: u8) -> Head
+    ensures { λ x. ⌜ x ≡ headProfiled h profile ⌝ }
+{
+    let mut after = h;
+    after.profile = profile;
     after
 }
 
@@ -162,13 +172,16 @@ fn put_record(d: &mut [u8], r: Record)
     put_mailbox(d, r.mask, deadman, areas);
 }
 
-fn put_timer(d: &mut [u8], timer: Timer)
+// And the profile, which stands after it.
+fn put_timer(d: &mut [u8], timer: Timer, profile: u8)
     requires { ⌜ imageLength ≤ length (now d) ⌝ }
-    ensures { λ _. ⌜ now (d .exit) ≡ pasted timerAt (joined (timerRows timer)) (now (d .entry)) ⌝ }
+    ensures { λ _. ⌜ now (d .exit) ≡ pasted timerAt (joined (timerRows timer profile)) (now (d .entry)) ⌝ }
 {
     let running = [timer.running];
+    let last = [profile];
     wire::copy(&mut *d, layout::TIMER, &running);
-    wire::put_be(d, layout::TIMER + 1, 8, timer.left);
+    wire::put_be(&mut *d, layout::TIMER + 1, 8, timer.left);
+    wire::copy(d, layout::PROFILE, &last);
 }
 
 // The head, around the stores and marks that stand there.
@@ -182,7 +195,7 @@ pub fn write_head(d: &mut [u8], h: Head)
     put_record(&mut *d, held);
     put_worked(&mut *d, worked, h.next, h.used);
     wire::put_be(&mut *d, layout::AHEAD, 2, h.ahead as u64);
-    put_timer(d, timer);
+    put_timer(d, timer, h.profile);
 }
 
 fn put_stores(d: &mut [u8], journal: [u8; 2048], redo: [u8; 2048], marks: [u8; 64])
@@ -217,6 +230,7 @@ pub fn write(s: Session, d: &mut [u8])
             used: s.used,
             ahead: s.ahead,
             timer: timer,
+            profile: s.profile,
         },
     );
 }
@@ -393,5 +407,6 @@ pub fn read_head(b: &[u8]) -> Head
         used: used,
         ahead: ahead,
         timer: timer_in(b),
+        profile: b[layout::PROFILE],
     }
 }

@@ -1,3 +1,4 @@
 pub mod Carrying
 pub mod Marking
+pub mod Watching
 pub mod Standing

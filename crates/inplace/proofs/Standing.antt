@@ -218,7 +218,7 @@ module _ (b : List ℕ) (long : length b ≡ imageLength) (h : Head) (e back : E
           let n = h .next + madeOf (e .change) in
           let timer = timerAfter (h .timer) (e .change) in
           let stands : imageOf (sessionIn (headAfter h e used) z) ≡ imageOf (renewed (withTimer (sessionIn h b) timer) r n j used (replicate 2048 0) 0) =
-          λ i. imageOf (record { held = r; worked = workedOf r; next = n; used = used; journal = journal-is i; ahead = 0; redo = redo-is i; marks = marks-is i; timer = timer }) in
+          λ i. imageOf (record { held = r; worked = workedOf r; next = n; used = used; journal = journal-is i; ahead = 0; redo = redo-is i; marks = marks-is i; timer = timer; profile = h .profile }) in
           (ap (λ (q : Carried). q .full) k, there ∙ stands ∙ ap (carriedIn b) k)
 
 pub added-in : (b : List ℕ) → length b ≡ imageLength → (used : ℕ) (e : Edit) (end : End) (x : List ℕ) → end ≡ endOf (length (journalIn b)) used e → x ≡ addedTo used e (journalIn b)

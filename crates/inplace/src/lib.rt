@@ -9,8 +9,8 @@ ghost use Rattle.entries.specs.laws.Entries.{Sized};
 ghost use Rattle.marks.specs.Marks.{marksOf};
 ghost use Rattle.journal.specs.Bytes.{entryFor, entryBytes};
 ghost use Rattle.journal.specs.Add.{entryLen, endOf, addedTo, cutFrom};
-ghost use Rattle.session.specs.Session.{storesOk, entriesIn, wellFormed, carriedOf};
-ghost use Rattle.image.specs.Image.{storeAt, storeIn, withPart, withStore, journalIn, sessionIn};
+ghost use Rattle.session.specs.Session.{storesOk, entriesIn, profileOk, wellFormed, carriedOf};
+ghost use Rattle.image.specs.Image.{storeAt, storeIn, withPart, withStore, journalIn, redoIn, sessionIn};
 ghost use Rattle.layout.specs.Layout.{marksSize, journalAt, marksAt, imageLength};
 ghost use Rattle.inplace.specs.InPlace.{Marked, MarksMore, Entered, MarkedTo, headAfter, carriedIn};
 use change::Edit;
@@ -66,6 +66,25 @@ fn stores_ok(lent: &[u8], h: Head) -> bool
     )
 }
 
+// Full, or watch-only with clears alone in both stores, which read as entries.
+fn profile_ok(lent: &[u8], h: Head) -> bool
+    requires { ⌜ (length (now lent) ≡ imageLength) × (storesOk (sessionIn h (now lent)) ≡ true) ⌝ }
+    ensures { λ x. ⌜ x ≡ profileOk (h .profile) (entriesIn (h .used) (journalIn (now (lent .entry)))) (entriesIn (h .ahead) (redoIn (now (lent .entry)))) ⌝ }
+{
+    if h.profile == 0 {
+        return true;
+    }
+    if h.profile != 1 {
+        return false;
+    }
+    let end = layout::JOURNAL + h.used as usize;
+    if !session::only_clears(&lent[layout::JOURNAL..end]) {
+        return false;
+    }
+    let redo_end = layout::REDO + h.ahead as usize;
+    session::only_clears(&lent[layout::REDO..redo_end])
+}
+
 pub fn well_formed(lent: &[u8], h: Head) -> bool
     requires { ⌜ length (now lent) ≡ imageLength ⌝ }
     ensures { λ x. ⌜ x ≡ wellFormed (sessionIn h (now (lent .entry))) ⌝ }
@@ -79,7 +98,10 @@ pub fn well_formed(lent: &[u8], h: Head) -> bool
     if !formed::timer_ok(timer) {
         return false;
     }
-    stores_ok(lent, h)
+    if !stores_ok(lent, h) {
+        return false;
+    }
+    profile_ok(lent, h)
 }
 
 // ---- a store changed where it stands

@@ -8,12 +8,12 @@ use Rattle.wire.specs.Wire.{sumOf}
 abbrev pub storeSize : ℕ
 storeSize = 2048
 
--- after the redo store: 32 marks of two bytes (document 02, i); the timer (h): running, and what is left
+-- after the redo store: 32 marks of two bytes (document 02, i); the timer (h): running, and what is left; the profile (k)
 abbrev pub marksSize : ℕ
 marksSize = 64
 
 abbrev pub laterWidths : List ℕ
-laterWidths = marksSize ∷ 1 ∷ 8 ∷ []
+laterWidths = marksSize ∷ 1 ∷ 8 ∷ 1 ∷ []
 
 -- the head (record, worked-out values, next id, used bytes of the journal), the journal, the used bytes of the redo store, the redo store, and what came later
 unfoldable pub partWidths : List ℕ
@@ -40,5 +40,8 @@ marksAt = 4337
 abbrev pub timerAt : ℕ
 timerAt = 4401
 
+abbrev pub profileAt : ℕ
+profileAt = 4410
+
 abbrev pub imageLength : ℕ
-imageLength = 4410
+imageLength = 4411

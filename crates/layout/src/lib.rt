@@ -18,5 +18,7 @@ pub const MARKS: usize = 4337;
 
 pub const TIMER: usize = 4401;
 
+pub const PROFILE: usize = 4410;
+
 // All of it.
-pub const IMAGE: usize = 4410;
+pub const IMAGE: usize = 4411;

@@ -15,7 +15,7 @@ use Rattle.journal.specs.Ways.{byWay, other}
 use Rattle.journal.specs.Bytes.{entryBytes}
 use Rattle.journal.specs.Add.{entryLen, cutFrom}
 use Rattle.journal.specs.declared.Way.{Way}
-use Rattle.session.specs.Session.{entriesIn, renewed, withTimer, Carried, carriedOf}
+use Rattle.session.specs.Session.{entriesIn, renewed, withTimer, withProfile, Carried, carriedOf}
 use Rattle.session.specs.declared.Session.{Session}
 
 -- ---- what a call asks
@@ -33,6 +33,8 @@ pub data Asks : Type 0 where
   forgets : ℕ → Asks
   -- so many microseconds pass
   passes : ℕ → Asks
+  -- a watch-only session is opened over it
+  opens : Asks
 
 -- a number that is due comes before anything else
 unfoldable pub due : ℕ → Asks → Asks
@@ -107,6 +109,11 @@ timerBell n t = cond (expires n t) 0x0002 0
 unfoldable pub timePassed : ℕ → Session → Session
 timePassed n s = withTimer s (ticked n (s .timer))
 
+-- ---- document 02, k: "Watch-only is opened over a well-formed session: its record, timer and next id, an empty journal and redo store"
+
+unfoldable pub watchOnly : Session → Session
+watchOnly s = renewed (withProfile s 1) (s .held) (s .next) (replicate 2048 0) 0 (replicate 2048 0) 0
+
 -- ---- what comes of it
 
 -- the session answer, the session, doorbell and kind (0 where a call has none), and the reply buffer as it is left
@@ -137,3 +144,4 @@ settled s d (makes e bell y) = carriedSays (carriedOf s e) s bell y d
 settled s d (moves w at e) = done (sessionMoved w s at e (putOf (s .held) e .after)) 0 (kindOf (e .change)) d
 settled s d (forgets n) = done (forgotten n s) 0 0 d
 settled s d (passes n) = done (timePassed n s) (timerBell n (s .timer)) 0 d
+settled s d opens = done (watchOnly s) 0 0 d

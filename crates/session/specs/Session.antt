@@ -1,8 +1,8 @@
--- Document 01, "What the stand-in holds", with document 02's redo store (d), marks (i) and timer (h): the session, when it is well formed, and what carrying a change
--- out makes of it.
+-- Document 01, "What the stand-in holds", with document 02's redo store (d), marks (i), timer (h) and profile (k): the session, when it is well formed, and what
+-- carrying a change out makes of it.
 use Prim.Native.Nat.{ℕ, _+_}
 use mathlib.Core.Bool.{Bool, true, false, cond, not}
-use mathlib.Core.List.{List}
+use mathlib.Core.List.{List, [], _∷_}
 use lib.ListN.{length, take, drop, replicate}
 use lib.Dec.{ltb, eqb}
 use Rattle.wire.specs.Wire.{allAre}
@@ -27,10 +27,10 @@ use Rattle.session.specs.declared.Session.{Session}
 
 -- "A session is one value: record, worked-out values, next log id, and a journal of 2,048 bytes, all zero when fresh, with its used length"
 -- and "a redo store of 2,048 bytes in the session" (d), with its own; "Marks are part of the session" (i): 32 of two bytes;
--- the timer (h), off
+-- the timer (h), off; the full profile (k)
 unfoldable pub freshSession : Session
 freshSession =
-    record { held = freshRecord; worked = workedOf freshRecord; next = 1; journal = replicate 2048 0; used = 0; redo = replicate 2048 0; ahead = 0; marks = replicate 64 0; timer = timerOff }
+    record { held = freshRecord; worked = workedOf freshRecord; next = 1; journal = replicate 2048 0; used = 0; redo = replicate 2048 0; ahead = 0; marks = replicate 64 0; timer = timerOff; profile = 0 }
 
 -- ---- "A session is well formed if"
 
@@ -66,9 +66,26 @@ storesOk s =
     (cond (not (same (s .marks) (marksFor (s .journal) (s .used)))) false
     (storeOk After (s .redo) (s .ahead))))
 
+-- k: a watch-only session's stores hold clears, kind 01, and "another kind in either store makes the session ill formed"
+unfoldable pub onlyClears : List Entry → Bool
+onlyClears [] = true
+onlyClears (e ∷ es) = cond (not (eqb (e .kind) 0x01)) false (onlyClears es)
+
+-- the profile is 0, full, or 1, watch-only
+unfoldable pub profileOk : ℕ → List Entry → List Entry → Bool
+profileOk profile journal redo =
+    cond (eqb profile 0) true
+    (cond (not (eqb profile 1)) false
+    (cond (not (onlyClears journal)) false
+    (onlyClears redo)))
+
 -- h: running is 0 or 1; "off means 0 left"
 unfoldable pub wellFormed : Session → Bool
-wellFormed s = cond (not (heldOk (s .held) (s .worked) (s .next))) false (cond (not (timerOk (s .timer))) false (storesOk s))
+wellFormed s =
+    cond (not (heldOk (s .held) (s .worked) (s .next))) false
+    (cond (not (timerOk (s .timer))) false
+    (cond (not (storesOk s)) false
+    (profileOk (s .profile) (entriesIn (s .used) (s .journal)) (entriesIn (s .ahead) (s .redo)))))
 
 -- ---- carrying a change out
 
@@ -93,11 +110,15 @@ madeOf (SetTimer timer) = 0
 -- stores, with the journal's marks; whatever isn't named here is kept
 unfoldable pub renewed : Session → Record → ℕ → List ℕ → ℕ → List ℕ → ℕ → Session
 renewed s held next journal used redo ahead =
-    record { held = held; worked = workedOf held; next = next; journal = journal; used = used; redo = redo; ahead = ahead; marks = marksFor journal used; timer = s .timer }
+    record { held = held; worked = workedOf held; next = next; journal = journal; used = used; redo = redo; ahead = ahead; marks = marksFor journal used; timer = s .timer; profile = s .profile }
 
 -- and one with another timer
 unfoldable pub withTimer : Session → Timer → Session
-withTimer s timer = record { held = s .held; worked = s .worked; next = s .next; journal = s .journal; used = s .used; redo = s .redo; ahead = s .ahead; marks = s .marks; timer = timer }
+withTimer s timer = record { held = s .held; worked = s .worked; next = s .next; journal = s .journal; used = s .used; redo = s .redo; ahead = s .ahead; marks = s .marks; timer = timer; profile = s .profile }
+
+-- and one with another profile
+unfoldable pub withProfile : Session → ℕ → Session
+withProfile s profile = record { held = s .held; worked = s .worked; next = s .next; journal = s .journal; used = s .used; redo = s .redo; ahead = s .ahead; marks = s .marks; timer = s .timer; profile = profile }
 
 -- the session after a change, or that its entry has no room
 pub record Carried : Type 0 where

@@ -2,7 +2,8 @@
 ghost use mathlib.Core.Path.{_≡_};
 ghost use mathlib.Core.Bool.{false, cond};
 ghost use lib.ListN.{length};
-ghost use Rattle.session.specs.Session.{freshSession, workedFits, heldOk, storeOk, entriesIn, madeOf};
+ghost use Rattle.session.specs.Session.{freshSession, workedFits, heldOk, storeOk, entriesIn, onlyClears, madeOf};
+ghost use Rattle.entries.specs.Entries.{entriesOf, scan, ReadsWhole};
 ghost use Rattle.journal.specs.Read.{marksOk};
 use change::Change;
 use journal::Way;
@@ -20,6 +21,7 @@ pub struct Session {
     pub ahead: u16,
     pub marks: [u8; 64],
     pub timer: Timer,
+    pub profile: u8,
 }
 
 pub fn fresh() -> Session
@@ -40,6 +42,7 @@ pub fn fresh() -> Session
             running: 0,
             left: 0,
         },
+        profile: 0,
     }
 }
 
@@ -82,6 +85,21 @@ pub fn store_ok(way: Way, j: &[u8], used: usize, m: &[u8]) -> bool
         return false;
     }
     wire::all_zero(&j[used..])
+}
+
+// Of bytes that read as entries, whether each is of kind 01: those have 4 bytes.
+pub fn only_clears(b: &[u8]) -> bool
+    requires { ⌜ ReadsWhole (now b) ⌝ }
+    ensures { λ x. ⌜ x ≡ onlyClears (entriesOf (scan (now (b .entry)))) ⌝ }
+{
+    let mut at = 0;
+    while at < b.len() {
+        if b[at] != 0x01 {
+            return false;
+        }
+        at += 4;
+    }
+    true
 }
 
 // ---- the id counter

@@ -1,6 +1,6 @@
 use native.Mathlib.Omega.{arith}
 use Rattle.wire.specs.laws.Wire.{bytes-of}
-use Rattle.image.specs.Image.{headIn}
+use Rattle.image.specs.Image.{byteAt, headIn}
 use borrow.Author.Needs.{needs}
 use Rattle.image.proofs.read_head.Statement.{statement}
 use Rattle.image.proofs.read_head.Tie as tie
@@ -23,12 +23,15 @@ be16-requires-3 c κs = search needs
 timer-in-requires : tie.Need-timer-in-requires
 timer-in-requires c κs = search needs
 
+shared-slice-read-t9 : tie.Need-shared-slice-read-t9
+shared-slice-read-t9 c = search needs
+
 returns : tie.Need-returns
 unfolding headIn
 returns c = (
-  λ i. record { held = (c .before .before .before .before .before .record-in .ensures) i; worked = (c .before .before .before .before .worked-in .ensures) i; next = (c .before .before .before .be16 .ensures) i; used = (c .before .before .be162 .ensures) i; ahead = (c .before .be163 .ensures) i; timer = (c .timer-in .ensures) i },
-  bytes-of (c .before .before .before .before .before .before .before .args .b .now) (λ i. omega (arith, c .before .before .before .before .before .before .shared-slice-known .given i)),
-)
+    λ i. record { held = (c .before .before .before .before .before .before .record-in .ensures) i; worked = (c .before .before .before .before .before .worked-in .ensures) i; next = (c .before .before .before .before .be16 .ensures) i; used = (c .before .before .before .be162 .ensures) i; ahead = (c .before .before .be163 .ensures) i; timer = (c .before .timer-in .ensures) i; profile = byteAt 4410 (c .before .before .before .before .before .before .before .before .args .b .now) },
+    bytes-of (c .before .before .before .before .before .before .before .before .args .b .now) (λ i. omega (arith, c .before .before .before .before .before .before .before .shared-slice-known .given i)),
+    )
 
 pub read-head-spec : {M : Type 1} → statement M
 read-head-spec =
@@ -40,4 +43,5 @@ read-head-spec =
     be16-requires-2
     be16-requires-3
     timer-in-requires
+    shared-slice-read-t9
     returns)

@@ -20,7 +20,7 @@ same-length c = search needs
 
 returns-2 : tie.Need-returns-2
 unfolding writtenTo sessionIn
-returns-2 c = let s = c .before .before .before .before .before .before .before .before .before .before .before .before .before .before .before .before .args .s in let p = c .before .before .before .before .before .before .put-stores .ensures in else-ne _ _ (c .before .before .before .before .before .before .before .before .before .before .before .before .before .before .if1 .left) (c .before .before .write-head .ensures ∙ (λ i. imageOf (record { held = s .held; worked = s .worked; next = s .next; used = s .used; journal = p .0 i; ahead = s .ahead; redo = p .1 .0 i; marks = p .1 .1 i; timer = s .timer })))
+returns-2 c = let s = c .before .before .before .before .before .before .before .before .before .before .before .before .before .before .before .before .args .s in let p = c .before .before .before .before .before .before .put-stores .ensures in else-ne _ _ (c .before .before .before .before .before .before .before .before .before .before .before .before .before .before .if1 .left) (c .before .before .write-head .ensures ∙ (λ i. imageOf (record { held = s .held; worked = s .worked; next = s .next; used = s .used; journal = p .0 i; ahead = s .ahead; redo = p .1 .0 i; marks = p .1 .1 i; timer = s .timer; profile = s .profile })))
 
 pub write-spec : {M : Type 1} → statement M
 write-spec =

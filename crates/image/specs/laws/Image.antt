@@ -39,9 +39,9 @@ widths-record r sets thermal = λ i.
 
 widths-session : (s : Session) → TypedSession s → widthsOf (sessionRows s) ≡ widths
 unfolding widthsOf widths sessionRows recordRows headRows throttlesRows thermalRows logsRows mailboxRows workedRows timerRows toBE
-widths-session s t = λ i. widths-record (s .held) (t .held .sets) (t .held .thermal) i ++ (2 ∷ 1 ∷ 1 ∷ 1 ∷ 2 ∷ 2 ∷ t .journal i ∷ 2 ∷ t .redo i ∷ t .marks i ∷ 1 ∷ 8 ∷ [])
+widths-session s t = λ i. widths-record (s .held) (t .held .sets) (t .held .thermal) i ++ (2 ∷ 1 ∷ 1 ∷ 1 ∷ 2 ∷ 2 ∷ t .journal i ∷ 2 ∷ t .redo i ∷ t .marks i ∷ 1 ∷ 8 ∷ 1 ∷ [])
 
--- an image has 4,410 bytes
+-- an image has 4,411 bytes
 pub length-image : (s : Session) → TypedSession s → length (imageOf s) ≡ imageLength
 unfolding imageOf recordWidths widths sumOf
 length-image s t = length-joined (sessionRows s) ∙ ap sumOf (widths-session s t)
@@ -137,6 +137,7 @@ module _ (s : Session) (t : Typed s) where
         redo = row 36 i;
         marks = row 37 i;
         timer = record { running = byte-back 4401 _ (imageOf s) (row 38) i; left = number-back 8 4402 _ (imageOf s) (row 39) (t .session .timer) i };
+        profile = byte-back 4410 _ (imageOf s) (row 40) i;
       }
 
 -- ---- writing what was read gives the bytes
@@ -194,6 +195,7 @@ module _ (b : List ℕ) (bytes : Bytes b) (long : length b ≡ imageLength) wher
       ∷ partAt 64 4337 b
       ∷ one 4401 (lit< tt) i
       ∷ number 8 4402 (lit< tt) i
+      ∷ one 4410 (lit< tt) i
       ∷ []
 
   pub image-session : imageOf (sessionOf b) ≡ b

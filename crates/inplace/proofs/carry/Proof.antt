@@ -42,7 +42,7 @@ write-head-requires : tie.Need-write-head-requires
 write-head-requires c κs = length-cut (c .before .before .before .before .before .before .before .before .before .before .before .before .before .before .before .before .before .args .lent .now) (c .before .before .before .before .before .before .before .before .before .before .before .before .before .before .before .before .before .pre .0) _ _ _ _ _ (c .before .before .before .before .before .before .before .before .before .before .before .before .before .before .before .takes-back .ensures) (c .before .before .before .before .before .before .before .before .before .before .before .before .enter .ensures .0) (c .before .before .before .before .before .before .before .before .before .before .before .before .enter .ensures .1) (c .before .before .before .before .before .before .before .before .before .before .before .before .before .before .before .before .before .pre .1) _ (c .before .before .before .before .before .before .before .before .end .given .1) _ (c .before .before .before .before .cut .ensures)
 
 same-length-2 : tie.Need-same-length-2
-same-length-2 c = search needs
+same-length-2 c = omega (arith, (c .before .lent3 .given), (c .before .before .before .before .before .before .lent2 .given), (c .before .before .before .before .before .before .before .before .before .before .before .before .before .before .lent .given))
 
 returns-2 : tie.Need-returns-2
 returns-2 c = done-in (c .before .before .before .before .before .before .before .before .before .before .before .before .before .before .before .before .before .before .before .before .args .lent .now) (c .before .before .before .before .before .before .before .before .before .before .before .before .before .before .before .before .before .before .before .before .pre .0) _ _ _ _ _ (c .before .before .before .before .before .before .before .before .before .before .before .before .before .before .before .before .before .before .takes-back .ensures) (c .before .before .before .before .before .before .before .before .before .before .before .before .before .before .before .enter .ensures .0) (c .before .before .before .before .before .before .before .before .before .before .before .before .before .before .before .enter .ensures .1) (c .before .before .before .before .before .before .before .before .before .before .before .before .before .before .before .before .before .before .before .before .pre .1) _ (c .before .before .before .before .before .before .before .before .before .before .before .end .given .1) _ (c .before .before .before .before .before .before .before .cut .ensures) _ _ (c .before .before .before .before .head-after .ensures) (c .before .before .write-head .ensures)

@@ -16,7 +16,7 @@ returns : tie.Need-returns
 unfolding freshSession
 returns c = let held = c .before .fresh .ensures in
     let worked = c .work-out .ensures ∙ ap workedOf held in
-    λ i. record { held = held i; worked = worked i; next = 1; journal = replicate 2048 0; used = 0; redo = replicate 2048 0; ahead = 0; marks = replicate 64 0; timer = timerOff }
+    λ i. record { held = held i; worked = worked i; next = 1; journal = replicate 2048 0; used = 0; redo = replicate 2048 0; ahead = 0; marks = replicate 64 0; timer = timerOff; profile = 0 }
 
 pub fresh-spec : {M : Type 1} → statement M
 fresh-spec = tie.close (tie.spec fresh-requires work-out-requires returns)

@@ -15,10 +15,11 @@ use Rattle.marks.specs.laws.Tested.{both-true, both-hold}
 use Rattle.journal.specs.Read.{entryOk, allOk, scanOk, entriesOk}
 use Rattle.journal.specs.declared.Way.{Way}
 use Rattle.journal.specs.declared.Way.the-variants.{Before}
-use Rattle.session.specs.Session.{entriesIn, wellFormed, renewed}
+use Rattle.session.specs.Session.{entriesIn, onlyClears, wellFormed, renewed}
 use Rattle.session.specs.Road.{oldest, freedBy, movedDown, sessionFreed, forgotten}
 use Rattle.session.specs.laws.Session.{Store, formed, formed-ok}
 use Rattle.session.specs.laws.Reads.{reads}
+use Rattle.session.specs.laws.Watch.{clears-take, profile-kept, entries-read}
 use Rattle.session.specs.declared.Session.{Session}
 
 -- ---- entries in two parts
@@ -113,6 +114,11 @@ forgotten-formed n s whole =
     let at = length (written (oldest n (r .entries))) in
     let is : freedBy n s ≡ at = freed-is n s (r .entries) (r .scanned) in
     let stands = left-stands n (s .used) (s .journal) (f .journal .fits) (r .entries) (r .scanned) (r .good) (f .journal .unused) in
+    let kept-clears : onlyClears (entriesIn (s .used) (s .journal)) ≡ true → onlyClears (entriesIn (s .used - freedBy n s) (movedDown (freedBy n s) (s .journal))) ≡ true = λ j.
+    ap onlyClears
+    (ap (λ (k : ℕ). entriesIn (s .used - k) (movedDown k (s .journal))) is
+    ∙ entries-read (s .used - at) (movedDown at (s .journal)) (newer n (r .entries)) (left-reads n (s .used) (s .journal) (f .journal .fits) (r .entries) (r .scanned)))
+    ∙ clears-take (length (r .entries) - n) (r .entries) (sym (ap onlyClears (entries-read (s .used) (s .journal) (r .entries) (r .scanned))) ∙ j) in
     formed-ok (forgotten n s)
     (record {
       record-ok = f .record-ok;
@@ -122,4 +128,5 @@ forgotten-formed n s whole =
       journal = subst (λ (k : ℕ). Store Before (movedDown k (s .journal)) (s .used - k)) (sym is) stands;
       marks-are = refl;
       redo = f .redo;
+      profile-is = profile-kept (s .profile) _ _ _ _ (f .profile-is) (λ j r. (kept-clears j, r));
     })

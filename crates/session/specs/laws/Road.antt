@@ -11,7 +11,7 @@ use Rattle.wire.specs.laws.Cases.{cond-cases, if-b, else-b}
 use Rattle.record.specs.Record.{workedOf}
 use Rattle.change.specs.declared.Edit.{Edit}
 use Rattle.session.specs.Session.{wellFormed, renewed, withTimer, carriedOf}
-use Rattle.session.specs.Road.{Asks, refuses, tells, makes, moves, forgets, passes, due, sessionMoved, sessionFreed, forgotten, timePassed, Said, kept, done, carriedSays, settled}
+use Rattle.session.specs.Road.{Asks, refuses, tells, makes, moves, forgets, passes, opens, due, sessionMoved, sessionFreed, forgotten, timePassed, watchOnly, Said, kept, done, carriedSays, settled}
 use Rattle.session.specs.laws.Session.{formed, carried-worked}
 use Rattle.session.specs.declared.Session.{Session}
 
@@ -43,19 +43,21 @@ module _ (s : Session) (d : List ℕ) where
   refusal-keeps (moves w at e) = λ h. absurd (h refl)
   refusal-keeps (forgets n) = λ h. absurd (h refl)
   refusal-keeps (passes n) = λ h. absurd (h refl)
+  refusal-keeps opens = λ h. absurd (h refl)
 
   -- what is worked out is the record's
   abbrev Worked : Said → Type 0
   Worked q = q .session .worked ≡ workedOf (q .session .held)
 
   pub worked-after : wellFormed s ≡ true → (a : Asks) → Worked (settled s d a)
-  unfolding settled carriedSays kept done sessionMoved forgotten sessionFreed timePassed renewed withTimer
+  unfolding settled carriedSays kept done sessionMoved forgotten sessionFreed timePassed watchOnly renewed withTimer
   worked-after w (refuses n) = formed s w .worked-is
   worked-after w (tells bell y) = formed s w .worked-is
   worked-after w (makes e bell y) = cond-cases Worked (carriedOf s e .full) (λ f. formed s w .worked-is) (λ f. carried-worked s e f)
   worked-after w (moves v at e) = refl
   worked-after w (forgets n) = refl
   worked-after w (passes n) = formed s w .worked-is
+  worked-after w opens = refl
 
   -- ---- a call that is answered with a reply: refused with a number, or told with its own doorbell, a change with the reply of success
 
@@ -67,6 +69,7 @@ module _ (s : Session) (d : List ℕ) where
     Speaks (moves w at e) = ⊥
     Speaks (forgets n) = ⊥
     Speaks (passes n) = ⊥
+    Speaks opens = ⊥
 
     -- a session that isn't returned as it was comes with the reply of success
     abbrev Erred : Said → Type 0
@@ -80,6 +83,7 @@ module _ (s : Session) (d : List ℕ) where
     error-keeps (moves w at e) h = absurd h
     error-keeps (forgets n) h = absurd h
     error-keeps (passes n) h = absurd h
+    error-keeps opens h = absurd h
 
     -- on answer 0 the doorbell is rung
     abbrev Rung : Said → Type 0
@@ -96,3 +100,4 @@ module _ (s : Session) (d : List ℕ) where
     bell-rung (moves w at e) h = absurd h
     bell-rung (forgets n) h = absurd h
     bell-rung (passes n) h = absurd h
+    bell-rung opens h = absurd h

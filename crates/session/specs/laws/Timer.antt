@@ -29,7 +29,7 @@ pub timer-formed : (s : Session) (t : Timer) → wellFormed s ≡ true → timer
 unfolding withTimer
 timer-formed s t whole ok =
     let f = formed s whole in
-    formed-ok (withTimer s t) (record { record-ok = f .record-ok; worked-is = f .worked-is; timer-ok = ok; both-fit = f .both-fit; journal = f .journal; marks-are = f .marks-are; redo = f .redo })
+    formed-ok (withTimer s t) (record { record-ok = f .record-ok; worked-is = f .worked-is; timer-ok = ok; both-fit = f .both-fit; journal = f .journal; marks-are = f .marks-are; redo = f .redo; profile-is = f .profile-is })
 
 -- one that runs may have any time left
 runs-ok : (t : Timer) (left : ℕ) → timerOk t ≡ true → eqb (t .running) 0 ≡ false → timerOk (record { running = t .running; left = left }) ≡ true

@@ -1,6 +1,6 @@
 -- Document 01, "OCC packets": a whole packet judged. After 0x12 and 0x14 of the packet come 0x11, 0x12, 0x13, 0x16, 0x15.
 use Prim.Native.Nat.{ℕ, _-_, _*_}
-use mathlib.Core.Bool.{Bool, true, cond, not}
+use mathlib.Core.Bool.{cond, not}
 use mathlib.Core.List.{List}
 use lib.ListN.{length, getD, drop, replicate}
 use lib.Dec.{ltb, eqb}
@@ -14,6 +14,7 @@ use Rattle.occ.specs.declared.Verdict.the-variants.{Refuse, Make}
 use Rattle.occ.specs.declared.Judged.{Judged}
 use Rattle.sets.specs.declared.Sets.{Sets}
 use Rattle.sets.specs.declared.Frus.{Frus}
+use Rattle.occ.specs.Open.{openTo}
 use Rattle.occ.specs.Commands.{pollVerdict, clearVerdict, stateVerdict, roleVerdict, capsVerdict, userVerdict, resetVerdict}
 use Rattle.sets.specs.Sets.{emptySets, setsOf, emptyFrus, frusOf}
 
@@ -68,10 +69,6 @@ formatJudged format state role d =
 
 unfoldable pub configureJudged : ℕ → ℕ → List ℕ → Judged
 configureJudged state role d = cond (eqb (length d) 0) (plainly (Refuse 0x12)) (formatJudged (getD d 0 0) state role d)
-
--- 0x11: "type unknown, or the BMC sends other than 0x00 and 0x22 (H)"
-unfoldable pub openTo : ℕ → ℕ → Bool
-openTo sender kind = cond (not (eqb sender 0x20)) true (cond (eqb kind 0x00) true (eqb kind 0x22))
 
 unfoldable pub typeJudged : ℕ → Record → Worked → ℕ → List ℕ → Judged
 typeJudged kind r w next d =

@@ -1,3 +1,4 @@
+pub mod Open
 pub mod Commands
 pub mod Judge
 pub mod Conditions

@@ -1,3 +1,4 @@
+pub mod Open
 pub mod Exactly
 pub mod Made
 pub mod Statuses

@@ -2,7 +2,8 @@
 ghost use mathlib.Core.Path.{_≡_};
 ghost use Prim.Native.Nat.{_≤_};
 ghost use Rattle.occ.specs.Commands.{pollVerdict, clearVerdict, stateFits, notReady, stateVerdict, roleVerdict, capsFor, capsVerdict, userAllowed, userFor, userVerdict, logDue, resetFor, resetVerdict};
-ghost use Rattle.occ.specs.Judge.{plainly, setsStatus, throttlesJudged, thermalJudged, configureJudged, openTo, judgeOf};
+ghost use Rattle.occ.specs.Judge.{plainly, setsStatus, throttlesJudged, thermalJudged, configureJudged, judgeOf};
+ghost use Rattle.occ.specs.Open.{rowOf, openTo, openIn, shut, byProfile};
 use change::Change;
 use change::Tables;
 use record::Caps;
@@ -16,6 +17,12 @@ pub enum Verdict {
     Refuse(u8),
     Poll,
     Make(Change),
+}
+
+// A row of the table of what is open: whether the BMC may send it, and whether it is open in a watch-only session.
+pub struct Row {
+    pub bmc: bool,
+    pub watch: bool,
 }
 
 // A verdict with the change's tables beside it, zero where it has none.
@@ -329,17 +336,60 @@ fn configure(state: u8, role: u8, d: &[u8]) -> Judged
 
 // ---- every command
 
-// The BMC may send 0x00 and 0x22 only.
+// The table of what is open: HTMGT may send every type, and every type is open in a full session.
+fn row_of(kind: u8) -> Row
+    ensures { λ x. ⌜ x ≡ rowOf kind ⌝ }
+{
+    match kind {
+        0x00 => Row {
+            bmc: true,
+            watch: true,
+        },
+        0x12 => Row {
+            bmc: false,
+            watch: true,
+        },
+        0x20 => Row {
+            bmc: false,
+            watch: false,
+        },
+        0x21 => Row {
+            bmc: false,
+            watch: false,
+        },
+        0x22 => Row {
+            bmc: true,
+            watch: false,
+        },
+        0x25 => Row {
+            bmc: false,
+            watch: false,
+        },
+        0x01..=0x11 | 0x13..=0x1F | 0x23..=0x24 | 0x26..=0xFF => Row {
+            bmc: false,
+            watch: false,
+        },
+    }
+}
+
 fn open_to(sender: u8, kind: u8) -> bool
     ensures { λ x. ⌜ x ≡ openTo sender kind ⌝ }
 {
     if sender != 0x20 {
         return true;
     }
-    if kind == 0x00 {
+    let open = row_of(kind);
+    open.bmc
+}
+
+fn open_in(profile: u8, kind: u8) -> bool
+    ensures { λ x. ⌜ x ≡ openIn profile kind ⌝ }
+{
+    if profile == 0 {
         return true;
     }
-    kind == 0x22
+    let open = row_of(kind);
+    open.watch
 }
 
 // A whole packet's type and data, judged in document 01's order of statuses.
@@ -363,4 +413,27 @@ pub fn judge(r: Record, w: Worked, next: u16, sender: u8, kind: u8, d: &[u8]) ->
         0x25 => plain(reset_prep(role, logs, next, d)),
         0x01..=0x11 | 0x13..=0x1F | 0x23..=0x24 | 0x26..=0xFF => plain(Verdict::Refuse(0x11)),
     }
+}
+
+// Where the profile shuts a type, what would be done is 0x16, and so is what would be 0x15.
+fn shut(verdict: Verdict) -> Verdict
+    ensures { λ x. ⌜ x ≡ shut verdict ⌝ }
+{
+    let Verdict::Refuse(status) = verdict else {
+        return Verdict::Refuse(0x16);
+    };
+    if status == 0x15 {
+        return Verdict::Refuse(0x16);
+    }
+    Verdict::Refuse(status)
+}
+
+// What was judged, in a session of this profile.
+pub fn by_profile(profile: u8, kind: u8, verdict: Verdict) -> Verdict
+    ensures { λ x. ⌜ x ≡ byProfile profile kind verdict ⌝ }
+{
+    if open_in(profile, kind) {
+        return verdict;
+    }
+    shut(verdict)
 }

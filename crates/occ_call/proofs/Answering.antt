@@ -17,6 +17,7 @@ use denote.Enum.Declared.{tagOf}
 use Rattle.record.specs.declared.Record.{Record}
 use Rattle.record.specs.declared.Worked.{Worked}
 use Rattle.change.specs.declared.Tables.{Tables}
+use Rattle.occ.specs.Open.{byProfile}
 use Rattle.occ.specs.declared.Verdict.{Verdict}
 use Rattle.occ.specs.declared.Verdict.the-variants.{Refuse, Poll, Make}
 use Rattle.occ.specs.declared.Judged.{Judged}
@@ -81,25 +82,27 @@ module _ (h : Head) (b : List ℕ) (here : HeadStands h b) (sender : ℕ) (c d :
   abbrev faultBeside : Verdict → Blame
   faultBeside v = faultFor v (h .held) (getD c 1 0) (dataOf c)
 
-  module _ (j : Judged) (asked : j ≡ askedOf (h .held) (h .worked) (h .next) sender c) where
+  module _ (j : Judged) (asked : j ≡ askedOf (h .held) (h .worked) (h .next) sender c) (v : Verdict) (shown : v ≡ byProfile (h .profile) (getD c 1 0) (j .verdict)) where
     abbrev asks : Asks
-    asks = verdictAsks (h .held) (h .worked) (getD c 0 0) (getD c 1 0) d (j .tables) (j .verdict)
+    asks = verdictAsks (h .held) (h .worked) (getD c 0 0) (getD c 1 0) d (j .tables) v
 
-    by-verdict : (q : Said) (f : Blame) → q ≡ settled s d asks → f ≡ faultBeside (j .verdict) → occLeft q f ≡ occReadLeft s sender c d
+    by-verdict : (q : Said) (f : Blame) → q ≡ settled s d asks → f ≡ faultBeside v → occLeft q f ≡ occReadLeft s sender c d
     unfolding occReadLeft occRead whyRead judgedAsks sessionIn
     by-verdict q f e g = λ i.
-        occLeft ((e ∙ ap (λ (k : Judged). settled s d (judgedAsks (h .held) (h .worked) (getD c 0 0) (getD c 1 0) d k)) asked) i)
-        ((g ∙ ap (λ (k : Judged). faultBeside (k .verdict)) asked) i)
+        occLeft
+        ((e ∙ ap (λ (u : Verdict). settled s d (verdictAsks (h .held) (h .worked) (getD c 0 0) (getD c 1 0) d (j .tables) u)) shown
+        ∙ ap (λ (k : Judged). settled s d (judgedAsks (h .profile) (h .held) (h .worked) (getD c 0 0) (getD c 1 0) d k)) asked) i)
+        ((g ∙ ap faultBeside shown ∙ ap (λ (k : Judged). faultBeside (byProfile (h .profile) (getD c 1 0) (k .verdict))) asked) i)
 
-    pub told-in : (t : Told) (z : List ℕ) (f : Blame) → t ≡ besideOf 0 f → f ≡ faultBeside (j .verdict) → (tagOf the-type (j .verdict) ≡ 2 → ⊥)
-        → z ≡ toldOf (j .verdict) (h .held) (h .worked) (getD c 0 0) (getD c 1 0) d → Hears t b z
+    pub told-in : (t : Told) (z : List ℕ) (f : Blame) → t ≡ besideOf 0 f → f ≡ faultBeside v → (tagOf the-type v ≡ 2 → ⊥)
+        → z ≡ toldOf v (h .held) (h .worked) (getD c 0 0) (getD c 1 0) d → Hears t b z
     unfolding occLeft settled done
     told-in t z f p g n q =
         parts t b z _ ((λ i. record { told = p i; image = here .image i; reply = q i })
-        ∙ by-verdict _ f (ap (settled s d) (told (h .held) (h .worked) (getD c 0 0) (getD c 1 0) d (j .tables) (j .verdict) n)) g)
+        ∙ by-verdict _ f (ap (settled s d) (told (h .held) (h .worked) (getD c 0 0) (getD c 1 0) d (j .tables) v n)) g)
 
     -- a change: y are the lent bytes after it
-    module _ (ch : Change) (v : j .verdict ≡ Make ch) (t : Told) (full : Bool) (y : List ℕ)
+    module _ (ch : Change) (is : v ≡ Make ch) (t : Told) (full : Bool) (y : List ℕ)
         (room : full ≡ carriedOf s (record { change = ch; tables = j .tables }) .full) (left : y ≡ carriedIn b (carriedOf s (record { change = ch; tables = j .tables }))) where
       abbrev edit : Edit
       edit = record { change = ch; tables = j .tables }
@@ -107,7 +110,7 @@ module _ (h : Head) (b : List ℕ) (here : HeadStands h b) (sender : ℕ) (c d :
       by-made : (q : Said) → q ≡ settled s d (makes edit 0 (replied (getD c 0 0) (getD c 1 0) 0x00 [] d)) → occLeft q Nothing ≡ occReadLeft s sender c d
       unfolding verdictAsks faultFor
       by-made q e =
-          by-verdict q Nothing (e ∙ sym (ap (λ (u : Verdict). settled s d (verdictAsks (h .held) (h .worked) (getD c 0 0) (getD c 1 0) d (j .tables) u)) v)) (sym (ap faultBeside v))
+          by-verdict q Nothing (e ∙ sym (ap (λ (u : Verdict). settled s d (verdictAsks (h .held) (h .worked) (getD c 0 0) (getD c 1 0) d (j .tables) u)) is)) (sym (ap faultBeside is))
 
       pub full-in : t ≡ record { answer = 5; small = 0; beside = 0 } → full ≡ true → Hears t y d
       unfolding occLeft besideOf kept
@@ -133,7 +136,7 @@ module _ (b : List ℕ) (long : length b ≡ imageLength) (h : Head) (read : h �
   s₀ = sessionIn h b
 
   abbrev asked-first : ℕ → Asks
-  asked-first k = due k (occRead (s₀ .held) (s₀ .worked) (s₀ .next) sender c d)
+  asked-first k = due k (occRead s₀ sender c d)
 
   by-refusal : occLeft (settled s₀ d (asked-first n)) (whyFrom n s₀ sender c) ≡ occOn b sender c d
   unfolding occOn occCall occAsks occWhy occRefusal
@@ -145,14 +148,14 @@ module _ (b : List ℕ) (long : length b ≡ imageLength) (h : Head) (read : h �
   unfolding due whyFrom settled occLeft besideOf kept
   refused-in bytes t p z =
       parts t b d _ ((λ i. record { told = p i; image = stands b long h read bytes .image i; reply = d })
-      ∙ (λ i. occLeft (settled s₀ d (if-ne (refuses n) (occRead (s₀ .held) (s₀ .worked) (s₀ .next) sender c d) z refl i)) (if-ne Nothing (whyRead s₀ sender c) z refl i))
+      ∙ (λ i. occLeft (settled s₀ d (if-ne (refuses n) (occRead s₀ sender c d) z refl i)) (if-ne Nothing (whyRead s₀ sender c) z refl i))
       ∙ by-refusal)
 
   pub heard-in : n ≡ 0 → (t : Told) (y z : List ℕ) → Parts t y z (occReadLeft s₀ sender c d) → Parts t y z (occOn b sender c d)
   unfolding occReadLeft due whyFrom
   heard-in none t y z q =
       parts t y z _ ((λ i. record { told = q .0 i; image = q .1 .0 i; reply = q .1 .1 i })
-      ∙ (λ i. occLeft (settled s₀ d (else-ne (refuses n) (occRead (s₀ .held) (s₀ .worked) (s₀ .next) sender c d) none refl i)) (else-ne Nothing (whyRead s₀ sender c) none refl i))
+      ∙ (λ i. occLeft (settled s₀ d (else-ne (refuses n) (occRead s₀ sender c d) none refl i)) (else-ne Nothing (whyRead s₀ sender c) none refl i))
       ∙ by-refusal)
 
 -- bytes that are no image

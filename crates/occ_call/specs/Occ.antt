@@ -11,6 +11,7 @@ use Rattle.packet.specs.Packet.{packetStatus, dataOf, noLogId, replied}
 use Rattle.poll.specs.Poll.{pollData}
 use Rattle.record.specs.declared.Record.{Record}
 use Rattle.record.specs.declared.Worked.{Worked}
+use Rattle.occ.specs.Open.{byProfile}
 use Rattle.occ.specs.Judge.{plainly, judgeOf}
 use Rattle.occ.specs.declared.Verdict.{Verdict}
 use Rattle.occ.specs.declared.Verdict.the-variants.{Refuse, Poll, Make}
@@ -52,8 +53,9 @@ verdictAsks held worked seq kind d t (Refuse status) = tells 0 (toldOf (Refuse s
 verdictAsks held worked seq kind d t Poll = tells 0 (toldOf Poll held worked seq kind d)
 verdictAsks held worked seq kind d t (Make change) = makes (record { change = change; tables = t }) 0 (replied seq kind 0x00 [] d)
 
-unfoldable pub judgedAsks : Record → Worked → ℕ → ℕ → List ℕ → Judged → Asks
-judgedAsks held worked seq kind d j = verdictAsks held worked seq kind d (j .tables) (j .verdict)
+-- k: where the profile shuts the type, what was judged becomes 0x16 (occ/specs/Open.antt)
+unfoldable pub judgedAsks : ℕ → Record → Worked → ℕ → ℕ → List ℕ → Judged → Asks
+judgedAsks profile held worked seq kind d j = verdictAsks held worked seq kind d (j .tables) (byProfile profile kind (j .verdict))
 
 -- how a command is judged: the packet's own statuses 0x12 and 0x14 come first, then its type and data
 unfoldable pub askedFor : ℕ → Record → Worked → ℕ → ℕ → List ℕ → Judged
@@ -63,12 +65,12 @@ askedFor status held worked next sender c =
 unfoldable pub askedOf : Record → Worked → ℕ → ℕ → List ℕ → Judged
 askedOf held worked next sender c = askedFor (packetStatus c) held worked next sender c
 
-unfoldable pub occRead : Record → Worked → ℕ → ℕ → List ℕ → List ℕ → Asks
-occRead held worked next sender c d = judgedAsks held worked (getD c 0 0) (getD c 1 0) d (askedOf held worked next sender c)
+unfoldable pub occRead : Session → ℕ → List ℕ → List ℕ → Asks
+occRead s sender c d = judgedAsks (s .profile) (s .held) (s .worked) (getD c 0 0) (getD c 1 0) d (askedOf (s .held) (s .worked) (s .next) sender c)
 
 -- "Numbers 1 to 4 are tested in that order, first"
 unfoldable pub occAsks : Session → ℕ → List ℕ → List ℕ → Asks
-occAsks s sender c d = due (occRefusal s sender (length c) (length d)) (occRead (s .held) (s .worked) (s .next) sender c d)
+occAsks s sender c d = due (occRefusal s sender (length c) (length d)) (occRead s sender c d)
 
 unfoldable pub occCall : Session → ℕ → List ℕ → List ℕ → Said
 occCall s sender c d = settled s d (occAsks s sender c d)
@@ -82,7 +84,7 @@ faultFor Poll held kind d = Nothing
 faultFor (Make change) held kind d = Nothing
 
 unfoldable pub whyRead : Session → ℕ → List ℕ → Blame
-whyRead s sender c = faultFor (askedOf (s .held) (s .worked) (s .next) sender c .verdict) (s .held) (getD c 1 0) (dataOf c)
+whyRead s sender c = faultFor (byProfile (s .profile) (getD c 1 0) (askedOf (s .held) (s .worked) (s .next) sender c .verdict)) (s .held) (getD c 1 0) (dataOf c)
 
 -- none beside any other answer
 unfoldable pub whyFrom : ℕ → Session → ℕ → List ℕ → Blame
@@ -103,7 +105,7 @@ occLeft q why = record { told = besideOf (q .answer) why; image = imageOf (q .se
 
 -- a command that is due an answer
 unfoldable pub occReadLeft : Session → ℕ → List ℕ → List ℕ → Left
-occReadLeft s sender c d = occLeft (settled s d (occRead (s .held) (s .worked) (s .next) sender c d)) (whyRead s sender c)
+occReadLeft s sender c d = occLeft (settled s d (occRead s sender c d)) (whyRead s sender c)
 
 unfoldable pub occOn : List ℕ → ℕ → List ℕ → List ℕ → Left
 occOn b sender c d = onImage b d (λ (s : Session). occLeft (occCall s sender c d) (occWhy s sender c d))

@@ -113,7 +113,8 @@ fn hear(lent: &mut [u8], h: Head, sender: u8, command: &[u8], reply: &mut [u8]) 
     let seq = command[0];
     let kind = command[1];
     let asked = ask(held, worked, h.next, sender, command);
-    let verdict = asked.verdict;
+    let judged = asked.verdict;
+    let verdict = occ::by_profile(h.profile, kind, judged);
     let tables = asked.tables;
     let Verdict::Make(change) = verdict else {
         tell(verdict, held, worked, seq, kind, reply);

@@ -2,7 +2,7 @@
 use Rattle.wire.specs.laws.Cases.{cond-cases}
 use Prim.Native.Nat.{ℕ, zero, suc, _+_, _-_, _*_, _<_, _≤_}
 use mathlib.Core.Bool.{Bool, true, false, cond, not}
-use mathlib.Core.Path.{_≡_, refl}
+use mathlib.Core.Path.{_≡_, refl, sym, subst}
 use mathlib.Core.List.{List, [], _∷_}
 use mathlib.Core.Logic.{_↔_, _⊎_}
 use native.Mathlib.Nat.{not-suc-le-zero, le-of-suc-le-suc}
@@ -24,7 +24,9 @@ use Rattle.occ.specs.declared.Verdict.{Verdict}
 use Rattle.occ.specs.declared.Verdict.the-variants.{Refuse, Poll, Make}
 use Rattle.occ.specs.declared.Judged.{Judged}
 use Rattle.occ.specs.Commands.{pollVerdict, clearAt, clearVerdict, stateFits, notReady, stateVerdict, roleVerdict, capsFor, sentCaps, capsVerdict, userAllowed, userFor, userVerdict, logDue, resetFor, resetVerdict}
-use Rattle.occ.specs.Judge.{plainly, countStatus, setsStatus, setsJudged, throttlesFor, throttlesJudged, frusJudged, thermalFor, thermalJudged, formatJudged, configureJudged, openTo, typeJudged, judgeOf}
+use Rattle.occ.specs.Judge.{plainly, countStatus, setsStatus, setsJudged, throttlesFor, throttlesJudged, frusJudged, thermalFor, thermalJudged, formatJudged, configureJudged, typeJudged, judgeOf}
+use Rattle.occ.specs.Open.{openTo}
+use Rattle.occ.specs.laws.Open.{open-to-is}
 use Rattle.wire.specs.laws.Chains.{holds, eq-holds, le-holds, eq-passes, lt-passes, le-passes, zero-passes, not-passes, unless, unless-last, if-needed, or-else, Ends, ends-unless, ends-if-needed, ends-when, ends-last, if-is, if-is-last, last-case, or-case}
 use Rattle.wire.specs.Conditions.{_and_}
 use Rattle.sets.specs.laws.Exactly.{sets-exactly, frus-exactly}
@@ -235,8 +237,9 @@ configure-exactly state role d =
     (last-case accepted _ 0x13 (thermal-format-exactly d) (plain-refuses 0x13)))) .exactly)
 
 open-exactly : (sender kind : ℕ) → (openTo sender kind ≡ true) ↔ (sender ≡ 0x20 → (kind ≡ 0x00) ⊎ (kind ≡ 0x22))
-unfolding openTo
-open-exactly sender kind = if-needed holds refl (eq-holds _ _) (or-else holds refl (eq-holds _ _) (eq-holds _ _))
+open-exactly sender kind =
+    subst (λ (b : Bool). (b ≡ true) ↔ (sender ≡ 0x20 → (kind ≡ 0x00) ⊎ (kind ≡ 0x22))) (sym (open-to-is sender kind))
+    (if-needed holds refl (eq-holds _ _) (or-else holds refl (eq-holds _ _) (eq-holds _ _)))
 
 pub judge-exactly : (r : Record) (w : Worked) (next sender kind : ℕ) (d : List ℕ) → length (r .logs) ≡ 4
     → (accepts (judgeOf r w next sender kind d .verdict) ≡ true) ↔ CommandOk r w next sender kind d

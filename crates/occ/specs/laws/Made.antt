@@ -28,7 +28,8 @@ use Rattle.occ.specs.declared.Verdict.{Verdict}
 use Rattle.occ.specs.declared.Verdict.the-variants.{Refuse, Poll, Make}
 use Rattle.occ.specs.declared.Judged.{Judged}
 use Rattle.occ.specs.Commands.{pollVerdict, clearVerdict, stateVerdict, roleVerdict, capsVerdict, userVerdict, logDue, resetVerdict}
-use Rattle.occ.specs.Judge.{plainly, setsStatus, setsJudged, throttlesFor, throttlesJudged, frusJudged, thermalFor, thermalJudged, formatJudged, configureJudged, openTo, typeJudged, judgeOf}
+use Rattle.occ.specs.Judge.{plainly, setsStatus, setsJudged, throttlesFor, throttlesJudged, frusJudged, thermalFor, thermalJudged, formatJudged, configureJudged, typeJudged, judgeOf}
+use Rattle.occ.specs.Open.{openTo}
 use Rattle.wire.specs.laws.Chains.{holds, eq-holds, le-holds, eq-passes, lt-passes, not-passes, unless, or-else, Ends}
 use Rattle.wire.specs.Conditions.{_and_}
 use Rattle.occ.specs.laws.Exactly.{resetMade, found-there, found-exactly, poll-exactly, clear-log-exactly, set-state-exactly, role-format-exactly, caps-format-exactly, user-cap-exactly, log-due-exactly, reset-prep-exactly}

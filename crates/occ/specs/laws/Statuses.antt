@@ -1,7 +1,7 @@
 -- Document 01, "OCC packets": a command gets each status exactly when its row holds and none before it. d is the data. Assumes nothing.
 use Prim.Native.Nat.{ℕ, _+_, _-_, _*_, _≤_}
 use mathlib.Core.Bool.{Bool, true, cond, not, true≢false}
-use mathlib.Core.Path.{_≡_, refl, sym, ap, _∙_}
+use mathlib.Core.Path.{_≡_, refl, sym, ap, subst, _∙_}
 use mathlib.Core.List.{List}
 use mathlib.Core.Logic.{_↔_, Iff·trans, _⊎_, inl, inr, ⊎-elim}
 use native.Mathlib.Omega.{arith}
@@ -25,7 +25,9 @@ use Rattle.occ.specs.declared.Verdict.{Verdict}
 use Rattle.occ.specs.declared.Verdict.the-variants.{Refuse, Poll, Make}
 use Rattle.occ.specs.declared.Judged.{Judged}
 use Rattle.occ.specs.Commands.{pollVerdict, clearAt, clearVerdict, notReady, stateVerdict, roleVerdict, capsFor, capsVerdict, userFor, userVerdict, logDue, resetFor, resetVerdict}
-use Rattle.occ.specs.Judge.{plainly, countStatus, setsStatus, setsJudged, throttlesFor, throttlesJudged, frusJudged, thermalFor, thermalJudged, formatJudged, configureJudged, openTo, typeJudged, judgeOf}
+use Rattle.occ.specs.Judge.{plainly, countStatus, setsStatus, setsJudged, throttlesFor, throttlesJudged, frusJudged, thermalFor, thermalJudged, formatJudged, configureJudged, typeJudged, judgeOf}
+use Rattle.occ.specs.Open.{openTo}
+use Rattle.occ.specs.laws.Open.{open-to-is}
 use Rattle.occ.specs.Conditions.{accepts}
 use Rattle.occ.specs.laws.Exactly.{found-exactly, state-fits-exactly, user-allowed-exactly, log-due-exactly, counted}
 use Rattle.occ.specs.Statuses.{PollStatus, ClearStatus, StateStatus, RoleStatus, CapsStatus, SetsStatus, ConfigureStatus, UserStatus, ResetStatus, CommandStatus}
@@ -186,8 +188,9 @@ configure-rows state role d =
     (by-rows Declines (eq-holds _ _) (thermal-rows d) (plain (refuses 0x13))))))
 
 shut-exactly : (sender kind : ℕ) → (not (openTo sender kind) ≡ true) ↔ ((sender ≡ 0x20) and (kind ≡ 0x00 → ⊥) and (kind ≡ 0x22 → ⊥))
-unfolding openTo
-shut-exactly sender kind = unless not refl (not-passes (eq-holds _ _)) (unless not refl (eq-passes _ _) (differs _ _))
+shut-exactly sender kind =
+    subst (λ (b : Bool). (not b ≡ true) ↔ ((sender ≡ 0x20) and (kind ≡ 0x00 → ⊥) and (kind ≡ 0x22 → ⊥))) (sym (open-to-is sender kind))
+    (unless not refl (not-passes (eq-holds _ _)) (unless not refl (eq-passes _ _) (differs _ _)))
 
 pub judge-rows : (r : Record) (w : Worked) (next sender kind : ℕ) (d : List ℕ) → length (r .logs) ≡ 4
     → ByTable Declines (judgeOf r w next sender kind d) (CommandStatus r w next sender kind d)

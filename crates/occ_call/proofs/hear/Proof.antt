@@ -14,6 +14,9 @@ shared-slice-read-kind c = omega (arith, c .before .before .before .before .befo
 ask-requires : tie.Need-ask-requires
 ask-requires c κs = c .before .before .before .before .before .before .before .pre .2
 
+by-profile-requires : tie.Need-by-profile-requires
+by-profile-requires c κs = search needs
+
 enum-known-verdict : tie.Need-enum-known-verdict
 enum-known-verdict c = search needs
 
@@ -21,7 +24,7 @@ tell-requires : tie.Need-tell-requires
 tell-requires c κs = search needs
 
 why-requires : tie.Need-why-requires
-why-requires c κs = c .before .before .before .before .before .before .before .before .before .before .before .before .before .before .pre .2
+why-requires c κs = c .before .before .before .before .before .before .before .before .before .before .before .before .before .before .before .pre .2
 
 answer-why-requires : tie.Need-answer-why-requires
 answer-why-requires c κs = search needs
@@ -30,10 +33,10 @@ same-length : tie.Need-same-length
 same-length c = search needs
 
 returns : tie.Need-returns
-returns c = told-in _ (c .before .before .before .before .before .before .before .before .before .before .before .before .before .before .before .before .args .lent .now) (c .before .before .before .before .before .before .before .before .before .before .before .before .before .before .before .before .pre .0) _ (c .before .before .before .before .before .before .before .before .before .before .before .before .before .before .before .before .args .command .now) (c .before .before .before .before .before .before .before .before .before .before .before .before .before .before .before .before .args .reply .now) _ (c .before .before .before .before .before .before .before .before .ask .ensures) _ _ _ (c .answer-why .ensures) (c .before .why .ensures) (λ z. ⊎-elim (λ e. omega arith) (λ e. omega arith) (c .before .before .before .before .before .before .match .keys2)) (c .before .before .before .before .tell .ensures)
+returns c = told-in _ (c .before .before .before .before .before .before .before .before .before .before .before .before .before .before .before .before .before .args .lent .now) (c .before .before .before .before .before .before .before .before .before .before .before .before .before .before .before .before .before .pre .0) _ (c .before .before .before .before .before .before .before .before .before .before .before .before .before .before .before .before .before .args .command .now) (c .before .before .before .before .before .before .before .before .before .before .before .before .before .before .before .before .before .args .reply .now) _ (c .before .before .before .before .before .before .before .before .before .ask .ensures) _ (c .before .before .before .before .before .before .before .before .by-profile .ensures) _ _ _ (c .answer-why .ensures) (c .before .why .ensures) (λ z. ⊎-elim (λ e. omega arith) (λ e. omega arith) (c .before .before .before .before .before .before .match .keys2)) (c .before .before .before .before .tell .ensures)
 
 carry-requires : tie.Need-carry-requires
-carry-requires c κs = (c .before .before .before .before .before .before .before .before .before .before .before .before .before .pre .0 .long, c .before .before .before .before .before .before .before .before .before .before .before .before .before .pre .1)
+carry-requires c κs = (c .before .before .before .before .before .before .before .before .before .before .before .before .before .before .pre .0 .long, c .before .before .before .before .before .before .before .before .before .before .before .before .before .before .pre .1)
 
 answer-with-requires : tie.Need-answer-with-requires
 answer-with-requires c κs = search needs
@@ -42,7 +45,7 @@ same-length-2 : tie.Need-same-length-2
 same-length-2 c = search needs
 
 returns-2 : tie.Need-returns-2
-returns-2 c = full-in _ (c .before .before .before .before .before .before .before .before .before .before .before .before .before .before .before .before .before .before .args .lent .now) (c .before .before .before .before .before .before .before .before .before .before .before .before .before .before .before .before .before .before .pre .0) _ (c .before .before .before .before .before .before .before .before .before .before .before .before .before .before .before .before .before .before .args .command .now) (c .before .before .before .before .before .before .before .before .before .before .before .before .before .before .before .before .before .before .args .reply .now) _ (c .before .before .before .before .before .before .before .before .before .before .ask .ensures) _ (c .before .before .before .before .before .before .before .verdict .given .1) _ _ _ (c .before .before .before .before .carry .ensures .0) (c .before .before .before .before .carry .ensures .1) (c .answer-with .ensures) (c .before .if1 .taken)
+returns-2 c = full-in _ (c .before .before .before .before .before .before .before .before .before .before .before .before .before .before .before .before .before .before .before .args .lent .now) (c .before .before .before .before .before .before .before .before .before .before .before .before .before .before .before .before .before .before .before .pre .0) _ (c .before .before .before .before .before .before .before .before .before .before .before .before .before .before .before .before .before .before .before .args .command .now) (c .before .before .before .before .before .before .before .before .before .before .before .before .before .before .before .before .before .before .before .args .reply .now) _ (c .before .before .before .before .before .before .before .before .before .before .before .ask .ensures) _ (c .before .before .before .before .before .before .before .before .before .before .by-profile .ensures) _ (c .before .before .before .before .before .before .before .verdict .given .1) _ _ _ (c .before .before .before .before .carry .ensures .0) (c .before .before .before .before .carry .ensures .1) (c .answer-with .ensures) (c .before .if1 .taken)
 
 array-share-prefix-nothing : tie.Need-array-share-prefix-nothing
 array-share-prefix-nothing c = search needs
@@ -63,7 +66,7 @@ same-length-4 : tie.Need-same-length-4
 same-length-4 c = search needs
 
 returns-3 : tie.Need-returns-3
-returns-3 c = done-in _ (c .before .before .before .before .before .before .before .before .before .before .before .before .before .before .before .before .before .before .before .before .before .before .before .args .lent .now) (c .before .before .before .before .before .before .before .before .before .before .before .before .before .before .before .before .before .before .before .before .before .before .before .pre .0) _ (c .before .before .before .before .before .before .before .before .before .before .before .before .before .before .before .before .before .before .before .before .before .before .before .args .command .now) (c .before .before .before .before .before .before .before .before .before .before .before .before .before .before .before .before .before .before .before .before .before .before .before .args .reply .now) _ (c .before .before .before .before .before .before .before .before .before .before .before .before .before .before .before .ask .ensures) _ (c .before .before .before .before .before .before .before .before .before .before .before .before .verdict .given .1) _ _ _ (c .before .before .before .before .before .before .before .before .before .carry .ensures .0) (c .before .before .before .before .before .before .before .before .before .carry .ensures .1) (c .answer-with2 .ensures) (c .before .before .before .before .before .before .if1 .left) _ (c .before .before .before .reply2 .ensures)
+returns-3 c = done-in _ (c .before .before .before .before .before .before .before .before .before .before .before .before .before .before .before .before .before .before .before .before .before .before .before .before .args .lent .now) (c .before .before .before .before .before .before .before .before .before .before .before .before .before .before .before .before .before .before .before .before .before .before .before .before .pre .0) _ (c .before .before .before .before .before .before .before .before .before .before .before .before .before .before .before .before .before .before .before .before .before .before .before .before .args .command .now) (c .before .before .before .before .before .before .before .before .before .before .before .before .before .before .before .before .before .before .before .before .before .before .before .before .args .reply .now) _ (c .before .before .before .before .before .before .before .before .before .before .before .before .before .before .before .before .ask .ensures) _ (c .before .before .before .before .before .before .before .before .before .before .before .before .before .before .before .by-profile .ensures) _ (c .before .before .before .before .before .before .before .before .before .before .before .before .verdict .given .1) _ _ _ (c .before .before .before .before .before .before .before .before .before .carry .ensures .0) (c .before .before .before .before .before .before .before .before .before .carry .ensures .1) (c .answer-with2 .ensures) (c .before .before .before .before .before .before .if1 .left) _ (c .before .before .before .reply2 .ensures)
 
 pub hear-spec : {M : Type 1} → statement M
 hear-spec =
@@ -72,6 +75,7 @@ hear-spec =
     shared-slice-read-seq
     shared-slice-read-kind
     ask-requires
+    by-profile-requires
     enum-known-verdict
     tell-requires
     why-requires

@@ -14,7 +14,9 @@ use Rattle.wire.specs.Wire.{beNat, packetSum}
 use Rattle.wire.specs.laws.Cases.{cond-elim, cond-cases, else-ne}
 use Rattle.record.specs.declared.Record.{Record}
 use Rattle.packet.specs.Packet.{dataLength, statusAt, packetStatus, dataOf}
-use Rattle.occ.specs.Judge.{plainly, openTo, judgeOf}
+use Rattle.occ.specs.Judge.{plainly, judgeOf}
+use Rattle.occ.specs.Open.{openTo}
+use Rattle.occ.specs.laws.Open.{wrong-stays}
 use Rattle.occ.specs.declared.Verdict.{Verdict}
 use Rattle.occ.specs.declared.Verdict.the-variants.{Refuse, Poll, Make}
 use Rattle.occ.specs.declared.Judged.{Judged}
@@ -81,11 +83,12 @@ module _ (s : Session) (sender : ℕ) (c : List ℕ) where
   pub why-exactly : ((x : Fault) × (whyRead s sender c ≡ Wrong x)) ↔ ((packetStatus c ≡ 0) and (judged .verdict ≡ Refuse 0x13))
   unfolding whyRead askedOf askedFor faultFor
   why-exactly = (
-    λ h. asked-read (beside-only _ (s .held) (getD c 1 0) (dataOf c) (h .0) (h .1) .0),
+    λ h. asked-read (wrong-stays (s .profile) (getD c 1 0) _ .0 (beside-only _ (s .held) (getD c 1 0) (dataOf c) (h .0) (h .1) .0)),
     λ h.
         let q = exactly-wrong (s .held) (s .worked) (s .next) sender (getD c 1 0) (dataOf c) (may-send (h .1)) .0 (h .1) in
         let asked : judged ≡ askedOf (s .held) (s .worked) (s .next) sender c = else-ne _ _ (h .0) refl in
-        (q .0, ap (λ (j : Judged). faultFor (j .verdict) (s .held) (getD c 1 0) (dataOf c)) (sym asked) ∙ ap (λ (v : Verdict). faultFor v (s .held) (getD c 1 0) (dataOf c)) (h .1) ∙ q .1),
+        let still = wrong-stays (s .profile) (getD c 1 0) _ .1 (ap (λ (j : Judged). j .verdict) (sym asked) ∙ h .1) in
+        (q .0, ap (λ (v : Verdict). faultFor v (s .held) (getD c 1 0) (dataOf c)) still ∙ q .1),
   )
 
   pub why-least : length (s .held .logs) ≡ 4 → (x : Fault) → whyRead s sender c ≡ Wrong x

@@ -27,7 +27,8 @@ use Rattle.occ.specs.declared.Verdict.{Verdict}
 use Rattle.occ.specs.declared.Verdict.the-variants.{Refuse, Poll, Make}
 use Rattle.occ.specs.declared.Judged.{Judged}
 use Rattle.occ.specs.Commands.{pollVerdict, clearAt, clearVerdict, stateFits, notReady, stateVerdict, roleVerdict, sentCaps, capsFor, capsVerdict, userAllowed, userFor, userVerdict, logDue, resetFor, resetVerdict}
-use Rattle.occ.specs.Judge.{plainly, countStatus, setsStatus, setsJudged, throttlesFor, throttlesJudged, frusJudged, thermalFor, thermalJudged, formatJudged, configureJudged, openTo, typeJudged, judgeOf}
+use Rattle.occ.specs.Judge.{plainly, countStatus, setsStatus, setsJudged, throttlesFor, throttlesJudged, frusJudged, thermalFor, thermalJudged, formatJudged, configureJudged, typeJudged, judgeOf}
+use Rattle.occ.specs.Open.{openTo}
 use Rattle.places.specs.declared.Reason.{Reason}
 use Rattle.places.specs.declared.Reason.the-variants.{BadVersion, BadCount, OutOfRange, Clash, NotPending}
 use Rattle.places.specs.declared.Fault.{Fault}

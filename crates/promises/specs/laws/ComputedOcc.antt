@@ -4,7 +4,8 @@ use Rattle.packet.specs.Packet.{dataLength, statusAt, packetStatus, dataAt, dat
 use Rattle.sets.specs.Sets.{bitOf, emptySets, badSets, withPair, oneSet, setsOf, emptyFrus, badFrus, withFru, oneFru, frusOf}
 use Rattle.poll.specs.Poll.{masterBit, markBit, statusByte, oldestId, logLength, pollHead, capsBlock, showsCaps, pollData}
 use Rattle.occ.specs.Commands.{pollVerdict, clearAt, clearVerdict, stateFits, notReady, stateVerdict, roleVerdict, capsFor, sentCaps, capsVerdict, userAllowed, userFor, userVerdict, logDue, resetFor, resetVerdict}
-use Rattle.occ.specs.Judge.{plainly, countStatus, setsStatus, setsJudged, throttlesFor, throttlesJudged, frusJudged, thermalFor, thermalJudged, formatJudged, configureJudged, openTo, typeJudged, judgeOf}
+use Rattle.occ.specs.Judge.{plainly, countStatus, setsStatus, setsJudged, throttlesFor, throttlesJudged, frusJudged, thermalFor, thermalJudged, formatJudged, configureJudged, typeJudged, judgeOf}
+use Rattle.occ.specs.Open.{openTo}
 use Rattle.occ_call.specs.Occ.{knownSender, refusalOf, occRefusal, toldOf, verdictAsks, judgedAsks, askedFor, askedOf, occRead, occAsks, occCall}
 
 unfoldable pub computedOcc : ℕ

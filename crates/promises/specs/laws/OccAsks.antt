@@ -26,7 +26,8 @@ use Rattle.occ.specs.declared.Verdict.{Verdict}
 use Rattle.occ.specs.declared.Verdict.the-variants.{Refuse, Poll, Make}
 use Rattle.occ.specs.declared.Judged.{Judged}
 use Rattle.occ.specs.Commands.{pollVerdict, clearAt, clearVerdict, stateFits, notReady, stateVerdict, roleVerdict, capsFor, sentCaps, capsVerdict, userAllowed, userFor, userVerdict, logDue, resetFor, resetVerdict}
-use Rattle.occ.specs.Judge.{plainly, setsStatus, setsJudged, throttlesFor, throttlesJudged, frusJudged, thermalFor, thermalJudged, formatJudged, configureJudged, openTo, typeJudged, judgeOf}
+use Rattle.occ.specs.Judge.{plainly, setsStatus, setsJudged, throttlesFor, throttlesJudged, frusJudged, thermalFor, thermalJudged, formatJudged, configureJudged, typeJudged, judgeOf}
+use Rattle.occ.specs.Open.{openTo}
 use Rattle.occ.specs.laws.Exactly.{log-due-exactly, sets-status-exactly}
 use Rattle.promises.specs.Demand2.{kindFor}
 use Rattle.promises.specs.Effects.{LogDue}

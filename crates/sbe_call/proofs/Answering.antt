@@ -11,7 +11,7 @@ use lib.Dec.{ltb, eqb}
 use lib.ListN.{length, take, drop, length-drop}
 use lib.Seq.{length-take-le}
 use Rattle.wire.specs.Wire.{Bytes, pasted}
-use Rattle.wire.specs.laws.Cases.{cond-cases, said-of, if-ne, else-ne}
+use Rattle.wire.specs.laws.Cases.{cond-cases, said-of, else-eq, if-ne, else-ne}
 use Rattle.change.specs.Change.{noTables}
 use Rattle.change.specs.declared.Change.{Change}
 use Rattle.change.specs.declared.Edit.{Edit}
@@ -22,7 +22,7 @@ use Rattle.session.specs.Session.{wellFormed, carriedOf}
 use Rattle.session.specs.Road.{Asks, refuses, tells, makes, due, Said, kept, done, settled}
 use Rattle.session.specs.laws.Road.{made-full, made-done}
 use Rattle.session.specs.declared.Session.{Session}
-use Rattle.sbe_call.specs.Sbe.{refusalOf, sbeRefusal, countedIn, readStatus, readAt, judgedFor, servedAt, servedBy, toldOf, rulingAsks, sbeRuling, sbeRead, sbeAsks, sbeCall, ruledLeft, sbeOn, dataFor, sbeData, dataOn}
+use Rattle.sbe_call.specs.Sbe.{refusalOf, sbeRefusal, countedIn, readStatus, readAt, judgedFor, servedAt, servedBy, toldOf, rulingAsks, sbeRuling, denied, byProfile, sbeRead, sbeAsks, sbeCall, ruledLeft, sbeOn, dataFor, sbeData, dataOn}
 use Rattle.image.specs.declared.Head.{Head}
 use Rattle.image.specs.Image.{headIn, sessionIn}
 use Rattle.layout.specs.Layout.{imageLength}
@@ -170,6 +170,18 @@ other-judged image room (Grant ch) h = refl
 other-judged image room Done h = refl
 other-judged image room (Read offset size) h = absurd (miss noRead 3 tt h)
 
+-- a change is denied, another ruling stays
+pub change-denied : (profile : ℕ) (v : Ruling) (ch : Change) → (profile ≡ 0 → ⊥) → v ≡ Grant ch → Decline 0x05 0x20 ≡ byProfile profile v
+unfolding byProfile denied
+change-denied profile v ch on is = else-eq _ _ on (sym (ap denied is))
+
+pub other-stays : (profile : ℕ) (v : Ruling) → (profile ≡ 0 → ⊥) → OneOf noChange (tagOf the-type v) → v ≡ byProfile profile v
+unfolding byProfile denied
+other-stays profile (Decline p q) on h = else-eq _ _ on refl
+other-stays profile (Grant ch) on h = absurd (miss noChange 1 tt h)
+other-stays profile Done on h = else-eq _ _ on refl
+other-stays profile (Read offset size) on h = else-eq _ _ on refl
+
 -- ---- the whole call: f says whether the session is well formed, n is the refusal that is due
 
 abbrev pub All : Told → List ℕ → List ℕ → List ℕ → Left → List ℕ → Type 0
@@ -185,10 +197,10 @@ module _ (b : List ℕ) (long : length b ≡ imageLength) (h : Head) (read : h �
   unfolding sbeRefusal
   refusal-is = is ∙ ap (λ (g : Bool). refusalOf g (length r) (length d)) formed
 
-  by-refusal : rungLeft (settled (sessionIn h b) d (due n (sbeRead r d m x))) ≡ sbeOn b r d m x
+  by-refusal : rungLeft (settled (sessionIn h b) d (due n (sbeRead (sessionIn h b .profile) r d m x))) ≡ sbeOn b r d m x
   unfolding sbeOn sbeCall sbeAsks
   by-refusal =
-      ap (λ (k : ℕ). rungLeft (settled (sessionIn h b) d (due k (sbeRead r d m x)))) refusal-is
+      ap (λ (k : ℕ). rungLeft (settled (sessionIn h b) d (due k (sbeRead (sessionIn h b .profile) r d m x)))) refusal-is
       ∙ on-read (λ (s : Session). rungLeft (sbeCall s r d m x)) d b long h read
 
   data-is : (w : List ℕ) → w ≡ dataFor n r m x → w ≡ dataOn b r d m x
@@ -200,18 +212,18 @@ module _ (b : List ℕ) (long : length b ≡ imageLength) (h : Head) (read : h �
   unfolding due settled rungLeft kept dataFor
   refused-in bytes t p z =
       let k = parts t b d _ ((λ i. record { told = p i; image = stands b long h read bytes .image i; reply = d })
-      ∙ ap (λ (a : Asks). rungLeft (settled (sessionIn h b) d a)) (if-ne (refuses n) (sbeRead r d m x) z refl)
+      ∙ ap (λ (a : Asks). rungLeft (settled (sessionIn h b) d a)) (if-ne (refuses n) (sbeRead (sessionIn h b .profile) r d m x) z refl)
       ∙ by-refusal) in
       (k .0, (k .1 .0, (k .1 .1, data-is x (if-ne _ _ z refl))))
 
-  pub heard-in : n ≡ 0 → (asked v : Ruling) → asked ≡ requestRuling r → v ≡ judgedFor (length m) (length x) asked → (w : List ℕ) → w ≡ servedBy asked m x
+  pub heard-in : n ≡ 0 → (asked found v : Ruling) → asked ≡ requestRuling r → found ≡ judgedFor (length m) (length x) asked → v ≡ byProfile (h .profile) found → (w : List ℕ) → w ≡ servedBy asked m x
       → (t : Told) (y z : List ℕ) → Parts t y z (ruledLeft (sessionIn h b) r d v) → All t y z w (sbeOn b r d m x) (dataOn b r d m x)
-  unfolding ruledLeft due sbeRead sbeRuling dataFor
-  heard-in none asked v a j w sp t y z q =
-      let ruled : v ≡ sbeRuling r m x = j ∙ ap (judgedFor (length m) (length x)) a in
+  unfolding ruledLeft due sbeRead sbeRuling dataFor sessionIn
+  heard-in none asked found v a j o w sp t y z q =
+      let ruled : v ≡ byProfile (h .profile) (sbeRuling r m x) = o ∙ ap (byProfile (h .profile)) (j ∙ ap (judgedFor (length m) (length x)) a) in
       let k = parts t y z _ ((λ i. record { told = q .0 i; image = q .1 .0 i; reply = q .1 .1 i })
       ∙ ap (λ (u : Ruling). rungLeft (settled (sessionIn h b) d (rulingAsks r d u))) ruled
-      ∙ ap (λ (a : Asks). rungLeft (settled (sessionIn h b) d a)) (else-ne (refuses n) (sbeRead r d m x) none refl)
+      ∙ ap (λ (a : Asks). rungLeft (settled (sessionIn h b) d a)) (else-ne (refuses n) (sbeRead (sessionIn h b .profile) r d m x) none refl)
       ∙ by-refusal) in
       (k .0, (k .1 .0, (k .1 .1, data-is w (else-ne _ _ none (sp ∙ ap (λ (u : Ruling). servedBy u m x) a)))))
 

@@ -81,11 +81,21 @@ rulingAsks r d (Read offset size) = tells (bellOf r) (toldOf (Read offset size) 
 unfoldable pub sbeRuling : List ℕ → List ℕ → List ℕ → Ruling
 sbeRuling r m x = judgedFor (length m) (length x) (requestRuling r)
 
-unfoldable pub sbeRead : List ℕ → List ℕ → List ℕ → List ℕ → Asks
-sbeRead r d m x = rulingAsks r d (sbeRuling r m x)
+-- k: in a watch-only session "each SBE request that would make a journal entry is refused", with 05/20 after the data checks
+unfoldable pub denied : Ruling → Ruling
+denied (Decline primary secondary) = Decline primary secondary
+denied (Grant change) = Decline 0x05 0x20
+denied Done = Done
+denied (Read offset size) = Read offset size
+
+unfoldable pub byProfile : ℕ → Ruling → Ruling
+byProfile profile v = cond (eqb profile 0) v (denied v)
+
+unfoldable pub sbeRead : ℕ → List ℕ → List ℕ → List ℕ → List ℕ → Asks
+sbeRead profile r d m x = rulingAsks r d (byProfile profile (sbeRuling r m x))
 
 unfoldable pub sbeAsks : Session → List ℕ → List ℕ → List ℕ → List ℕ → Asks
-sbeAsks s r d m x = due (sbeRefusal s (length r) (length d)) (sbeRead r d m x)
+sbeAsks s r d m x = due (sbeRefusal s (length r) (length d)) (sbeRead (s .profile) r d m x)
 
 unfoldable pub sbeCall : Session → List ℕ → List ℕ → List ℕ → List ℕ → Said
 sbeCall s r d m x = settled s d (sbeAsks s r d m x)

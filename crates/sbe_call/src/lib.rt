@@ -3,7 +3,7 @@ ghost use mathlib.Core.Bool.{true};
 ghost use mathlib.Core.Path.{_≡_};
 ghost use Prim.Native.Nat.{_≤_};
 ghost use lib.ListN.{length};
-ghost use Rattle.sbe_call.specs.Sbe.{refusalOf, countedIn, readStatus, judgedFor, servedBy, toldOf, ruledLeft, SbeAllows, AloneAllows};
+ghost use Rattle.sbe_call.specs.Sbe.{refusalOf, countedIn, readStatus, judgedFor, byProfile, servedBy, toldOf, ruledLeft, SbeAllows, AloneAllows};
 ghost use Rattle.session.specs.Session.{wellFormed};
 ghost use Rattle.image.specs.Image.{sessionIn};
 ghost use Rattle.inplace.specs.InPlace.{HeadStands};
@@ -90,6 +90,19 @@ fn serve(ruling: Ruling, seeprom: &[u8], served: &mut [u8])
 
 // ---- a request that is due an answer
 
+// In a watch-only session no change is granted.
+fn by_profile(profile: u8, ruling: Ruling) -> Ruling
+    ensures { λ x. ⌜ x ≡ byProfile profile ruling ⌝ }
+{
+    if profile == 0 {
+        return ruling;
+    }
+    let Ruling::Grant(_) = ruling else {
+        return ruling;
+    };
+    Ruling::Decline(0x05, 0x20)
+}
+
 // The response to what is no change; a change has none yet.
 fn tell(ruling: Ruling, request: &[u8], reply: &mut [u8])
     requires { ⌜ (32 ≤ length (now request)) × (32 ≤ length (now reply)) ⌝ }
@@ -152,7 +165,8 @@ pub fn sbe(
         return inplace::answer_with(n, 0);
     }
     let asked = sbe::judge(request);
-    let ruling = judged(asked, seeprom.len(), served.len());
+    let found = judged(asked, seeprom.len(), served.len());
+    let ruling = by_profile(h.profile, found);
     serve(asked, seeprom, served);
     hear(lent, h, request, reply, ruling)
 }

@@ -184,6 +184,7 @@ module _ (h : Head) (b : List ℕ) (long : length b ≡ imageLength) (at : ℕ) 
             ahead = h .ahead;
             marks = marks-d i;
             timer = h .timer;
+            profile = h .profile;
           }))
 
 -- ---- the oldest forgotten, or refused

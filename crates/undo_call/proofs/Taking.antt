@@ -201,6 +201,7 @@ module _ (w : Way) (h : Head) (b : List ℕ) (at : ℕ) (e : Edit) (after : Reco
             ahead = byWay w (end-is i) at;
             marks = (moved .marks-kept ∙ marks-are) i;
             timer = tp i;
+            profile = h .profile;
           }))
 
 some-number : (w : Way) → eqb (noneLeft w) 0 ≡ false

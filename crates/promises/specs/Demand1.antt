@@ -13,6 +13,7 @@ use Rattle.journal.specs.declared.Way.{Way}
 use Rattle.journal.specs.declared.Way.the-variants.{Before, After}
 use Rattle.packet.specs.Packet.{dataOf}
 use Rattle.packet.specs.Conditions.{Overlong, Summed}
+use Rattle.occ.specs.Conditions.{CommandOk}
 use Rattle.occ.specs.Statuses.{CommandStatus}
 use Rattle.sbe.specs.Mailbox.{wordAt, bellOf, responseBytes}
 use Rattle.sbe.specs.Conditions.{Changes, ReadAsked}
@@ -20,7 +21,7 @@ use Rattle.sbe.specs.Statuses.{Status, RequestStatus}
 use Rattle.session.specs.Session.{wellFormed}
 use Rattle.session.specs.declared.Session.{Session}
 use Rattle.session.specs.Road.{usedOf, heldIn, Said, done}
-use Rattle.promises.specs.Demand2.{atFront, entryLength, KnownSender, WellAsked, occKind, NotPoll, sbeKind, InImage, Newest, Movable}
+use Rattle.promises.specs.Demand2.{atFront, entryLength, KnownSender, Open, WellAsked, occKind, NotPoll, sbeKind, InImage, Newest, Movable}
 
 -- ---- session answers
 
@@ -42,12 +43,16 @@ SbeAnswer s r d =
     row 1 (wellFormed s ≡ true → ⊥)
     (row 3 (length d < 32)
     (row 4 (length r < 32)
-    (row 5 (Changes r and NoRoom s (sbeKind r))
+    (row 5 (Changes r and (s .profile ≡ 0) and NoRoom s (sbeKind r))
     (is 0))))
 
 -- document 02, h
 unfoldable pub TimeAnswer : Session → ℕ → Type 0
 TimeAnswer s = row 1 (wellFormed s ≡ true → ⊥) (is 0)
+
+-- document 02, k
+unfoldable pub WatchAnswer : Session → ℕ → Type 0
+WatchAnswer s = row 1 (wellFormed s ≡ true → ⊥) (is 0)
 
 -- undo and redo, each with its number for an empty store. 7: the newest entry is there, and one of the cases holds
 unfoldable pub MoveAnswer : Way → ℕ → Session → ℕ → Type 0
@@ -82,12 +87,20 @@ pub record SbeDue (s : Session) (r d : List ℕ) : Type 0 where
   pub reply : 32 ≤ length d
   pub request : 32 ≤ length r
 
--- the packet's own two, then those of its command (occ/specs/Statuses.antt)
+-- document 02, k: "0x16 after the data checks": where the profile shuts a type, its command gets its own statuses but 0x15, before which 0x16 stands
+abbrev pub ShutStatus : (ℕ → Type 0) → Type 0 → ℕ → Type 0
+ShutStatus Own Ok n = (Own n and (n ≡ 0x15 → ⊥)) ⊎ ((n ≡ 0x16) and (Own 0x15 ⊎ Ok))
+
+abbrev pub ProfileStatus : Type 0 → (ℕ → Type 0) → Type 0 → ℕ → Type 0
+ProfileStatus Opened Own Ok n = (Opened and Own n) ⊎ ((Opened → ⊥) and ShutStatus Own Ok n)
+
+-- the packet's own two, then those of its command (occ/specs/Statuses.antt), by the profile
 unfoldable pub OccStatus : Session → ℕ → List ℕ → ℕ → Type 0
 OccStatus s sender c =
     row 0x12 (Overlong c)
     (row 0x14 (Summed c → ⊥)
-    (CommandStatus (s .held) (workedOf (s .held)) (s .next) sender (getD c 1 0) (dataOf c)))
+    (ProfileStatus (Open s (getD c 1 0)) (CommandStatus (s .held) (workedOf (s .held)) (s .next) sender (getD c 1 0) (dataOf c))
+    (CommandOk (s .held) (workedOf (s .held)) (s .next) sender (getD c 1 0) (dataOf c))))
 
 -- h, D7 03, where the request's own rows (sbe/specs/Statuses.antt) leave it: "02/19 an offset or size that is no multiple of 8 or leaves the image, 02/18 when the
 -- second buffer is shorter than the data"
@@ -97,8 +110,9 @@ ReadStatus r m x =
     (row (0x02, 0x18) (length x < wordAt 12 r)
     none)
 
-unfoldable pub SbeStatus : List ℕ → List ℕ → List ℕ → Status → Type 0
-SbeStatus r m x n = RequestStatus r n ⊎ (ReadAsked r and ReadStatus r m x n)
+-- document 02, k: in a watch-only session "05/20 after them", the data checks, for a request that would make an entry
+unfoldable pub SbeStatus : Session → List ℕ → List ℕ → List ℕ → Status → Type 0
+SbeStatus s r m x n = RequestStatus r n ⊎ ((ReadAsked r and ReadStatus r m x n) ⊎ ((s .profile ≡ 0 → ⊥) and Changes r and (n ≡ (0x05, 0x20))))
 
 -- "An error reply has one data byte, log id 0x00": sequence, type, status, 00 01, 00, and the checksum
 abbrev pub errorBytes : ℕ → ℕ → ℕ → List ℕ

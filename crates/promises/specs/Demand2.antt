@@ -47,10 +47,14 @@ HasRoom s kind = s .used + entryLength kind ≤ 2048
 abbrev pub KnownSender : ℕ → Type 0
 KnownSender sender = (sender ≡ 0x10) ⊎ (sender ≡ 0x20)
 
--- the packet fits, its sum is right, and the command's conditions hold of the session's record, its readiness and the next id
+-- document 02, k: every type is open in a full session; in a watch-only one poll and clear log are
+abbrev pub Open : Session → ℕ → Type 0
+Open s type = (s .profile ≡ 0) ⊎ ((type ≡ 0x00) ⊎ (type ≡ 0x12))
+
+-- the packet fits, its sum is right, the command's conditions hold of the session's record, its readiness and the next id, and the profile has its type open
 unfoldable pub WellAsked : Session → ℕ → List ℕ → Type 0
 WellAsked s sender c =
-    Fits c and Summed c and CommandOk (s .held) (workedOf (s .held)) (s .next) sender (getD c 1 0) (dataOf c)
+    Fits c and Summed c and CommandOk (s .held) (workedOf (s .held)) (s .next) sender (getD c 1 0) (dataOf c) and Open s (getD c 1 0)
 
 -- the kind of a command's entry, by its type and, for 0x21, its format
 unfoldable pub kindFor : ℕ → ℕ → ℕ
@@ -97,9 +101,9 @@ InImage r m = (wordAt 8 r % 8 ≡ 0) and (wordAt 12 r % 8 ≡ 0) and (wordAt 8 r
 abbrev pub Served : List ℕ → List ℕ → List ℕ → Type 0
 Served r m x = ReadAsked r and InImage r m and (wordAt 12 r ≤ length x)
 
--- a change that has room; what is answered without one (D1 02, D3 01); a read that is served
+-- a change that has room, in a full session (k); what is answered without one (D1 02, D3 01); a read that is served
 unfoldable pub SbeAccepted : Session → List ℕ → List ℕ → List ℕ → List ℕ → Type 0
-SbeAccepted s r d m x = (32 ≤ length d) and (32 ≤ length r) and ((Changes r and HasRoom s (sbeKind r)) ⊎ (Plainly r ⊎ Served r m x))
+SbeAccepted s r d m x = (32 ≤ length d) and (32 ≤ length r) and ((Changes r and (s .profile ≡ 0) and HasRoom s (sbeKind r)) ⊎ (Plainly r ⊎ Served r m x))
 
 unfoldable pub SbeSucceeds : Session → List ℕ → List ℕ → List ℕ → List ℕ → Type 0
 SbeSucceeds s r d m x = (sbeCall s r d m x .answer ≡ 0) and (sbeCall s r d m x .reply ≡ atFront (responseBytes 0x00 0x00 r) d)

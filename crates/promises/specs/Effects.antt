@@ -169,6 +169,18 @@ pub record ForgetEffect (n : ℕ) (s : Session) (q : Said) : Type 0 where
   pub so-many : length forgotten ≡ n
   pub session-is : q .session ≡ renewed s (s .held) (s .next) (written kept ++ replicate (2048 - length (written kept)) 0) (length (written kept)) (s .redo) (s .ahead)
 
+-- ---- watch (document 02, k): "its record, timer and next id, an empty journal and redo store"; what is worked out is the record's
+
+pub record WatchEffect (s t : Session) : Type 0 where
+  pub record-is : t .held ≡ s .held
+  pub worked-is : t .worked ≡ s .worked
+  pub timer-is : t .timer ≡ s .timer
+  pub next-is : t .next ≡ s .next
+  pub journal-is : (t .journal ≡ replicate 2048 0) and (t .used ≡ 0)
+  pub redo-is : (t .redo ≡ replicate 2048 0) and (t .ahead ≡ 0)
+  pub marks-are : t .marks ≡ replicate 64 0
+  pub watch-only : t .profile ≡ 1
+
 -- ---- time
 
 -- n microseconds passed: "as many .. as are left, or more" end it and ring bit 14, "fewer are taken off", off stays off and silent. Nothing else moves, and no entry is made

@@ -12,7 +12,7 @@ use Rattle.record.specs.declared.Timer.{Timer}
 use Rattle.change.specs.Change.{putOf, timed, timerAfter}
 use Rattle.change.specs.declared.Edit.{Edit}
 use Rattle.journal.specs.Ways.{byWay}
-use Rattle.session.specs.Road.{Asks, refuses, tells, makes, moves, forgets, passes, ticked}
+use Rattle.session.specs.Road.{Asks, refuses, tells, makes, moves, forgets, passes, opens, ticked}
 use Rattle.session.specs.Session.{carriedOf}
 use Rattle.session.specs.declared.Session.{Session}
 use Rattle.undo_call.specs.Undo.{undoCall, redoCall}
@@ -44,6 +44,8 @@ deedBy s (makes e bell reply) = adding s e
 deedBy s (moves w at e) = byWay w strikes unstrikes
 deedBy s (forgets n) = drops n
 deedBy s (passes n) = ticks n
+-- none of these calls opens a session: openings stand in Sittings.antt
+deedBy s opens = keeps
 
 unfoldable pub deed : Session → Call → Deed
 deed s c = deedBy s (asks s c)

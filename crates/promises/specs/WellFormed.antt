@@ -125,6 +125,11 @@ pub record StoreHolds (w : Way) (store : List ℕ) (used : ℕ) : Type 0 where
   pub hold : EntriesHold w entries
   pub unused : EachIs 0 (drop used store)
 
+-- k: full, or watch-only, and then "another kind in either store makes the session ill formed"
+abbrev pub EachClears : List Entry → Type 0
+EachClears [] = Unit {0}
+EachClears (e ∷ es) = (e .kind ≡ 0x01) and EachClears es
+
 -- ---- the whole
 
 pub record WellFormed (s : Session) : Type 0 where
@@ -148,3 +153,5 @@ pub record WellFormed (s : Session) : Type 0 where
   pub redo : StoreHolds After (s .redo) (s .ahead)
   -- d: "and its length with the journal's is at most 2,048"
   pub both : s .used + s .ahead ≤ 2048
+  -- k: the profile is 0, full, or 1, watch-only
+  pub profile : (s .profile ≡ 0) ⊎ ((s .profile ≡ 1) and EachClears (journal .entries) and EachClears (redo .entries))

@@ -1,16 +1,24 @@
 -- The columns of the table of what is open, as conditions; and what a watch-only session lets through. Assumes nothing.
 use Prim.Native.Nat.{ℕ}
 use mathlib.Core.Bool.{Bool, true, false, cond, not, false≢true}
-use mathlib.Core.Logic.{_↔_, _⊎_, inl, inr}
+use mathlib.Core.Logic.{_↔_, _⊎_, inl, inr, ⊎-elim}
 use mathlib.Core.Path.{_≡_, refl, sym, ap, subst, _∙_}
 use mathlib.Core.List.{List}
 use native.Mathlib.Omega.{arith}
 use borrow.Author.Tests.{eqb-true}
-use lib.Dec.{eqb}
+use lib.Dec.{leb, eqb}
+use lib.ListN.{length, getD}
 use Rattle.wire.specs.laws.Cases.{cond-elim, cond-cases}
 use Rattle.wire.specs.laws.Chains.{holds, eq-holds, or-else}
+use Rattle.occ.specs.Commands.{pollVerdict, clearAt, clearVerdict}
+use Rattle.occ.specs.Judge.{plainly, typeJudged, judgeOf}
 use Rattle.occ.specs.Open.{rowOf, openTo, openIn, shut, byProfile}
+use Rattle.record.specs.declared.Record.{Record}
+use Rattle.record.specs.declared.Worked.{Worked}
+use Rattle.change.specs.Change.{kindOf}
+use Rattle.change.specs.Logs.{findOf}
 use Rattle.change.specs.declared.Change.{Change}
+use Rattle.occ.specs.declared.Judged.{Judged}
 use Rattle.occ.specs.declared.Row.{Row}
 use Rattle.occ.specs.declared.Verdict.{Verdict}
 use Rattle.occ.specs.declared.Verdict.the-variants.{Refuse, Poll, Make}
@@ -63,6 +71,11 @@ statusIn (Refuse status) = status
 statusIn Poll = 0
 statusIn (Make change) = 0
 
+unfoldable isMade : Verdict → Bool
+isMade (Refuse status) = false
+isMade Poll = false
+isMade (Make change) = true
+
 sixteen : Refuse 0x16 ≡ Refuse 0x13 → ⊥
 unfolding statusIn
 sixteen e = let z : _≡_ {A = ℕ} 0x16 0x13 = ap statusIn e in absurd (omega (arith, z))
@@ -100,6 +113,43 @@ shut-wrong (Make ch) = ((λ e. absurd (sixteen e)), (λ e. absurd (make ch e)))
 pub wrong-stays : (profile kind : ℕ) (v : Verdict) → (byProfile profile kind v ≡ Refuse 0x13) ↔ (v ≡ Refuse 0x13)
 unfolding byProfile
 wrong-stays profile kind v = cond-elim (λ (x : Verdict). (x ≡ Refuse 0x13) ↔ (v ≡ Refuse 0x13)) (openIn profile kind) ((λ e. e), (λ e. e)) (shut-wrong v)
+
+-- a change is made only where the type is open, as it was judged
+shut-makes : (v : Verdict) (ch : Change) → shut v ≡ Make ch → ⊥
+unfolding shut statusIn isMade
+shut-makes (Refuse n) ch = cond-elim (λ (x : Verdict). x ≡ Make ch → ⊥) (eqb n 0x15) (λ e. false≢true (ap isMade e)) (λ e. false≢true (ap isMade e))
+shut-makes Poll ch = λ e. false≢true (ap isMade e)
+shut-makes (Make x) ch = λ e. false≢true (ap isMade e)
+
+pub made-open : (profile kind : ℕ) (v : Verdict) (ch : Change) → byProfile profile kind v ≡ Make ch → (openIn profile kind ≡ true) × (v ≡ Make ch)
+unfolding byProfile
+made-open profile kind v ch =
+    cond-cases (λ (x : Verdict). x ≡ Make ch → (openIn profile kind ≡ true) × (v ≡ Make ch)) (openIn profile kind) (λ o e. (o, e)) (λ o e. absurd (shut-makes v ch e))
+
+-- what is open in a watch-only session makes clears alone
+abbrev Clears : Verdict → Type 0
+Clears (Refuse status) = Unit {0}
+Clears Poll = Unit {0}
+Clears (Make change) = kindOf change ≡ 0x01
+
+module _ (r : Record) (w : Worked) (next sender : ℕ) (d : List ℕ) where
+  abbrev Clearing : Judged → Type 0
+  Clearing j = Clears (j .verdict)
+
+  clears-at : (kind : ℕ) → (kind ≡ 0x00) ⊎ (kind ≡ 0x12) → Clearing (judgeOf r w next sender kind d)
+  unfolding judgeOf typeJudged plainly pollVerdict clearVerdict clearAt kindOf
+  clears-at kind (inl z) =
+      subst (λ (k : ℕ). Clearing (judgeOf r w next sender k d)) (sym z)
+      (cond-elim Clearing (not (openTo sender 0x00)) tt (cond-elim Clears (not (eqb (length d) 1)) tt (cond-elim Clears (not (eqb (getD d 0 0) 0x10)) tt tt)))
+  clears-at kind (inr z) =
+      subst (λ (k : ℕ). Clearing (judgeOf r w next sender k d)) (sym z)
+      (cond-elim Clearing (not (openTo sender 0x12)) tt
+      (cond-elim Clears (not (eqb (length d) 1)) tt (cond-elim Clears (leb 4 (findOf (getD d 0 0) (r .logs))) tt refl)))
+
+  pub open-clears : (profile kind : ℕ) (ch : Change) → (profile ≡ 0 → ⊥) → byProfile profile kind (judgeOf r w next sender kind d .verdict) ≡ Make ch → kindOf ch ≡ 0x01
+  open-clears profile kind ch full e =
+      let made = made-open profile kind _ ch e in
+      ⊎-elim (λ z. absurd (full z)) (λ k. subst Clears (made .1) (clears-at kind k)) (open-in-exactly profile kind .0 (made .0))
 
 -- in a full session it does nothing
 pub full-stays : (kind : ℕ) (v : Verdict) → byProfile 0 kind v ≡ v

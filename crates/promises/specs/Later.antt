@@ -68,6 +68,9 @@ pub record Twins (k : ℕ) (s t : Session) : Type 0 where
   pub next-is : t .next ≡ suc (s .next)
   pub used-is : t .used ≡ s .used
   pub timer-is : t .timer ≡ s .timer
+  -- k: a session in which a log was made is a full one
+  pub full : s .profile ≡ 0
+  pub full′ : t .profile ≡ 0
 
 -- what came of a call on s, and of the one on its twin
 pub record Alike (k : ℕ) (s : Session) (a b : Said) : Type 0 where

@@ -8,6 +8,7 @@ pub mod Timed
 pub mod Struck
 pub mod Marks
 pub mod Sound
+pub mod Profiles
 pub mod Settled
 pub mod Demand3
 pub mod Clocks

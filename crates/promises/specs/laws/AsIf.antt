@@ -19,7 +19,7 @@ use Rattle.entries.specs.Entries.{bodyLen}
 use Rattle.journal.specs.Bytes.{entryBytes}
 use Rattle.journal.specs.laws.Ends.{length-entry}
 use Rattle.session.specs.Session.{wellFormed, madeOf, carriedOf}
-use Rattle.session.specs.Road.{Asks, refuses, tells, makes, moves, forgets, passes}
+use Rattle.session.specs.Road.{Asks, refuses, tells, makes, moves, forgets, passes, opens}
 use Rattle.session.specs.laws.Road.{Speaks}
 use Rattle.session.specs.laws.Timer.{Clock}
 use Rattle.occ_call.specs.laws.Speaks.{occ-speaks}
@@ -31,6 +31,7 @@ use Rattle.marks.specs.Marks.{passedOf}
 use Rattle.undo_call.specs.Undo.{moveAsks, passedBy}
 use Rattle.time_call.specs.Time.{timeAsks}
 use Rattle.promises.specs.Calls.{Call, sbe, asks, said, secondOf}
+use Rattle.promises.specs.laws.Profiles.{profile-stays}
 use Rattle.promises.specs.laws.Served.{second-same}
 use Rattle.promises.specs.Marks.{left, logsMade}
 use Rattle.promises.specs.History.{Deed, keeps, adds, strikes, unstrikes, drops, ticks, adding, deedBy, deed, goneAfter, applied, oldestOf, newerThan, keptOf, startOf, Run, did, next-run, OfBytes, givenBack}
@@ -71,6 +72,7 @@ spoken-drops s d bell y (makes e b z) h = cond-elim NoDrop (carriedOf s e .full)
 spoken-drops s d bell y (moves w at e) h = absurd h
 spoken-drops s d bell y (forgets n) h = absurd h
 spoken-drops s d bell y (passes n) h = absurd h
+spoken-drops s d bell y opens h = absurd h
 
 time-drops : (s : Session) (n : ℕ) → NoDrop (deedBy s (timeAsks n s))
 unfolding deedBy timeAsks
@@ -96,21 +98,23 @@ module _ (base : Record) (first : ℕ) (k : ℕ) (low : 1 ≤ k) where
     pub gone-is : q .gone ≡ p .gone
     pub made-is : logsMade (q .marks) ≡ suc (logsMade (p .marks))
     pub timer-is : q .session .timer ≡ p .session .timer
+    pub full : p .session .profile ≡ 0
+    pub full′ : q .session .profile ≡ 0
     pub from-k : k ≤ first + logsMade (p .marks)
 
-  used-shifted : (from : Record) (hi hi′ : ℕ) (es : List Edit) → Kept from hi es → Kept from hi′ (there-edits es) → length (journalOf from (there-edits es)) ≡ length (journalOf from es)
+  used-shifted : (from : Record) (w w′ hi hi′ : ℕ) (es : List Edit) → Kept from w hi es → Kept from w′ hi′ (there-edits es) → length (journalOf from (there-edits es)) ≡ length (journalOf from es)
   unfolding backs flat shiftedEdit inverseOf
-  used-shifted from hi hi′ [] w w′ = refl
-  used-shifted from hi hi′ (e ∷ es) w w′ =
+  used-shifted from a a′ hi hi′ [] w w′ = refl
+  used-shifted from a a′ hi hi′ (e ∷ es) w w′ =
       let b = inverseOf (applied from es) e in
       let b′ = inverseOf (applied from (there-edits es)) (shiftedEdit k e) in
       let kinds : kindOf (b′ .change) ≡ kindOf (b .change) = w′ .0 .links .kind-back ∙ kind-shifted k (e .change) ∙ sym (w .0 .links .kind-back) in
       length-append (journalOf from (there-edits es)) (entryBytes b′)
-      ∙ ap₂ _+_ (used-shifted from hi hi′ es (w .1) (w′ .1)) (length-entry Before b′ (w′ .0 .links .back-writable) ∙ ap (λ (i : ℕ). bodyLen i + 1) kinds ∙ sym (length-entry Before b (w .0 .links .back-writable)))
+      ∙ ap₂ _+_ (used-shifted from a a′ hi hi′ es (w .1) (w′ .1)) (length-entry Before b′ (w′ .0 .links .back-writable) ∙ ap (λ (i : ℕ). bodyLen i + 1) kinds ∙ sym (length-entry Before b (w .0 .links .back-writable)))
       ∙ sym (length-append (journalOf from es) (entryBytes b))
 
   -- rs, rs′: what can be redone, which doesn't matter here
-  undo-shifted : (from : Record) (s u t : Session) → Clock (s .timer) → Clock (t .timer) → (es : List Edit) (next : ℕ) (rs rs′ : List Edit) → Sane from es next rs → Sane from (there-edits es) (suc next) rs′
+  undo-shifted : (from : Record) (s u t : Session) → Clock (s .timer) → Clock (t .timer) → (es : List Edit) (next : ℕ) (rs rs′ : List Edit) → Sane from (s .profile) es next rs → Sane from (t .profile) (there-edits es) (suc next) rs′
       → AlikeAsks k u (moveAsks Before (byHistory from s es next rs)) (moveAsks Before (byHistory from t (there-edits es) (suc next) rs′))
   unfolding shiftedEdit inverseOf
   undo-shifted from s u t c c′ [] next rs rs′ g g′ =
@@ -161,8 +165,8 @@ module _ (base : Record) (first : ℕ) (k : ℕ) (low : 1 ≤ k) where
     there-is : q .session ≡ byHistory from (q .session) (there-edits es) (suc (first + n)) rs′
     there-is = b .inv′ .is ∙ (λ i. byHistory (start-there i) (q .session) (kept-there i) (next-there i) rs′)
 
-    sane′ : Sane from (there-edits es) (suc (first + n)) rs′
-    sane′ = subst (λ (T : Type 0). T) (λ i. Sane (start-there i) (kept-there i) (next-there i) rs′) (b .inv′ .sane)
+    sane′ : Sane from (q .session .profile) (there-edits es) (suc (first + n)) rs′
+    sane′ = subst (λ (T : Type 0). T) (λ i. Sane (start-there i) (q .session .profile) (kept-there i) (next-there i) rs′) (b .inv′ .sane)
 
     record-there : applied base (left (q .marks)) ≡ shiftedRecord k (applied base (left (p .marks)))
     record-there =
@@ -173,7 +177,7 @@ module _ (base : Record) (first : ℕ) (k : ℕ) (low : 1 ≤ k) where
     used-there =
         used-is base first q (b .inv′)
         ∙ (λ i. length (journalOf (start-there i) (kept-there i)))
-        ∙ used-shifted from (first + n) (suc (first + n)) es (b .inv .sane .kept) (sane′ .kept)
+        ∙ used-shifted from (p .session .profile) (q .session .profile) (first + n) (suc (first + n)) es (b .inv .sane .kept) (sane′ .kept)
         ∙ sym (used-is base first p (b .inv))
 
     pub twins : Twins k (p .session) (q .session)
@@ -183,6 +187,8 @@ module _ (base : Record) (first : ℕ) (k : ℕ) (low : 1 ≤ k) where
       next-is = next-is base first q (b .inv′) ∙ next-there ∙ ap suc (sym (next-is base first p (b .inv)));
       used-is = used-there;
       timer-is = b .timer-is;
+      full = b .full;
+      full′ = b .full′;
     }
 
     -- both journals are as long
@@ -334,6 +340,8 @@ module _ (base : Record) (first : ℕ) (k : ℕ) (low : 1 ≤ k) where
         timer-is =
             clock-is base first q (b .inv′) c′ bytes′ ∙ time-after q (deed (q .session) c′) there ∙ (λ i. timeAfter (b .timer-is i) (b .left-is i) (d i)) ∙ on .2
             ∙ sym (clock-is base first p (b .inv) c bytes ∙ time-after p (deed (p .session) c) here);
+        full = profile-stays (p .session) c ∙ b .full;
+        full′ = profile-stays (q .session) c′ ∙ b .full′;
         from-k = omega (arith, b .from-k, made-grows (logsMade (p .marks)) (deed (p .session) c), made);
       }
 

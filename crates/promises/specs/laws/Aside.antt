@@ -15,12 +15,13 @@ use Rattle.change.specs.declared.Edit.{Edit}
 use Rattle.journal.specs.Ways.{byWay}
 use Rattle.journal.specs.declared.Way.the-variants.{Before}
 use Rattle.session.specs.Session.{wellFormed, carriedOf, madeOf}
-use Rattle.session.specs.Road.{Asks, refuses, tells, makes, moves, forgets, passes, heldIn, ticked, due, settled}
+use Rattle.session.specs.Road.{Asks, refuses, tells, makes, moves, forgets, passes, opens, heldIn, ticked, due, settled}
 use Rattle.session.specs.laws.Road.{Speaks}
 use Rattle.session.specs.laws.Timer.{Clock}
 use Rattle.session.specs.declared.Session.{Session}
 use Rattle.packet.specs.Packet.{dataOf}
 use Rattle.places.specs.declared.Blame.the-variants.{Nothing}
+use Rattle.occ.specs.Open.{byProfile}
 use Rattle.occ_call.specs.Occ as occs
 use Rattle.occ_call.specs.laws.Speaks.{occ-speaks}
 use Rattle.sbe_call.specs.Sbe as sbes
@@ -40,6 +41,7 @@ use Rattle.promises.specs.laws.Marks.{tail, left-change, left-strike, lo
 use Rattle.promises.specs.laws.Stores.{padded}
 use Rattle.promises.specs.laws.ByHistory.{journalOf, byHistory, Sane, passed-history}
 use Rattle.promises.specs.laws.Steps.{undo-asks, undo-nothing}
+use Rattle.promises.specs.laws.Profiles.{profile-stays}
 use Rattle.promises.specs.laws.Settled.{noRoom, full-by-kind, same-settled}
 use Rattle.promises.specs.laws.UndoDemands.{Called, ill-formed, empty, barred, goes, called}
 use Rattle.promises.specs.laws.Demand3.{redoable, Inv, formed, held-is, next-is, worked-is, journal-is, used-is, next-inv}
@@ -67,6 +69,7 @@ deed-not s d bell y (makes e b z) h = cond-elim NotRedo (carriedOf s e .full) tt
 deed-not s d bell y (moves w at e) h = absurd h
 deed-not s d bell y (forgets n) h = tt
 deed-not s d bell y (passes n) h = tt
+deed-not s d bell y opens h = absurd h
 
 undo-not : (s : Session) (a : Asks) → Called Before s a → NotRedo (deedBy s a)
 unfolding deedBy byWay
@@ -158,9 +161,10 @@ module _ (base : Record) (first : ℕ) where
     pub made-is : logsMade (q .marks) ≡ logsMade (p .marks)
     pub gone-is : q .gone ≡ p .gone
     pub timer-is : q .session .timer ≡ p .session .timer
+    pub profile-is : q .session .profile ≡ p .session .profile
 
   -- undo asks the same, whatever can be redone
-  undo-same : (from : Record) (s t : Session) → Clock (s .timer) → Clock (t .timer) → (es : List Edit) (next : ℕ) (rs rs′ : List Edit) → Sane from es next rs → Sane from es next rs′
+  undo-same : (from : Record) (s t : Session) → Clock (s .timer) → Clock (t .timer) → (es : List Edit) (next : ℕ) (rs rs′ : List Edit) → Sane from (s .profile) es next rs → Sane from (t .profile) es next rs′
       → moveAsks Before (byHistory from t es next rs′) ≡ moveAsks Before (byHistory from s es next rs)
   undo-same from s t c c′ [] next rs rs′ g g′ = undo-nothing from t c′ next rs′ g′ ∙ sym (undo-nothing from s c next rs g)
   undo-same from s t c c′ (e ∷ es) next rs rs′ g g′ = undo-asks from t c′ e es next rs′ g′ ∙ sym (undo-asks from s c e es next rs g)
@@ -185,8 +189,8 @@ module _ (base : Record) (first : ℕ) where
     there-is : q .session ≡ byHistory from (q .session) es next (redoable base first q)
     there-is = b .inv′ .is ∙ (λ i. byHistory (start-is i) (q .session) (kept-is i) (first + b .made-is i) (redoable base first q))
 
-    sane′ : Sane from es next (redoable base first q)
-    sane′ = subst (λ (T : Type 0). T) (λ i. Sane (start-is i) (kept-is i) (first + b .made-is i) (redoable base first q)) (b .inv′ .sane)
+    sane′ : Sane from (q .session .profile) es next (redoable base first q)
+    sane′ = subst (λ (T : Type 0). T) (λ i. Sane (start-is i) (q .session .profile) (kept-is i) (first + b .made-is i) (redoable base first q)) (b .inv′ .sane)
 
     -- the second session differs from the first in what can be redone
     held-same : q .session .held ≡ p .session .held
@@ -211,10 +215,11 @@ module _ (base : Record) (first : ℕ) where
 
     -- so the same is asked of both
     same-asks : (c : Call) → ButRedo c → asks (q .session) c ≡ asks (p .session) c
-    unfolding asks occs.occAsks occs.occRefusal sbes.sbeAsks sbes.sbeRefusal timeAsks
+    unfolding asks occs.occAsks occs.occRead occs.occRefusal sbes.sbeAsks sbes.sbeRefusal timeAsks
     same-asks (occ sender c d) h = λ i.
-        due (occs.refusalOf (formed-same i) sender (length c) (length d)) (occs.occRead (held-same i) (worked-same i) (next-same i) sender c d)
-    same-asks (sbe r d m x) h = λ i. due (sbes.refusalOf (formed-same i) (length r) (length d)) (sbes.sbeRead r d m x)
+        due (occs.refusalOf (formed-same i) sender (length c) (length d))
+        (occs.judgedAsks (b .profile-is i) (held-same i) (worked-same i) (getD c 0 0) (getD c 1 0) d (occs.askedOf (held-same i) (worked-same i) (next-same i) sender c))
+    same-asks (sbe r d m x) h = λ i. due (sbes.refusalOf (formed-same i) (length r) (length d)) (sbes.sbeRead (b .profile-is i) r d m x)
     same-asks undo h =
         ap (moveAsks Before) there-is ∙ undo-same from (p .session) (q .session) (b .inv .clock) (b .inv′ .clock) es next (redoable base first p) (redoable base first q) (b .inv .sane) sane′ ∙ ap (moveAsks Before) (sym (b .inv .is))
     same-asks redo h = absurd h
@@ -234,7 +239,7 @@ module _ (base : Record) (first : ℕ) where
     unfolding occs.occWhy occs.occRefusal occs.whyFrom occs.whyRead
     why-same sender c d = λ i.
         cond (not (eqb (occs.refusalOf (formed-same i) sender (length c) (length d)) 0)) Nothing
-        (occs.faultFor (occs.askedOf (held-same i) (worked-same i) (next-same i) sender c .verdict) (held-same i) (getD c 1 0) (dataOf c))
+        (occs.faultFor (byProfile (b .profile-is i) (getD c 1 0) (occs.askedOf (held-same i) (worked-same i) (next-same i) sender c .verdict)) (held-same i) (getD c 1 0) (dataOf c))
 
     -- as many entries are passed
     passed-same : passedBy Before (q .session) ≡ passedBy Before (p .session)
@@ -270,6 +275,7 @@ module _ (base : Record) (first : ℕ) where
           timer-is =
               clock-is base first q (b .inv′) c bytes ∙ time-after q (deed (q .session) c) there ∙ (λ i. timeAfter (b .timer-is i) (b .left-is i) (d i))
               ∙ sym (clock-is base first p (b .inv) c bytes ∙ time-after p (deed (p .session) c) here);
+          profile-is = profile-stays (q .session) c ∙ b .profile-is ∙ sym (profile-stays (p .session) c);
         }
 
   pub as-before : (cs : List Call) → AllButRedo cs → (p q : Run) → Aside p q → AsBefore (p .session) (q .session) cs

@@ -13,7 +13,7 @@ use Rattle.journal.specs.Ways.{byWay}
 use Rattle.journal.specs.declared.Way.{Way}
 use Rattle.journal.specs.declared.Way.the-variants.{Before, After}
 use Rattle.session.specs.Session.{wellFormed, renewed, withTimer, carriedOf}
-use Rattle.session.specs.Road.{Asks, refuses, tells, makes, moves, forgets, passes, heldIn, sessionMoved, sessionFreed, forgotten, timePassed, Said, kept, done, carriedSays, settled}
+use Rattle.session.specs.Road.{Asks, refuses, tells, makes, moves, forgets, passes, opens, heldIn, sessionMoved, sessionFreed, forgotten, timePassed, Said, kept, done, carriedSays, settled}
 use Rattle.session.specs.laws.Road.{Speaks}
 use Rattle.session.specs.laws.Timer.{carried-timer}
 use Rattle.session.specs.declared.Session.{Session}
@@ -53,6 +53,7 @@ module _ (base : Record) (first : ℕ) (p : Run) (v : Inv base first p) where
   spoken d bell y (moves w at e) h = absurd h
   spoken d bell y (forgets n) h = absurd h
   spoken d bell y (passes n) h = absurd h
+  spoken d bell y opens h = absurd h
 
   -- ---- undo and redo, by what they ask
 
@@ -86,20 +87,20 @@ module _ (base : Record) (first : ℕ) (p : Run) (v : Inv base first p) where
   undo-clock : (x : List Edit) → es ≡ x → Leaves [] (moveAsks Before s)
   unfolding byWay
   undo-clock [] q =
-      let sane = subst (λ (l : List Edit). Sane from l (first + next) (redoable base first p)) q (v .sane) in
+      let sane = subst (λ (l : List Edit). Sane from (p .session .profile) l (first + next) (redoable base first p)) q (v .sane) in
       none-moved 6 _ (ap (moveAsks Before) (v .is ∙ ap (λ (l : List Edit). byHistory from s l (first + next) (redoable base first p)) q) ∙ undo-nothing from s (v .clock) (first + next) (redoable base first p) sane)
   undo-clock (e ∷ x) q =
-      let sane = subst (λ (l : List Edit). Sane from l (first + next) (redoable base first p)) q (v .sane) in
+      let sane = subst (λ (l : List Edit). Sane from (p .session .profile) l (first + next) (redoable base first p)) q (v .sane) in
       let is = v .is ∙ ap (λ (l : List Edit). byHistory from s l (first + next) (redoable base first p)) q in
       moved Before _ _ _ (ap (moveAsks Before) is ∙ undo-asks from s (v .clock) e x (first + next) (redoable base first p) sane) (taken-back e x q)
 
   redo-clock : (x : List Edit) → redoable base first p ≡ x → Leaves [] (moveAsks After s)
   unfolding byWay
   redo-clock [] q =
-      let sane = subst (Sane from es (first + next)) q (v .sane) in
+      let sane = subst (Sane from (p .session .profile) es (first + next)) q (v .sane) in
       none-moved 8 _ (ap (moveAsks After) (v .is ∙ ap (byHistory from s es (first + next)) q) ∙ redo-nothing from s (v .clock) es (first + next) sane)
   redo-clock (e ∷ x) q =
-      let sane = subst (Sane from es (first + next)) q (v .sane) in
+      let sane = subst (Sane from (p .session .profile) es (first + next)) q (v .sane) in
       let is = v .is ∙ ap (byHistory from s es (first + next)) q in
       moved After _ _ _ (ap (moveAsks After) is ∙ redo-asks from s (v .clock) e es (first + next) x sane) (put-again e x q)
 

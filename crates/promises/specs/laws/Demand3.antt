@@ -24,7 +24,7 @@ use Rattle.occ.specs.declared.Verdict.the-variants.{Refuse, Poll, Make}
 use Rattle.sbe.specs.declared.Ruling.{Ruling}
 use Rattle.sbe.specs.declared.Ruling.the-variants.{Decline, Grant, Done, Read}
 use Rattle.session.specs.Session.{wellFormed, madeOf, renewed, withTimer, carriedOf}
-use Rattle.session.specs.Road.{Asks, refuses, tells, makes, moves, forgets, passes, forgotten, ticked, timePassed, Said, kept, done, carriedSays, settled}
+use Rattle.session.specs.Road.{Asks, refuses, tells, makes, moves, forgets, passes, opens, forgotten, ticked, timePassed, Said, kept, done, carriedSays, settled}
 use Rattle.session.specs.laws.Road.{due-cases, Speaks}
 use Rattle.session.specs.laws.Timer.{Clock, ticked-clock}
 use Rattle.session.specs.declared.Session.{Session}
@@ -37,7 +37,7 @@ use Rattle.forget_call.specs.Forget.{forgetAsks, forgetCall}
 use Rattle.time_call.specs.Time.{timeAsks}
 use Rattle.promises.specs.Calls.{Call, occ, sbe, undo, redo, forget, time, bufferOf, asks, said}
 use Rattle.promises.specs.History.{Deed, adds, strikes, unstrikes, drops, ticks, adding, deedBy, deed, marked, undosAfter, sinceAfter, goneAfter, applied, oldestOf, newerThan, keptOf, startOf, forgetAnswer, Run, did, next-run, run, OfBytes, AllOfBytes, Demand3}
-use Rattle.promises.specs.laws.Sound.{Sound, occ-sound, sbe-sound}
+use Rattle.promises.specs.laws.Sound.{Lets, Sound, occ-sound, sbe-sound}
 use Rattle.promises.specs.laws.ByHistory.{standing, journalOf, byHistory, own-history, Sane, history-formed}
 use Rattle.promises.specs.laws.Stores.{padded}
 use Rattle.promises.specs.laws.Steps.{carried-history, carried-sane, carried-clock, undo-asks, undone, undo-history, undone-sane, undone-clock, redo-asks, redone, redo-history, redone-sane, redone-clock, undo-nothing, redo-nothing}
@@ -64,6 +64,7 @@ Fairly (makes e bell y) = Unit {0}
 Fairly (moves w at e) = Unit {0}
 Fairly (forgets n) = Unit {0}
 Fairly (passes n) = Unit {0}
+Fairly opens = Unit {0}
 
 module _ (s : Session) where
   settled-fair : (d : List ℕ) (a : Asks) → Fairly a → Fair (settled s d a .answer)
@@ -75,6 +76,7 @@ module _ (s : Session) where
   settled-fair d (moves w at e) h = ((λ z. omega (arith, z)), (λ z. omega (arith, z)))
   settled-fair d (forgets n) h = ((λ z. omega (arith, z)), (λ z. omega (arith, z)))
   settled-fair d (passes n) h = ((λ z. omega (arith, z)), (λ z. omega (arith, z)))
+  settled-fair d opens h = ((λ z. omega (arith, z)), (λ z. omega (arith, z)))
 
   module _ (formed : wellFormed s ≡ true) where
     -- a refusal is not 1
@@ -145,7 +147,7 @@ module _ (base : Record) (first : ℕ) where
   pub record Inv (p : Run) : Type 0 where
     pub is : p .session ≡ byHistory (startOf base p) (p .session) (keptOf p) (first + logsMade (p .marks)) (redoable p)
     pub clock : Clock (p .session .timer)
-    pub sane : Sane (startOf base p) (keptOf p) (first + logsMade (p .marks)) (redoable p)
+    pub sane : Sane (startOf base p) (p .session .profile) (keptOf p) (first + logsMade (p .marks)) (redoable p)
     pub counts : 1 ≤ first
     pub low : p .gone ≤ length (left (p .marks))
     pub ids : idsMade (p .marks) ≡ countdown first (logsMade (p .marks))
@@ -157,12 +159,12 @@ module _ (base : Record) (first : ℕ) where
 
   -- a run whose marks say this, by what they say
   inv-by : (p : Run) (from : Record) (es : List Edit) (n : ℕ) (rs : List Edit) → Starts p from es → logsMade (p .marks) ≡ n → redoable p ≡ rs
-      → (s : Session) → p .session ≡ byHistory from s es (first + n) rs → Clock (s .timer) → Sane from es (first + n) rs → idsMade (p .marks) ≡ countdown first n → Strokes (p .undos) (p .since) (p .marks) → Inv p
+      → (s : Session) → p .session ≡ byHistory from s es (first + n) rs → Clock (s .timer) → Sane from (s .profile) es (first + n) rs → idsMade (p .marks) ≡ countdown first n → Strokes (p .undos) (p .since) (p .marks) → Inv p
   unfolding byHistory standing renewed
   inv-by p from es n rs l k a s is clock sane ids strokes = record {
     clock = subst Clock (sym (ap (λ (x : Session). x .timer) is)) clock;
     is = own-history from s (p .session) es (first + n) rs is ∙ sym (λ i. byHistory (l .0 i) (p .session) (l .1 i) (first + k i) (a i));
-    sane = subst (λ (T : Type 0). T) (sym (λ i. Sane (l .0 i) (l .1 i) (first + k i) (a i))) sane;
+    sane = subst (λ (T : Type 0). T) (sym (λ i. Sane (l .0 i) (is i .profile) (l .1 i) (first + k i) (a i))) sane;
     counts = l .3;
     low = l .2;
     ids = ids ∙ ap (countdown first) (sym k);
@@ -248,10 +250,10 @@ module _ (base : Record) (first : ℕ) where
     abbrev now : Timer
     now = p .session .timer
 
-    changed : (e : Edit) → Made (p .session .held) (p .session .next) (e .tables) (e .change) → carriedOf (p .session) e .full ≡ false
+    changed : (e : Edit) → Made (p .session .held) (p .session .next) (e .tables) (e .change) → Lets (p .session .profile) (e .change) → carriedOf (p .session) e .full ≡ false
         → Inv (did p (carriedOf (p .session) e .session) (adds e))
     unfolding did marked undosAfter sinceAfter goneAfter withTimer timed
-    changed e m f =
+    changed e m lets f =
         let x = timed now e in
         let made : Made (applied from es) next (e .tables) (e .change) =
         subst (λ (k : ℕ). Made (applied from es) k (e .tables) (e .change)) next-is (subst (λ (r : Record). Made r (p .session .next) (e .tables) (e .change)) held-kept m) in
@@ -260,10 +262,10 @@ module _ (base : Record) (first : ℕ) where
         inv-by (did p (carriedOf (p .session) e .session) (adds e)) from (x ∷ es) (n + madeOf (e .change)) []
         (starts-more (did p (carriedOf (p .session) e .session) (adds e)) x refl (left-change x (p .marks))) (logs-more now e (p .marks)) (off-change (v .strokes) x)
         (withTimer (p .session) (timerAfter now (e .change)))
-        (ap (λ (s : Session). carriedOf s e .session) (v .is) ∙ carried-history from (p .session) (v .clock) e es next rs (v .sane) made fits
+        (ap (λ (s : Session). carriedOf s e .session) (v .is) ∙ carried-history from (p .session) (v .clock) e es next rs (v .sane) made lets fits
         ∙ ap (λ (k : ℕ). byHistory from (withTimer (p .session) (timerAfter now (e .change))) (x ∷ es) k []) up)
-        (carried-clock from (p .session) (v .clock) e es next rs (v .sane) made fits)
-        (subst (λ (k : ℕ). Sane from (x ∷ es) k []) up (carried-sane from (p .session) (v .clock) e es next rs (v .sane) made fits))
+        (carried-clock from (p .session) (v .clock) e es next rs (v .sane) made lets fits)
+        (subst (λ (k : ℕ). Sane from (p .session .profile) (x ∷ es) k []) up (carried-sane from (p .session) (v .clock) e es next rs (v .sane) made lets fits))
         (ids-add first (record { edit = x; stroke = 0 }) (p .marks) (drew (applied from es) next (x .tables) (x .change) (made-timed now (v .clock) (applied from es) next (e .tables) (e .change) made)) (v .ids)
         ∙ ap (countdown first) (logs-more now e (p .marks)))
         (strokes-change (v .strokes) x)
@@ -272,10 +274,11 @@ module _ (base : Record) (first : ℕ) where
     unfolding settled deedBy carriedSays adding kept done did marked undosAfter sinceAfter goneAfter
     follow d bell y (refuses m) h k = v
     follow d bell y (tells b z) h k = v
-    follow d bell y (makes e b z) h k = by-both Follows (carriedOf (p .session) e .full) (λ f. v) (λ f. changed e h f)
+    follow d bell y (makes e b z) h k = by-both Follows (carriedOf (p .session) e .full) (λ f. v) (λ f. changed e (h .0) (h .1) f)
     follow d bell y (moves w at e) h k = absurd k
     follow d bell y (forgets m) h k = absurd k
     follow d bell y (passes m) h k = absurd k
+    follow d bell y opens h k = absurd k
 
     -- ---- undo and redo, by what they ask
 
@@ -300,13 +303,13 @@ module _ (base : Record) (first : ℕ) where
       pub after : Moves Before (moveAsks Before (p .session))
 
     undo-gives : (x : List Edit) → es ≡ x → UndoGives x
-    unfolding undoAnswer moveCall settled kept done did marked undosAfter sinceAfter goneAfter byWay
+    unfolding undoAnswer moveCall settled kept done did marked undosAfter sinceAfter goneAfter byWay withTimer
     undo-gives [] q =
-        let sane = subst (λ (l : List Edit). Sane from l next rs) q (v .sane) in
+        let sane = subst (λ (l : List Edit). Sane from (p .session .profile) l next rs) q (v .sane) in
         let asked = ap (moveAsks Before) (v .is ∙ ap (λ (l : List Edit). byHistory from (p .session) l next rs) q) ∙ undo-nothing from (p .session) (v .clock) next rs sane in
         record { answer = ap (λ (a : Asks). settled (p .session) [] a .answer) asked; after = subst (Moves Before) (sym asked) (none-moved Before 6) }
     undo-gives (e ∷ x) q =
-        let sane = subst (λ (l : List Edit). Sane from l next rs) q (v .sane) in
+        let sane = subst (λ (l : List Edit). Sane from (p .session .profile) l next rs) q (v .sane) in
         let is = v .is ∙ ap (λ (l : List Edit). byHistory from (p .session) l next rs) q in
         let gives = ap (moveCall Before) is ∙ undo-history from (p .session) (v .clock) e x next rs sane in
         let back = undone from (p .session) (v .clock) e x next rs sane in
@@ -329,13 +332,13 @@ module _ (base : Record) (first : ℕ) where
       pub after : Moves After (moveAsks After (p .session))
 
     redo-gives : (x : List Edit) → rs ≡ x → RedoGives x
-    unfolding moveCall settled kept done did marked undosAfter sinceAfter goneAfter byWay
+    unfolding moveCall settled kept done did marked undosAfter sinceAfter goneAfter byWay withTimer
     redo-gives [] q =
-        let sane = subst (Sane from es next) q (v .sane) in
+        let sane = subst (Sane from (p .session .profile) es next) q (v .sane) in
         let asked = ap (moveAsks After) (v .is ∙ ap (byHistory from (p .session) es next) q) ∙ redo-nothing from (p .session) (v .clock) es next sane in
         record { answer = ap (λ (a : Asks). settled (p .session) [] a .answer) asked; after = subst (Moves After) (sym asked) (none-moved After 8) }
     redo-gives (e ∷ x) q =
-        let sane = subst (Sane from es next) q (v .sane) in
+        let sane = subst (Sane from (p .session .profile) es next) q (v .sane) in
         let is = v .is ∙ ap (byHistory from (p .session) es next) q in
         let gives = ap (moveCall After) is ∙ redo-history from (p .session) (v .clock) e es next x sane in
         let again = redone from (p .session) (v .clock) e es next x sane in

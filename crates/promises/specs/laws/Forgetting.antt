@@ -123,11 +123,11 @@ module _ (base : Record) where
   backs-append [] ys = refl
   backs-append (e ∷ xs) ys = ap₂ (λ (r : Record) (l : List Edit). inverseOf r e ∷ l) (applied-append base xs ys) (backs-append xs ys)
 
-  kept-newer : (hi : ℕ) (xs ys : List Edit) → Kept base hi (xs ++ ys) → Kept (applied base ys) hi xs
-  kept-newer hi [] ys k = tt
-  kept-newer hi (e ∷ xs) ys k = (step-at base (applied base ys) hi e (xs ++ ys) xs (applied-append base xs ys) (k .0), kept-newer hi xs ys (k .1))
+  kept-newer : (p hi : ℕ) (xs ys : List Edit) → Kept base p hi (xs ++ ys) → Kept (applied base ys) p hi xs
+  kept-newer p hi [] ys k = tt
+  kept-newer p hi (e ∷ xs) ys k = (step-at base p (applied base ys) hi e (xs ++ ys) xs (applied-append base xs ys) (k .0), kept-newer p hi xs ys (k .1))
 
-  module _ (s : Session) (es : List Edit) (next : ℕ) (rs : List Edit) (sane : Sane base es next rs) (n : ℕ) (few : n ≤ length es) where
+  module _ (s : Session) (es : List Edit) (next : ℕ) (rs : List Edit) (sane : Sane base (s .profile) es next rs) (n : ℕ) (few : n ≤ length es) where
     abbrev os : List Edit
     os = oldestOf n es
 
@@ -149,14 +149,15 @@ module _ (base : Record) where
     sum : length (journalOf base es) ≡ at + length (journalOf from ks)
     sum = ap length journal-parts ∙ length-append (flat (backs base os)) (journalOf from ks)
 
-    pub forget-sane : Sane from ks next rs
+    pub forget-sane : Sane from (s .profile) ks next rs
     forget-sane = record {
       small = sane .small;
       fits = omega (arith, sane .fits, sum);
       ok = subst (λ (r : Record). recordOk r next ≡ true) (sym (whole-record base n es)) (sane .ok);
       typed = subst TypedRecord (sym (whole-record base n es)) (sane .typed);
-      kept = kept-newer next ks os (subst (Kept base next) (sym (two-parts n es)) (sane .kept));
-      again = again-at base from next es ks rs (sym (whole-record base n es)) (sane .again);
+      kept = kept-newer (s .profile) next ks os (subst (Kept base (s .profile) next) (sym (two-parts n es)) (sane .kept));
+      again = again-at base (s .profile) from next es ks rs (sym (whole-record base n es)) (sane .again);
+      profile = sane .profile;
     }
 
     abbrev was : Session
@@ -164,7 +165,7 @@ module _ (base : Record) where
 
     reads : scan (take (was .used) (was .journal)) ≡ between (pile (backs base es))
     unfolding byHistory standing byWay renewed
-    reads = ap scan (take-padded (flat (backs base es))) ∙ pile-reads Before (backs base es) (backs-stored base next es (sane .kept))
+    reads = ap scan (take-padded (flat (backs base es))) ∙ pile-reads Before (backs base es) (backs-stored base (s .profile) next es (sane .kept))
 
     pub held-history : heldIn was ≡ length es
     unfolding heldIn entriesIn entriesOf
@@ -203,7 +204,7 @@ module _ (base : Record) where
         λ i. renewed s (sym (whole-record base n es) i) next (j i) (u i) (padded (flat rs)) (length (flat rs))
 
   -- what it asks of that session
-  pub forget-asks : (s : Session) → Clock (s .timer) → (es : List Edit) (next : ℕ) (rs : List Edit) → Sane base es next rs → (n : ℕ)
+  pub forget-asks : (s : Session) → Clock (s .timer) → (es : List Edit) (next : ℕ) (rs : List Edit) → Sane base (s .profile) es next rs → (n : ℕ)
       → forgetAsks n (byHistory base s es next rs) ≡ cond (ltb (length es) n) (refuses 9) (forgets n)
   unfolding forgetAsks oldestAsks
   forget-asks s c es next rs sane n =

@@ -10,7 +10,7 @@ use Rattle.wire.specs.Wire.{allAre, pasted}
 use Rattle.wire.specs.laws.Wire.{all-replicate, all-append}
 use Rattle.wire.specs.laws.Cases.{if-b, else-lt}
 use Rattle.change.specs.declared.Edit.{Edit}
-use Rattle.entries.specs.Entries.{Entry, written, between, scanFrom, scanBy, scan, newestAt}
+use Rattle.entries.specs.Entries.{Entry, written, between, scanFrom, scanBy, scan, entriesOf, newestAt}
 use Rattle.entries.specs.laws.Entries.{scan-written, scan-older, take-newest, length-written}
 use Rattle.journal.specs.Bytes.{entryFor, entryBytes}
 use Rattle.journal.specs.Read.{entryOk, allOk, scanOk, entriesOk}
@@ -20,7 +20,9 @@ use Rattle.journal.specs.declared.Way.{Way}
 use Rattle.journal.specs.declared.Way.the-variants.{Before, After}
 use Rattle.journal.specs.laws.Bodies.{Writable}
 use Rattle.journal.specs.laws.Ends.{added, length-added, added-reads, added-unused}
+use Rattle.session.specs.Session.{entriesIn, onlyClears}
 use Rattle.session.specs.laws.Reads.{reads}
+use Rattle.session.specs.laws.Watch.{clears-more, clears-first, entries-read}
 use Rattle.session.specs.laws.Session.{Store, Formed}
 use Rattle.session.specs.declared.Session.{Session}
 use Rattle.session.specs.Road.{storeOf, usedOf}
@@ -39,11 +41,11 @@ all-parts w x es h = go (entryOk w x) refl h
     go true e h = (e, h)
     go false e h = absurd (false≢true h)
 
--- ---- nothing in it
+-- ---- nothing in it: clears only
 
-pub none-used : (w : Way) (n : ℕ) → Store w (replicate n 0) 0
-unfolding entriesOk scanOk scanBy scanFrom allOk
-none-used w n = record { fits = omega arith; reads = refl; unused = all-replicate 0 n }
+pub none-clears : (j : List ℕ) → onlyClears (entriesIn 0 j) ≡ true
+unfolding entriesIn entriesOf scanBy scanFrom onlyClears
+none-clears j = refl
 
 -- ---- one entry more
 
@@ -56,6 +58,16 @@ module _ (w : Way) (j : List ℕ) (used : ℕ) (store : Store w j used) (e : Edi
 
   pub one-more : Store w (addedTo used e j) (used + entryLen e)
   one-more = record { fits = omega (arith, length-added w e used j writable room, room); reads = more-reads; unused = added-unused w e used j writable room (store .unused) }
+
+  -- k: clears only, if it is one
+  pub more-clears : entryFor e .kind ≡ 0x01 → onlyClears (entriesIn used j) ≡ true → onlyClears (entriesIn (used + entryLen e) (addedTo used e j)) ≡ true
+  more-clears k h =
+      let r = reads w (take used j) (store .reads) in
+      ap onlyClears (entries-read (used + entryLen e) (addedTo used e j) (entryFor e ∷ r .entries) (added-reads w e used j writable room (r .entries) (r .scanned)))
+      ∙ clears-more (entryFor e) (r .entries) k (sym (ap onlyClears (entries-read used j (r .entries) (r .scanned))) ∙ h)
+
+  pub pasted-clears : entryFor e .kind ≡ 0x01 → onlyClears (entriesIn used j) ≡ true → onlyClears (entriesIn (used + entryLen e) (pasted used (entryBytes e) j)) ≡ true
+  pasted-clears k h = ap (λ (l : List ℕ). onlyClears (entriesIn (used + entryLen e) l)) (sym (added w e used j writable room)) ∙ more-clears k h
 
   pub more-pasted : Store w (pasted used (entryBytes e) j) (used + entryLen e)
   more-pasted = subst (λ (l : List ℕ). Store w l (used + entryLen e)) (added w e used j writable room) one-more
@@ -115,6 +127,16 @@ module _ (w : Way) (j : List ℕ) (used : ℕ) (store : Store w j used) (x : Ent
         reads = ap (entriesOk w) (take-cut j (length (written es)) used low (store .fits)) ∙ less-reads;
         unused = drop-cut j (length (written es)) used low (store .fits) (store .unused);
       }
+
+  -- k: clears only, if they were, the newest among them
+  pub less-clears : onlyClears (entriesIn used j) ≡ true → (x .kind ≡ 0x01) × (onlyClears (entriesIn (length (written es)) (cutFrom (length (written es)) used j)) ≡ true)
+  unfolding newestAt
+  less-clears h =
+      let low : length (written es) ≤ used = omega (arith, used-is) in
+      let t = clears-first x es (sym (ap onlyClears (entries-read used j (x ∷ es) read)) ∙ h) in
+      let older : scan (take (length (written es)) (cutFrom (length (written es)) used j)) ≡ between es =
+      ap scan (take-cut j (length (written es)) used low (store .fits) ∙ take-newest (take used j) x es read) ∙ scan-older (take used j) x es read in
+      (t .0, ap onlyClears (entries-read (length (written es)) (cutFrom (length (written es)) used j) es older) ∙ t .1)
 
 -- ---- in a session, by the way
 

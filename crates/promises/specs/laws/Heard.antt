@@ -33,6 +33,7 @@ use Rattle.sbe.specs.declared.Ruling.the-variants.{Decline, Grant, Done, Read}
 use Rattle.session.specs.Session.{wellFormed, carriedOf}
 use Rattle.session.specs.Road.{Asks, refuses, tells, makes, moves, passes, timerBell, due, kept, done, carriedSays, settled}
 use Rattle.session.specs.declared.Session.{Session}
+use Rattle.occ.specs.Open.{openIn, byProfile}
 use Rattle.occ_call.specs.Occ as occs
 use Rattle.occ_call.specs.laws.Why.{asked-read}
 use Rattle.sbe_call.specs.Sbe as sbes
@@ -115,10 +116,10 @@ module _ (k : ℕ) (low : 1 ≤ k) (s t : Session) (tw : Twins k s t) (from-k : 
     verdict-alike b (Make ch) = both-make (record { change = ch; tables = b }) 0 _
 
     judged-alike : (j j′ : Judged) → j′ ≡ shiftedJudged k j
-        → AlikeAsks k s (occs.judgedAsks (s .held) (s .worked) seq kind d j) (occs.judgedAsks (t .held) (t .worked) seq kind d j′)
-    unfolding occs.judgedAsks shiftedJudged
+        → AlikeAsks k s (occs.judgedAsks 0 (s .held) (s .worked) seq kind d j) (occs.judgedAsks 0 (t .held) (t .worked) seq kind d j′)
+    unfolding occs.judgedAsks shiftedJudged byProfile openIn
     judged-alike j j′ e =
-        subst (λ (x : Judged). AlikeAsks k s (occs.judgedAsks (s .held) (s .worked) seq kind d j) (occs.judgedAsks (t .held) (t .worked) seq kind d x)) (sym e)
+        subst (λ (x : Judged). AlikeAsks k s (occs.judgedAsks 0 (s .held) (s .worked) seq kind d j) (occs.judgedAsks 0 (t .held) (t .worked) seq kind d x)) (sym e)
         (verdict-alike (j .tables) (j .verdict))
 
   module _ (sender : ℕ) (c c′ d : List ℕ) (long : length c′ ≡ length c) (sequence : getD c′ 0 0 ≡ getD c 0 0) (type : getD c′ 1 0 ≡ getD c 1 0) where
@@ -141,15 +142,19 @@ module _ (k : ℕ) (low : 1 ≤ k) (s t : Session) (tw : Twins k s t) (from-k : 
         (e .makes ∙ ap (λ (i : ℕ). Make (Reset (record { id = i; reason = e .reason }))) (e .last)) (e .refuses)
 
     abbrev here : Asks
-    here = occs.judgedAsks (s .held) (s .worked) (getD c 0 0) (getD c 1 0) d j
+    here = occs.judgedAsks 0 (s .held) (s .worked) (getD c 0 0) (getD c 1 0) d j
 
     abbrev there : Asks
-    there = occs.judgedAsks (t .held) (t .worked) (getD c 0 0) (getD c 1 0) d j′
+    there = occs.judgedAsks 0 (t .held) (t .worked) (getD c 0 0) (getD c 1 0) d j′
+
+    first-front : due n here ≡ occs.occAsks s sender c d
+    unfolding occs.occAsks occs.occRead
+    first-front = λ i. due n (occs.judgedAsks (sym (tw .full) i) (s .held) (s .worked) (getD c 0 0) (getD c 1 0) d j)
 
     -- the second packet's sequence number, type and length are the first one's
     same-front : due n there ≡ occs.occAsks t sender c′ d
     unfolding occs.occAsks occs.occRead
-    same-front = λ i. due (sym refusal-is i) (occs.judgedAsks (t .held) (t .worked) (sym sequence i) (sym type i) d j′)
+    same-front = λ i. due (sym refusal-is i) (occs.judgedAsks (sym (tw .full′) i) (t .held) (t .worked) (sym sequence i) (sym type i) d j′)
 
     -- the same data byte is told, if one is
     module _ (fault-is : j′ ≡ shiftedJudged k j → occs.faultFor (j′ .verdict) (t .held) (getD c′ 1 0) (dataOf c′) ≡ occs.faultFor (j .verdict) (s .held) (getD c 1 0) (dataOf c)) where
@@ -169,14 +174,16 @@ module _ (k : ℕ) (low : 1 ≤ k) (s t : Session) (tw : Twins k s t) (from-k : 
           ⊎-elim (λ h. inr (judged-alike (getD c 0 0) (getD c 1 0) d j j′ h, fault-is h)) (λ h. inl (ended (eqb-true n 0 (not-false _ e)) h)) same
 
       why-there : cond (not (eqb n 0)) Nothing there-told ≡ occs.occWhy t sender c′ d
-      unfolding occs.occWhy occs.whyFrom occs.whyRead
-      why-there = λ i. cond (not (eqb (sym refusal-is i) 0)) Nothing there-told
+      unfolding occs.occWhy occs.whyFrom occs.whyRead byProfile openIn
+      why-there = λ i. cond (not (eqb (sym refusal-is i) 0)) Nothing (occs.faultFor (byProfile (sym (tw .full′) i) (getD c′ 1 0) (j′ .verdict)) (t .held) (getD c′ 1 0) (dataOf c′))
+
+      why-here : cond (not (eqb n 0)) Nothing here-told ≡ occs.occWhy s sender c d
+      unfolding occs.occWhy occs.whyFrom occs.whyRead byProfile openIn
+      why-here = λ i. cond (not (eqb n 0)) Nothing (occs.faultFor (byProfile (sym (tw .full) i) (getD c 1 0) (j .verdict)) (s .held) (getD c 1 0) (dataOf c))
 
       occ-alike : Likewise k (s .next) j j′ → Alikes (occs.occAsks s sender c d) (occs.occAsks t sender c′ d) (occs.occWhy s sender c d) (occs.occWhy t sender c′ d)
-      unfolding occs.occAsks occs.occRead due occs.occWhy occs.whyFrom occs.whyRead
-      occ-alike same =
-          subst (λ (b : Asks). Alikes (occs.occAsks s sender c d) b (occs.occWhy s sender c d) (occs.occWhy t sender c′ d)) same-front
-          (subst (Alikes (due n here) (due n there) (cond (not (eqb n 0)) Nothing here-told)) why-there (by-refusal (not (eqb n 0)) refl same))
+      unfolding due
+      occ-alike same = subst (λ (T : Type 0). T) (λ i. Alikes (first-front i) (same-front i) (why-here i) (why-there i)) (by-refusal (not (eqb n 0)) refl same)
 
   -- ---- SBE: its changes have no log
 
@@ -220,9 +227,11 @@ module _ (k : ℕ) (low : 1 ≤ k) (s t : Session) (tw : Twins k s t) (from-k : 
         cond-cases (λ (u : Ruling). u ≡ Grant ch → mailbox.requestRuling r ≡ Grant ch) (not (eqb (sbes.readStatus image room offset size) 0)) (λ f g. absurd (no-grant g)) (λ f g. absurd (no-grant-done g))
 
     sbe-alike : (m x : List ℕ) → AlikeAsks k s (sbes.sbeAsks s r d m x) (sbes.sbeAsks t r d m x)
-    unfolding sbes.sbeAsks sbes.sbeRead sbes.sbeRuling sbes.sbeRefusal
+    unfolding sbes.sbeAsks sbes.sbeRead sbes.byProfile sbes.sbeRuling sbes.sbeRefusal
     sbe-alike m x =
-        subst (λ (f : Bool). AlikeAsks k s (sbes.sbeAsks s r d m x) (due (sbes.refusalOf f (length r) (length d)) (sbes.sbeRead r d m x))) (formed-s ∙ sym formed-t)
+        subst (λ (T : Type 0). T)
+        (λ i. AlikeAsks k s (due (sbes.sbeRefusal s (length r) (length d)) (sbes.sbeRead (sym (tw .full) i) r d m x))
+        (due (sbes.refusalOf ((formed-s ∙ sym formed-t) i) (length r) (length d)) (sbes.sbeRead (sym (tw .full′) i) r d m x)))
         (both-due k s _ (told-alike (sbes.sbeRuling r m x) (granted-so (length m) (length x) (mailbox.requestRuling r) refl)))
 
   -- ---- time

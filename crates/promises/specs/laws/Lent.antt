@@ -131,7 +131,7 @@ limit-fits role got user caps f u =
     (cond-elim Small (eqb got 0) (omega arith)
     (cond-elim Small (eqb user 0) (f .max) (cond-elim Small (ltb user (caps .min)) (f .min) (cond-elim Small (ltb (caps .max) user) (f .max) u))))
 
-history-typed : (base : Record) (s : Session) → Clock (s .timer) → (es : List Edit) (next : ℕ) (rs : List Edit) → Sane base es next rs → Typed (byHistory base s es next rs)
+history-typed : (base : Record) (s : Session) → Clock (s .timer) → (es : List Edit) (next : ℕ) (rs : List Edit) → Sane base (s .profile) es next rs → Typed (byHistory base s es next rs)
 unfolding byHistory standing byWay renewed workedOf
 history-typed base s c es next rs g =
     let r = applied base es in

@@ -17,7 +17,7 @@ use Rattle.formed.specs.Formed.{timerOk, changeOk, recordOk, editOk}
 use Rattle.formed.specs.laws.Formed.{sound, inverse-ok}
 use Rattle.entries.specs.Entries.{bodyLen, bytesOf, written}
 use Rattle.entries.specs.laws.Entries.{scan-proper}
-use Rattle.journal.specs.Bytes.{entryBytes}
+use Rattle.journal.specs.Bytes.{entryFor, entryBytes}
 use Rattle.journal.specs.Read.{valuesOk, entryOk}
 use Rattle.journal.specs.Add.{entryLen}
 use Rattle.journal.specs.Ways.{byWay, other}
@@ -27,9 +27,10 @@ use Rattle.journal.specs.declared.Way.the-variants.{Before, After}
 use Rattle.journal.specs.laws.Bodies.{Writable}
 use Rattle.journal.specs.laws.Ends.{length-entry}
 use Rattle.journal.specs.laws.Says.{Holds, Says, found-says}
-use Rattle.session.specs.Session.{wellFormed, renewed, withTimer}
+use Rattle.session.specs.Session.{entriesIn, onlyClears, wellFormed, renewed, withTimer}
 use Rattle.session.specs.Road.{Asks, moves, storeOf, usedOf, lessened, grown, grownTo, sessionMoved, Said, kept, done, settled}
-use Rattle.session.specs.laws.Session.{Store, Formed, formed, formed-ok}
+use Rattle.session.specs.laws.Session.{Store, Profile, Formed, formed, formed-ok}
+use Rattle.session.specs.laws.Watch.{profile-kept}
 use Rattle.session.specs.declared.Session.{Session}
 use Rattle.undo_call.specs.Undo.{moveCall}
 use Rattle.undo_call.specs.laws.NoneLeft.{none-zero}
@@ -40,7 +41,7 @@ use Rattle.links.specs.laws.Entry.{entry-ok}
 use Rattle.promises.specs.Demand2.{Newest, GoesIn}
 use Rattle.promises.specs.laws.Moved.{entry-moved}
 use Rattle.promises.specs.Effects.{zeroedFrom, movesTo, entryBack, MoveEffect}
-use Rattle.promises.specs.laws.FormedStores.{all-good, all-parts, more-pasted, cut-zeroed, used-is, one-less, store-of, both-used, long-store}
+use Rattle.promises.specs.laws.FormedStores.{all-good, all-parts, pasted-clears, more-pasted, cut-zeroed, used-is, one-less, less-clears, store-of, both-used, long-store}
 use Rattle.promises.specs.laws.UndoDemands.{Called, ill-formed, empty, barred, goes, called}
 
 -- ---- beside a timer that passes
@@ -58,13 +59,29 @@ timer-after-ok P f t ok = by-timer (λ (ch : Change). P ch → timerOk (timerAft
 -- ---- the session after it, store by store
 
 module _ (s : Session) (at : ℕ) (e : Edit) (held : Record) where
+  -- k: clears only, in the store that an entry leaves and in the one that it comes to
+  abbrev BothClear : Way → Type 0
+  BothClear w = (onlyClears (entriesIn at (lessened w s at)) ≡ true) × (onlyClears (entriesIn (grownTo w s e) (grown w s e)) ≡ true)
+
   stores-formed : (w : Way) → recordOk held (s .next) ≡ true → timerOk (timerAfter (s .timer) (e .change)) ≡ true → at + grownTo w s e ≤ 2048 → Store w (lessened w s at) at → Store (other w) (grown w s e) (grownTo w s e)
-      → wellFormed (sessionMoved w s at e held) ≡ true
+      → Profile (s .profile) (entriesIn (s .used) (s .journal)) (entriesIn (s .ahead) (s .redo))
+      → (onlyClears (entriesIn (s .used) (s .journal)) ≡ true → onlyClears (entriesIn (s .ahead) (s .redo)) ≡ true → BothClear w) → wellFormed (sessionMoved w s at e held) ≡ true
   unfolding sessionMoved renewed withTimer byWay other
-  stores-formed Before ok timer fit less more =
-      formed-ok (sessionMoved Before s at e held) (record { record-ok = ok; worked-is = refl; timer-ok = timer; both-fit = fit; journal = less; marks-are = refl; redo = more })
-  stores-formed After ok timer fit less more =
-      formed-ok (sessionMoved After s at e held) (record { record-ok = ok; worked-is = refl; timer-ok = timer; both-fit = omega (arith, fit); journal = more; marks-are = refl; redo = less })
+  stores-formed Before ok timer fit less more p clear =
+      formed-ok (sessionMoved Before s at e held)
+      (record { record-ok = ok; worked-is = refl; timer-ok = timer; both-fit = fit; journal = less; marks-are = refl; redo = more; profile-is = profile-kept (s .profile) _ _ _ _ p clear })
+  stores-formed After ok timer fit less more p clear =
+      formed-ok (sessionMoved After s at e held)
+      (record {
+        record-ok = ok;
+        worked-is = refl;
+        timer-ok = timer;
+        both-fit = omega (arith, fit);
+        journal = more;
+        marks-are = refl;
+        redo = less;
+        profile-is = profile-kept (s .profile) _ _ _ _ p (λ j r. let both = clear j r in (both .1, both .0));
+      })
 
   stores-moved : (w : Way) → lessened w s at ≡ zeroedFrom at (usedOf w s) (storeOf w s) → grownTo w s e ≡ usedOf (other w) s + length (bytesOf (entryBack s e))
       → sessionMoved w s at e held ≡ movesTo w (withTimer s (timerAfter (s .timer) (e .change))) held at (bytesOf (entryBack s e))
@@ -76,6 +93,12 @@ module _ (s : Session) (at : ℕ) (e : Edit) (held : Record) where
   unfolding sessionMoved renewed usedOf byWay other
   stores-used Before sum = sum
   stores-used After sum = omega (arith, sum)
+
+-- k: either store
+clear-of : (s : Session) (w : Way) → onlyClears (entriesIn (s .used) (s .journal)) ≡ true → onlyClears (entriesIn (s .ahead) (s .redo)) ≡ true → onlyClears (entriesIn (usedOf w s) (storeOf w s)) ≡ true
+unfolding usedOf storeOf byWay
+clear-of s Before j r = j
+clear-of s After j r = r
 
 -- ---- the newest entry, and the one that takes it back
 
@@ -149,9 +172,20 @@ module _ (w : Way) (s : Session) (f : Formed s) (e : Edit) (n : Newest w s e) wh
         more-pasted (other w) (storeOf (other w) s) (usedOf (other w) s) (store-of s f (other w)) back writable (entry-ok (other w) back writable back-passes)
         (omega (arith, room, long-store s typed (other w)))
 
+    -- k: the entry that comes has the kind of the one that goes
+    both-clear : onlyClears (entriesIn (s .used) (s .journal)) ≡ true → onlyClears (entriesIn (s .ahead) (s .redo)) ≡ true → BothClear s at e (putOf (s .held) e .after) w
+    unfolding lessened grown grownTo entryFor
+    both-clear j r =
+        let from = less-clears w (storeOf w s) (usedOf w s) store (n .entry) (n .older) (n .read) (clear-of s w j r) in
+        (
+          from .1,
+          pasted-clears (other w) (storeOf (other w) s) (usedOf (other w) s) (store-of s f (other w)) back writable (entry-ok (other w) back writable back-passes)
+          (omega (arith, room, long-store s typed (other w))) (same-kind ∙ from .0) (clear-of s (other w) j r),
+        )
+
     pub moved-formed : recordOk (putOf (s .held) e .after) (s .next) ≡ true → wellFormed (settled s [] (moves w at e) .session) ≡ true
     unfolding settled done
-    moved-formed ok = stores-formed s at e (putOf (s .held) e .after) w ok timer-passes (omega (arith, sum-stays, both-used s f w)) less more
+    moved-formed ok = stores-formed s at e (putOf (s .held) e .after) w ok timer-passes (omega (arith, sum-stays, both-used s f w)) less more (f .profile-is) both-clear
 
     moved-effect : GoesIn (s .held) (e .change) → MoveEffect w s (settled s [] (moves w at e))
     unfolding settled done lessened grownTo

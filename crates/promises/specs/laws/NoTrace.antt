@@ -38,8 +38,9 @@ use Rattle.links.specs.laws.Made.{Made}
 use Rattle.promises.specs.Calls.{Call, undo, redo, bufferOf, asks, said}
 use Rattle.promises.specs.Marks.{Mark, left, logsMade, undoAnswer}
 use Rattle.promises.specs.History.{adds, strikes, deedBy, deed, marked, sinceAfter, goneAfter, applied, oldestOf, keptOf, startOf, Run, did, next-run, OfBytes, givenBack, clockAfter}
+use Rattle.promises.specs.laws.Profiles.{profile-stays, clear-makes-none}
 use Rattle.promises.specs.laws.Ids.{one-made}
-use Rattle.promises.specs.laws.Timed.{after-back, timer-again, timed-again, timer-put-back, change-put-back}
+use Rattle.promises.specs.laws.Timed.{after-back, timer-again, timed-again, timer-put-back, change-put-back, timed-made}
 use Rattle.promises.specs.laws.Stores.{padded, paste-padded, flat, flat-length}
 use Rattle.promises.specs.laws.ByHistory.{standing, backs, byHistory, own-timer, Kept, Sane, again-stored}
 use Rattle.promises.specs.laws.Marks.{off-change, left-change, logs-more}
@@ -98,12 +99,12 @@ change-stays k r n t (SetDeadman deadman) low ok h m = refl
 change-stays k r n t (SetAreas areas) low ok h m = refl
 change-stays k r n t (SetTimer timer) low ok h m = refl
 
-edits-stay : (base : Record) (k : ℕ) (es : List Edit) → 1 ≤ k → Kept base k es → map (shiftedEdit k) es ≡ es
+edits-stay : (base : Record) (p k : ℕ) (es : List Edit) → 1 ≤ k → Kept base p k es → map (shiftedEdit k) es ≡ es
 unfolding shiftedEdit
-edits-stay base k [] low w = refl
-edits-stay base k (e ∷ es) low w =
+edits-stay base p k [] low w = refl
+edits-stay base p k (e ∷ es) low w =
     let same = change-stays k (applied base es) (w .0 .known) (e .tables) (e .change) low (w .0 .ok) (w .0 .below) (w .0 .made) in
-    ap₂ (λ (ch : Change) (l : List Edit). record { change = ch; tables = e .tables } ∷ l) same (edits-stay base k es low (w .1))
+    ap₂ (λ (ch : Change) (l : List Edit). record { change = ch; tables = e .tables } ∷ l) same (edits-stay base p k es low (w .1))
 
 -- a record whose logs lie below k is the same in both worlds
 logs-stay : (k : ℕ) (l : List Log) → ((p : ℕ) → getD l p noLog .id < k) → map (shiftedLog k) l ≡ l
@@ -115,10 +116,10 @@ unfolding shiftedRecord withLogs logsOk
 record-stays k r low ok = ap (withLogs r) (logs-stay k (r .logs) (id-below low (above {low = 0} (sound ok .logs))))
 
 -- the record before the oldest change is well formed at the next id
-start-ok : (base : Record) (hi : ℕ) (es : List Edit) → recordOk (applied base es) hi ≡ true → Kept base hi es → recordOk base hi ≡ true
+start-ok : (base : Record) (p hi : ℕ) (es : List Edit) → recordOk (applied base es) hi ≡ true → Kept base p hi es → recordOk base hi ≡ true
 unfolding applied
-start-ok base hi [] ok k = ok
-start-ok base hi (e ∷ es) ok k = start-ok base hi es (k .0 .ok) (k .1)
+start-ok base p hi [] ok k = ok
+start-ok base p hi (e ∷ es) ok k = start-ok base p hi es (k .0 .ok) (k .1)
 
 -- ---- a change and its undo
 
@@ -160,6 +161,10 @@ module _ (base : Record) (first : ℕ) (p : Run) (v : Inv base first p) (c : Cal
   unfolding clockAfter
   timer-are = clock-is base first p v c b ∙ ap (clockAfter p) made
 
+  profile-are : q .session .profile ≡ p .session .profile
+  unfolding next-run did
+  profile-are = profile-stays (p .session) c
+
   -- it is kept, and what was forgotten stays so
   starts : (startOf base q ≡ from) × (keptOf q ≡ x ∷ es)
   starts =
@@ -176,8 +181,8 @@ module _ (base : Record) (first : ℕ) (p : Run) (v : Inv base first p) (c : Cal
   q-is : q .session ≡ byHistory from (q .session) (x ∷ es) (first + m) []
   q-is = w .is ∙ (λ i. byHistory (starts .0 i) (q .session) (starts .1 i) (first + logs-are i) (none-redoable i))
 
-  q-sane : Sane from (x ∷ es) (first + m) []
-  q-sane = subst (λ (T : Type 0). T) (λ i. Sane (starts .0 i) (starts .1 i) (first + logs-are i) (none-redoable i)) (w .sane)
+  q-sane : Sane from (q .session .profile) (x ∷ es) (first + m) []
+  q-sane = subst (λ (T : Type 0). T) (λ i. Sane (starts .0 i) (q .session .profile) (starts .1 i) (first + logs-are i) (none-redoable i)) (w .sane)
 
   -- the redo store holds the change as it was made
   now-is : timed (q .session .timer) x ≡ e
@@ -196,10 +201,11 @@ module _ (base : Record) (first : ℕ) (p : Run) (v : Inv base first p) (c : Cal
       after-back (q .session .timer) (applied from es) (x .change) ∙ ap (λ (t : Timer). timerAfter t (timedChange was (e .change))) timer-are ∙ timer-again was (e .change)
 
   own-is : byHistory from (undone from (q .session) (w .clock) x es (first + m) [] q-sane) es (first + m) (e ∷ []) ≡ byHistory from (p .session) es (first + m) (e ∷ [])
-  own-is = own-timer from (p .session) (undone from (q .session) (w .clock) x es (first + m) [] q-sane) es (first + m) (e ∷ []) timer-back
+  unfolding withTimer
+  own-is = own-timer from (p .session) (undone from (q .session) (w .clock) x es (first + m) [] q-sane) es (first + m) (e ∷ []) timer-back profile-are
 
-  back-sane : Sane from es (first + m) (e ∷ [])
-  back-sane = subst (λ (y : Edit). Sane from es (first + m) (y ∷ [])) now-is (undone-sane from (q .session) (w .clock) x es (first + m) [] q-sane)
+  back-sane : Sane from (p .session .profile) es (first + m) (e ∷ [])
+  back-sane = subst (λ (T : Type 0). T) (λ i. Sane from (profile-are i) es (first + m) (now-is i ∷ [])) (undone-sane from (q .session) (w .clock) x es (first + m) [] q-sane)
 
   -- the redo store holds that change alone
   one-redoable : padded (flat (e ∷ [])) ≡ pasted 0 (entryBytes e) (replicate 2048 0)
@@ -208,7 +214,7 @@ module _ (base : Record) (first : ℕ) (p : Run) (v : Inv base first p) (c : Cal
 
   one-long : length (flat (e ∷ [])) ≡ entryLen e
   unfolding flat
-  one-long = flat-length After e [] (again-stored from (first + m) es (e ∷ []) (back-sane .again)) ∙ zero-add (entryLen e)
+  one-long = flat-length After e [] (again-stored from (p .session .profile) (first + m) es (e ∷ []) (back-sane .again)) ∙ zero-add (entryLen e)
 
   left-so : leaves (byHistory from (p .session) es (first + logsMade (p .marks)) (redoable base first p)) e ≡ byHistory from (p .session) es (first + m) (e ∷ [])
   unfolding leaves byHistory standing byWay renewed
@@ -229,7 +235,7 @@ module _ (base : Record) (first : ℕ) (p : Run) (v : Inv base first p) (c : Cal
   redo-brings-back =
       ap (λ (s : Session). redoCall s .session) (back-is ∙ own-is)
       ∙ ap (λ (u : Said). u .session) (redo-history from (p .session) (v .clock) e es (first + m) [] back-sane)
-      ∙ own-timer from (q .session) (redone from (p .session) (v .clock) e es (first + m) [] back-sane) (x ∷ es) (first + m) [] (sym timer-are)
+      ∙ own-timer from (q .session) (redone from (p .session) (v .clock) e es (first + m) [] back-sane) (x ∷ es) (first + m) [] (sym timer-are) (sym profile-are)
       ∙ sym q-is
 
   -- ---- later
@@ -260,6 +266,10 @@ module _ (base : Record) (first : ℕ) (p : Run) (v : Inv base first p) (c : Cal
       clock-is base first q w undo tt ∙ ap (clockAfter q) undo-done ∙ ap (givenBack (q .session .timer)) left-are
       ∙ ap (λ (t : Timer). timerAfter t (timedChange was (e .change))) timer-are ∙ timer-again was (e .change)
 
+  profile-after : after .session .profile ≡ p .session .profile
+  unfolding next-run did
+  profile-after = profile-stays (q .session) undo ∙ profile-are
+
   -- a change that made no log: every later reply is as if nobody had tried, as long as nobody redoes
   pub later-as-before : madeOf (e .change) ≡ 0 → (cs : List Call) → AllButRedo cs → AsBefore (p .session) (said (q .session) undo .session) cs
   unfolding next-run did
@@ -271,6 +281,7 @@ module _ (base : Record) (first : ℕ) (p : Run) (v : Inv base first p) (c : Cal
         made-is = logs-after ∙ ap (λ (k : ℕ). logsMade (p .marks) + k) z ∙ add-zero (logsMade (p .marks));
         gone-is = gone-after;
         timer-is = timer-after;
+        profile-is = profile-after;
       })
 
   -- a change that made a log: from then on both worlds, the one where nobody tried and this one, are alike but for ids
@@ -283,7 +294,13 @@ module _ (base : Record) (first : ℕ) (p : Run) (v : Inv base first p) (c : Cal
 
   -- the ids in the record that the forgotten changes gave lie below k
   start-still : shiftedRecord k from ≡ from
-  start-still = record-stays k from k-low (start-ok from k es (v .sane .ok) (v .sane .kept))
+  start-still = record-stays k from k-low (start-ok from (p .session .profile) k es (v .sane .ok) (v .sane .kept))
+
+  -- k: a watch-only session takes clears alone, which make no log
+  is-full : madeOf (e .change) ≡ 1 → p .session .profile ≡ 0
+  unfolding timed
+  is-full one =
+      ⊎-elim (λ z. sym profile-are ∙ z) (λ kind. absurd (omega (arith, one, timed-made was (e .change), clear-makes-none (x .change) kind))) (q-sane .kept .0 .lets)
 
   beside : madeOf (e .change) ≡ 1 → Beside base first k k-low p after
   beside one =
@@ -293,10 +310,12 @@ module _ (base : Record) (first : ℕ) (p : Run) (v : Inv base first p) (c : Cal
         still = start-still;
         left-is =
             left-after-is ∙ sym (two-parts (p .gone) (left (p .marks)))
-            ∙ ap (λ (l : List Edit). l ++ oldestOf (p .gone) (left (p .marks))) (sym (edits-stay from k es k-low (v .sane .kept)));
+            ∙ ap (λ (l : List Edit). l ++ oldestOf (p .gone) (left (p .marks))) (sym (edits-stay from (p .session .profile) k es k-low (v .sane .kept)));
         gone-is = gone-after;
         made-is = logs-after ∙ ap (λ (n : ℕ). logsMade (p .marks) + n) one ∙ add-one (logsMade (p .marks));
         timer-is = timer-after;
+        full = is-full one;
+        full′ = profile-after ∙ is-full one;
         from-k = omega arith;
       }
 
@@ -310,14 +329,14 @@ module _ (base : Record) (first : ℕ) (p : Run) (v : Inv base first p) (c : Cal
 -- ---- redo after undo gives back the session from before the undo
 
 -- the newest change of a history undone and redone
-module _ (from : Record) (s : Session) (clock : Clock (s .timer)) (x : Edit) (xs : List Edit) (n : ℕ) (rs : List Edit) (sane : Sane from (x ∷ xs) n rs) where
+module _ (from : Record) (s : Session) (clock : Clock (s .timer)) (x : Edit) (xs : List Edit) (n : ℕ) (rs : List Edit) (sane : Sane from (s .profile) (x ∷ xs) n rs) where
   abbrev back : Session
   back = undone from s clock x xs n rs sane
 
   abbrev held : Edit
   held = timed (s .timer) x
 
-  abbrev later : Sane from xs n (held ∷ rs)
+  abbrev later : Sane from (s .profile) xs n (held ∷ rs)
   later = undone-sane from s clock x xs n rs sane
 
   abbrev then : Clock (back .timer)
@@ -328,7 +347,7 @@ module _ (from : Record) (s : Session) (clock : Clock (s .timer)) (x : Edit) (xs
   there-and-back =
       ap (λ (u : Said). redoCall (u .session) .session) (undo-history from s clock x xs n rs sane)
       ∙ ap (λ (u : Said). u .session) (redo-history from back then held xs n rs later)
-      ∙ own-timer from s (redone from back then held xs n rs later) (timed (back .timer) held ∷ xs) n rs (timer-put-back (s .timer) (applied from xs) x)
+      ∙ own-timer from s (redone from back then held xs n rs later) (timed (back .timer) held ∷ xs) n rs (timer-put-back (s .timer) (applied from xs) x) refl
       ∙ ap (λ (y : Edit). byHistory from s (y ∷ xs) n rs) (change-put-back (s .timer) (applied from xs) x)
 
 module _ (base : Record) (first : ℕ) (p : Run) (v : Inv base first p) (accepted : undoCall (p .session) .answer ≡ 0) where
@@ -347,5 +366,5 @@ module _ (base : Record) (first : ℕ) (p : Run) (v : Inv base first p) (accepte
           let rs = redoable base first p in
           let from = startOf base p in
           let is : s ≡ byHistory from s (x ∷ xs) n rs = v .is ∙ ap (λ (l : List Edit). byHistory from s l n rs) e in
-          let sane = subst (λ (l : List Edit). Sane from l n rs) e (v .sane) in
+          let sane = subst (λ (l : List Edit). Sane from (s .profile) l n rs) e (v .sane) in
           ap (λ (t : Session). redoCall (undoCall t .session) .session) is ∙ there-and-back from s (v .clock) x xs n rs sane ∙ sym is

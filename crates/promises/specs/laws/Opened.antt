@@ -1,6 +1,7 @@
 -- A well-formed session whose stores are empty starts a history; a fresh one does. Assumes nothing.
 use Prim.Native.Nat.{ℕ, _+_, _≤_}
 use mathlib.Core.Bool.{true}
+use mathlib.Core.Logic.{inl, inr, ⊎-elim}
 use mathlib.Core.Path.{_≡_, refl, sym, ap, ap₂, subst, _∙_}
 use mathlib.Core.List.{List, []}
 use native.Mathlib.Nat.{add-zero}
@@ -56,18 +57,19 @@ module _ (s : Session) (typed : TypedSession s) (ok : wellFormed s ≡ true) (no
     ahead = none-ahead i;
     marks = (f .marks-are ∙ (λ j. marksFor (journal-zero j) (none j))) i;
     timer = s .timer;
+    profile = s .profile;
   }
 
-  opened-sane : Sane (s .held) [] (s .next) []
+  opened-sane : Sane (s .held) (s .profile) [] (s .next) []
   unfolding backs flat applied
-  opened-sane = record { small = formed-next s ok; fits = omega arith; ok = f .record-ok; typed = typed .held; kept = tt; again = tt }
+  opened-sane = record { small = formed-next s ok; fits = omega arith; ok = f .record-ok; typed = typed .held; kept = tt; again = tt; profile = ⊎-elim (λ z. inl z) (λ h. inr (h .0)) (f .profile-is) }
 
   pub opened-start : Inv (s .held) (s .next) (start s)
   unfolding start left logsMade off idsMade countdown byHistory standing byWay backs flat applied
   opened-start = record {
     is = own-session ∙ ap (λ (n : ℕ). renewed s (s .held) n (padded []) 0 (padded []) 0) (sym (add-zero (s .next)));
     clock = record { ok = f .timer-ok; fits = typed .timer };
-    sane = subst (λ (n : ℕ). Sane (s .held) [] n []) (sym (add-zero (s .next))) opened-sane;
+    sane = subst (λ (n : ℕ). Sane (s .held) (s .profile) [] n []) (sym (add-zero (s .next))) opened-sane;
     counts = plainly-formed s .0 ok .next .0;
     low = omega arith;
     ids = refl;

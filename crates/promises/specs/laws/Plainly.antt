@@ -2,8 +2,8 @@
 use Prim.Native.Nat.{ℕ, zero, suc, _+_, _/_, _%_, _^_, _≤_, _<_}
 use mathlib.Core.Bool.{Bool, true, false, cond, not, false≢true}
 use mathlib.Core.List.{List, [], _∷_}
-use mathlib.Core.Logic.{_↔_}
-use mathlib.Core.Path.{_≡_, refl, sym, ap, _∙_}
+use mathlib.Core.Logic.{_↔_, inl, inr, ⊎-elim}
+use mathlib.Core.Path.{_≡_, refl, sym, ap, subst, _∙_}
 use lib.ListN.{take, drop}
 use Rattle.wire.specs.Conditions.{_and_}
 use Rattle.wire.specs.Wire.{allAre}
@@ -29,10 +29,11 @@ use Rattle.journal.specs.declared.Found.{Found}
 use Rattle.journal.specs.declared.Found.the-variants.{Good, Bad}
 use Rattle.journal.specs.declared.Way.{Way}
 use Rattle.journal.specs.declared.Way.the-variants.{Before, After}
-use Rattle.session.specs.Session.{entriesIn, wellFormed}
+use Rattle.session.specs.Session.{entriesIn, onlyClears, wellFormed}
+use Rattle.session.specs.laws.Watch.{clears-more, clears-first}
 use Rattle.session.specs.laws.Session.{Store, formed, formed-ok}
 use Rattle.session.specs.declared.Session.{Session}
-use Rattle.promises.specs.WellFormed.{EachIs, StateHolds, RoleHolds, CapsHold, DeadmanHolds, TimerHolds, PairsHold, ThrottlesHold, AreaHolds, ThermalHolds, Reason, Unused, LogsRise, ChangeHolds, SaysWell, EntriesHold, StoreHolds, WellFormed}
+use Rattle.promises.specs.WellFormed.{EachIs, StateHolds, RoleHolds, CapsHold, DeadmanHolds, TimerHolds, PairsHold, ThrottlesHold, AreaHolds, ThermalHolds, Reason, Unused, LogsRise, ChangeHolds, SaysWell, EntriesHold, StoreHolds, EachClears, WellFormed}
 use Rattle.session.specs.laws.Reads.{reads}
 
 abbrev Holds : Bool → Type 0 → Type 0
@@ -222,6 +223,18 @@ module _ (w : Way) where
   unfolding entriesIn entriesOf
   held-entries j used h = ap (λ (l : List ℕ). entriesOf (scan l)) (h .reads) ∙ ap entriesOf (entries-read (h .entries) (h .hold) .0)
 
+-- k: clears only
+
+abbrev Only : List Entry → Type 0
+Only es = onlyClears es ≡ true
+
+each-clears : (es : List Entry) → Only es ↔ EachClears es
+unfolding onlyClears
+each-clears [] = ((λ h. tt), (λ h. refl))
+each-clears (e ∷ es) =
+    let r = each-clears es in
+    ((λ h. let t = clears-first e es h in (t .0, r .0 (t .1))), (λ h. clears-more e es (h .0) (r .1 (h .1))))
+
 -- ---- a session
 
 pub plainly-formed : (s : Session) → (wellFormed s ≡ true) ↔ WellFormed s
@@ -248,6 +261,10 @@ plainly-formed s = (
         marks = f .marks-are ∙ ap marksOf (same-entries Before (s .journal) (s .used) (f .journal));
         redo = store-holds After _ _ (f .redo);
         both = f .both-fit;
+        profile =
+            ⊎-elim (λ z. inl z)
+            (λ h. inr (h .0, (each-clears _ .0 (subst Only (same-entries Before (s .journal) (s .used) (f .journal)) (h .1)), each-clears _ .0 (subst Only (same-entries After (s .redo) (s .ahead) (f .redo)) (h .2)))))
+            (f .profile-is);
       },
   λ p.
       formed-ok s (record {
@@ -268,5 +285,9 @@ plainly-formed s = (
         journal = holds-store Before _ _ (p .journal);
         marks-are = p .marks ∙ ap marksOf (sym (held-entries Before (s .journal) (s .used) (p .journal)));
         redo = holds-store After _ _ (p .redo);
+        profile-is =
+            ⊎-elim (λ z. inl z)
+            (λ h. inr (h .0, subst Only (sym (held-entries Before (s .journal) (s .used) (p .journal))) (each-clears _ .1 (h .1 .0)), subst Only (sym (held-entries After (s .redo) (s .ahead) (p .redo))) (each-clears _ .1 (h .1 .1))))
+            (p .profile);
       }),
 )

@@ -1,6 +1,7 @@
 -- One change more, the newest one taken back, and the one last taken back put in again, on the session of a history. Assumes nothing.
 use Prim.Native.Nat.{ℕ, _+_, _-_, _≤_}
 use mathlib.Core.Bool.{true, false, not}
+use mathlib.Core.Logic.{inl, inr, ⊎-elim}
 use mathlib.Core.Path.{_≡_, refl, sym, ap, subst, _∙_}
 use mathlib.Core.List.{List, [], _∷_}
 use native.Mathlib.Omega.{arith}
@@ -38,6 +39,7 @@ use Rattle.links.specs.laws.Made.{Made}
 use Rattle.links.specs.laws.Links.{Link, link, next-up}
 use Rattle.promises.specs.History.{applied}
 use Rattle.promises.specs.laws.Room.{end-room}
+use Rattle.promises.specs.laws.Sound.{Lets}
 use Rattle.promises.specs.laws.Timed.{timed-made, after-back, made-timed, after-clock}
 use Rattle.promises.specs.laws.Stores.{padded, length-padded, paste-padded, flat, pile, AllStored, flat-length, flat-some, newest-reads, newest-part, newest-cut}
 use Rattle.promises.specs.laws.ByHistory.{standing, backs, journalOf, byHistory, Step, Sane, kept-up, backs-stored, again-stored, history-formed, step-timed, again-timed}
@@ -49,8 +51,8 @@ next-small r n h = leb-true n 256 (passed (ltb n 1) _ (sound h .next) .1)
 
 -- ---- one change more: what could be redone is gone. In the history it holds the timer as it stood
 
-module _ (base : Record) (s : Session) (clock : Clock (s .timer)) (e : Edit) (es : List Edit) (next : ℕ) (rs : List Edit) (g : Sane base es next rs)
-    (made : Made (applied base es) next (e .tables) (e .change)) (fits : carriedOf (byHistory base s es next rs) e .full ≡ false) where
+module _ (base : Record) (s : Session) (clock : Clock (s .timer)) (e : Edit) (es : List Edit) (next : ℕ) (rs : List Edit) (g : Sane base (s .profile) es next rs)
+    (made : Made (applied base es) next (e .tables) (e .change)) (lets : Lets (s .profile) (e .change)) (fits : carriedOf (byHistory base s es next rs) e .full ≡ false) where
   abbrev here : Record
   here = applied base es
 
@@ -117,7 +119,11 @@ module _ (base : Record) (s : Session) (clock : Clock (s .timer)) (e : Edit) (es
       ap (λ (k : End). carriedTo (byHistory base s es next rs) e k .session) end-is
       ∙ (λ i. renewed (withTimer s (timerAfter (s .timer) (e .change))) (record-is i) (next + madeOf (e .change)) (journal-is i) (used-is i) (padded []) 0)
 
-  pub carried-sane : Sane base (x ∷ es) (next + madeOf (e .change)) []
+  lets-now : Lets (s .profile) (x .change)
+  unfolding timed
+  lets-now = ⊎-elim (λ z. inl z) (λ k. inr (timed-kind (s .timer) (e .change) ∙ k)) lets
+
+  pub carried-sane : Sane base (s .profile) (x ∷ es) (next + madeOf (e .change)) []
   unfolding applied flat
   carried-sane =
       let sound : recordOk (putOf here x .after) (next + madeOf (e .change)) ≡ true = subst (λ (k : ℕ). recordOk (putOf here x .after) (next + k) ≡ true) logs-are (l .put-sound) in
@@ -129,10 +135,11 @@ module _ (base : Record) (s : Session) (clock : Clock (s .timer)) (e : Edit) (es
         ok = sound;
         typed = l .put-typed;
         kept = (
-          record { known = next; made = m; below = omega (arith, logs-are); links = l; ok = next-up here next (next + madeOf (e .change)) (g .ok) up small; typed = g .typed },
-          kept-up base next (next + madeOf (e .change)) es up small (g .kept),
+          record { known = next; made = m; below = omega (arith, logs-are); links = l; ok = next-up here next (next + madeOf (e .change)) (g .ok) up small; typed = g .typed; lets = lets-now },
+          kept-up base (s .profile) next (next + madeOf (e .change)) es up small (g .kept),
         );
         again = tt;
+        profile = g .profile;
       }
 
   -- the timer that it sets
@@ -261,7 +268,7 @@ module _ (base : Record) (s : Session) (clock : Clock (s .timer)) (e : Edit) (es
   now = timed (s .timer) e
 
   -- a change and what takes it back have entries of one length, whatever timer they hold
-  same-length : (step : Step base next e es) → entryLen (inverseOf (applied base es) e) ≡ entryLen e
+  same-length : (step : Step base (s .profile) next e es) → entryLen (inverseOf (applied base es) e) ≡ entryLen e
   same-length step = ap (λ (k : ℕ). bodyLen k + 1) (step .links .kind-back)
 
   now-length : entryLen now ≡ entryLen e
@@ -273,12 +280,12 @@ module _ (base : Record) (s : Session) (clock : Clock (s .timer)) (e : Edit) (es
   now-back = ap (λ (k : ℕ). bodyLen k + 1) (kind-of-back (applied base es) (now .change)) ∙ now-length
 
   -- the newest one taken back
-  module _ (g : Sane base (e ∷ es) next rs) where
-    abbrev step : Step base next e es
+  module _ (g : Sane base (s .profile) (e ∷ es) next rs) where
+    abbrev step : Step base (s .profile) next e es
     step = g .kept .0
 
-    abbrev then : Step base next now es
-    then = step-timed base (s .timer) clock e es next step
+    abbrev then : Step base (s .profile) next now es
+    then = step-timed base (s .profile) (s .timer) clock e es next step
 
     abbrev taken : Edit
     taken = inverseOf (applied base es) e
@@ -296,7 +303,7 @@ module _ (base : Record) (s : Session) (clock : Clock (s .timer)) (e : Edit) (es
     pub undo-asks : moveAsks Before (byHistory base s (e ∷ es) next rs) ≡ moves Before (length (flat (backs base es))) taken
     unfolding byHistory backs applied
     undo-asks =
-        asks-standing Before s (applied base (e ∷ es)) next taken (backs base es) rs (history-formed base s clock (e ∷ es) next rs g) (backs-stored base next (e ∷ es) (g .kept)) (g .fits)
+        asks-standing Before s (applied base (e ∷ es)) next taken (backs base es) rs (history-formed base s clock (e ∷ es) next rs g) (backs-stored base (s .profile) next (e ∷ es) (g .kept)) (g .fits)
         (applied base es) (step .links .put-back) (step .ok) now back-is now-long same
 
     -- what is left of it: the timer that it holds is the session's now
@@ -306,14 +313,14 @@ module _ (base : Record) (s : Session) (clock : Clock (s .timer)) (e : Edit) (es
     pub undo-history : moveCall Before (byHistory base s (e ∷ es) next rs) ≡ done (byHistory base undone es next (now ∷ rs)) 0 (kindOf (taken .change)) []
     unfolding byHistory backs applied
     undo-history =
-        moved-standing Before s (applied base (e ∷ es)) next taken (backs base es) rs (history-formed base s clock (e ∷ es) next rs g) (backs-stored base next (e ∷ es) (g .kept)) (g .fits)
+        moved-standing Before s (applied base (e ∷ es)) next taken (backs base es) rs (history-formed base s clock (e ∷ es) next rs g) (backs-stored base (s .profile) next (e ∷ es) (g .kept)) (g .fits)
         (applied base es) (step .links .put-back) (step .ok) now back-is now-long same
 
-    pub undone-sane : Sane base es next (now ∷ rs)
+    pub undone-sane : Sane base (s .profile) es next (now ∷ rs)
     unfolding backs
     undone-sane =
-        let olds = backs-stored base next es (g .kept .1) in
-        let news = again-stored base next (e ∷ es) rs (g .again) in
+        let olds = backs-stored base (s .profile) next es (g .kept .1) in
+        let news = again-stored base (s .profile) next (e ∷ es) rs (g .again) in
         let l = step .links in
         let n = then .links in
         record {
@@ -328,7 +335,8 @@ module _ (base : Record) (s : Session) (clock : Clock (s .timer)) (e : Edit) (es
           ok = step .ok;
           typed = step .typed;
           kept = g .kept .1;
-          again = (then, again-timed base (s .timer) clock e es next rs (g .again));
+          again = (then, again-timed base (s .profile) (s .timer) clock e es next rs (g .again));
+          profile = g .profile;
         }
 
     pub undone-clock : Clock (undone .timer)
@@ -337,12 +345,12 @@ module _ (base : Record) (s : Session) (clock : Clock (s .timer)) (e : Edit) (es
         subst Clock (sym (after-back (s .timer) (applied base es) (e .change))) (after-clock (s .timer) (applied base es) (step .known) (e .tables) (e .change) clock (step .made))
 
   -- the one last taken back put in again
-  module _ (g : Sane base es next (e ∷ rs)) where
-    abbrev again : Step base next e es
+  module _ (g : Sane base (s .profile) es next (e ∷ rs)) where
+    abbrev again : Step base (s .profile) next e es
     again = g .again .0
 
-    abbrev anew : Step base next now es
-    anew = step-timed base (s .timer) clock e es next again
+    abbrev anew : Step base (s .profile) next now es
+    anew = step-timed base (s .profile) (s .timer) clock e es next again
 
     abbrev r : Record
     r = applied base es
@@ -365,7 +373,7 @@ module _ (base : Record) (s : Session) (clock : Clock (s .timer)) (e : Edit) (es
     unfolding byHistory
     redo-asks =
         ap (moveAsks After) (flip s r next (backs base es) (e ∷ rs))
-        ∙ asks-standing After s r next e rs (backs base es) formed-after (again-stored base next es (e ∷ rs) (g .again)) (omega (arith, g .fits))
+        ∙ asks-standing After s r next e rs (backs base es) formed-after (again-stored base (s .profile) next es (e ∷ rs) (g .again)) (omega (arith, g .fits))
         (putOf r now .after) puts-now after-ok (inverseOf r now) in-again (length-entry Before (inverseOf r now) (anew .links .back-writable)) now-back
 
     abbrev pub redone : Session
@@ -375,15 +383,15 @@ module _ (base : Record) (s : Session) (clock : Clock (s .timer)) (e : Edit) (es
     unfolding byHistory backs applied
     redo-history =
         ap (moveCall After) (flip s r next (backs base es) (e ∷ rs))
-        ∙ moved-standing After s r next e rs (backs base es) formed-after (again-stored base next es (e ∷ rs) (g .again)) (omega (arith, g .fits))
+        ∙ moved-standing After s r next e rs (backs base es) formed-after (again-stored base (s .profile) next es (e ∷ rs) (g .again)) (omega (arith, g .fits))
         (putOf r now .after) puts-now after-ok (inverseOf r now) in-again (length-entry Before (inverseOf r now) (anew .links .back-writable)) now-back
         ∙ ap (λ (t : Session). done t 0 (kindOf (e .change)) []) (sym (flip redone (putOf r now .after) next (inverseOf r now ∷ backs base es) rs))
 
-    pub redone-sane : Sane base (now ∷ es) next rs
+    pub redone-sane : Sane base (s .profile) (now ∷ es) next rs
     unfolding applied backs
     redone-sane =
-        let olds = backs-stored base next es (g .kept) in
-        let news = again-stored base next (e ∷ es) rs (g .again .1) in
+        let olds = backs-stored base (s .profile) next es (g .kept) in
+        let news = again-stored base (s .profile) next (e ∷ es) rs (g .again .1) in
         let l = again .links in
         let n = anew .links in
         record {
@@ -398,7 +406,8 @@ module _ (base : Record) (s : Session) (clock : Clock (s .timer)) (e : Edit) (es
           ok = after-ok;
           typed = anew .links .put-typed;
           kept = (anew, g .kept);
-          again = again-timed base (s .timer) clock e es next rs (g .again .1);
+          again = again-timed base (s .profile) (s .timer) clock e es next rs (g .again .1);
+          profile = g .profile;
         }
 
     pub redone-clock : Clock (redone .timer)
@@ -406,10 +415,10 @@ module _ (base : Record) (s : Session) (clock : Clock (s .timer)) (e : Edit) (es
     redone-clock = after-clock (s .timer) r (again .known) (e .tables) (e .change) clock (again .made)
 
 -- an empty history has nothing to undo, and one without struck changes nothing to redo
-pub undo-nothing : (base : Record) (s : Session) → Clock (s .timer) → (next : ℕ) (rs : List Edit) → Sane base [] next rs → moveAsks Before (byHistory base s [] next rs) ≡ refuses 6
+pub undo-nothing : (base : Record) (s : Session) → Clock (s .timer) → (next : ℕ) (rs : List Edit) → Sane base (s .profile) [] next rs → moveAsks Before (byHistory base s [] next rs) ≡ refuses 6
 unfolding byHistory backs noneLeft byWay
 undo-nothing base s c next rs g = none-standing Before s (applied base []) next rs (history-formed base s c [] next rs g)
 
-pub redo-nothing : (base : Record) (s : Session) → Clock (s .timer) → (es : List Edit) (next : ℕ) → Sane base es next [] → moveAsks After (byHistory base s es next []) ≡ refuses 8
+pub redo-nothing : (base : Record) (s : Session) → Clock (s .timer) → (es : List Edit) (next : ℕ) → Sane base (s .profile) es next [] → moveAsks After (byHistory base s es next []) ≡ refuses 8
 unfolding byHistory noneLeft byWay standing
 redo-nothing base s c es next g = none-standing After s (applied base es) next (backs base es) (history-formed base s c es next [] g)

@@ -1,6 +1,7 @@
 -- Well-formed in, well-formed out: for every call, on every well-formed session, reached from a fresh one or not. Assumes nothing.
 use Prim.Native.Nat.{ℕ, _+_, _^_, _≤_, _<_}
 use mathlib.Core.Bool.{true, false, not}
+use mathlib.Core.Logic.{inl, ⊎-elim}
 use mathlib.Core.Path.{_≡_, refl, sym, ap, subst, _∙_}
 use mathlib.Core.List.{List, []}
 use native.Mathlib.Omega.{arith}
@@ -8,8 +9,8 @@ use lib.ListN.{length, replicate}
 use Rattle.wire.specs.Wire.{Bytes}
 use Rattle.wire.specs.laws.Cases.{cond-cases}
 use Rattle.record.specs.declared.Timer.{Timer}
-use Rattle.change.specs.Change.{putOf, inverseOf, timedChange, timed, takesBack, timerAfter}
-use Rattle.change.specs.laws.Timed.{timed-cases}
+use Rattle.change.specs.Change.{kindOf, putOf, backOf, inverseOf, timedChange, timed, takesBack, timerAfter}
+use Rattle.change.specs.laws.Timed.{timed-cases, timed-kind, kind-of-back}
 use Rattle.change.specs.declared.Change.{Change}
 use Rattle.change.specs.declared.Change.the-variants.{SetTimer}
 use Rattle.change.specs.declared.Tables.{Tables}
@@ -23,11 +24,12 @@ use Rattle.journal.specs.laws.Ends.{end-at}
 use Rattle.journal.specs.declared.End.{End}
 use Rattle.journal.specs.declared.Way.{Way}
 use Rattle.journal.specs.declared.Way.the-variants.{Before, After}
-use Rattle.session.specs.Session.{wellFormed, renewed, withTimer, madeOf, carriedTo, carriedOf}
-use Rattle.session.specs.Road.{Asks, refuses, tells, makes, moves, forgets, passes, sessionMoved, Said, kept, done, carriedSays, settled}
+use Rattle.session.specs.Session.{entriesIn, wellFormed, renewed, withTimer, madeOf, carriedTo, carriedOf}
+use Rattle.session.specs.Road.{Asks, refuses, tells, makes, moves, forgets, passes, opens, sessionMoved, Said, kept, done, carriedSays, settled}
 use Rattle.session.specs.laws.Forgotten.{forgotten-formed}
 use Rattle.session.specs.laws.Timer.{passed-formed}
-use Rattle.session.specs.laws.Session.{Formed, formed, formed-ok}
+use Rattle.session.specs.laws.Session.{Profile, Formed, formed, formed-ok}
+use Rattle.session.specs.laws.Watch.{profile-kept, none-used, watch-formed}
 use Rattle.session.specs.declared.Session.{Session}
 use Rattle.occ_call.specs.Occ.{occAsks, occCall}
 use Rattle.sbe_call.specs.Sbe.{sbeAsks, sbeCall}
@@ -38,10 +40,10 @@ use Rattle.links.specs.Typed.{TypedSession}
 use Rattle.links.specs.laws.Made.{Made}
 use Rattle.links.specs.laws.Entry.{entry-ok}
 use Rattle.links.specs.laws.Links.{Link, link}
-use Rattle.promises.specs.laws.FormedStores.{one-more, none-used}
+use Rattle.promises.specs.laws.FormedStores.{none-clears, one-more, more-clears}
 use Rattle.promises.specs.laws.Moves.{timer-after-ok, moved-formed}
 use Rattle.promises.specs.laws.Room.{end-room}
-use Rattle.promises.specs.laws.Sound.{forget-sound, Sound, occ-sound, sbe-sound, move-sound}
+use Rattle.promises.specs.laws.Sound.{forget-sound, Lets, Sound, occ-sound, sbe-sound, move-sound}
 
 -- ---- a change carried out
 
@@ -57,7 +59,7 @@ written-timed t ok fits tables =
     (λ x h. let w : Writable Before tables (SetTimer t) = (fits, h .writable .1) in record { writable = w; good = entry-ok Before (record { change = SetTimer t; tables = tables }) w ok })
     (λ ch n h. h)
 
-module _ (s : Session) (f : Formed s) (typed : TypedSession s) (e : Edit) (m : Made (s .held) (s .next) (e .tables) (e .change)) (fits : carriedOf s e .full ≡ false) where
+module _ (s : Session) (f : Formed s) (typed : TypedSession s) (e : Edit) (m : Made (s .held) (s .next) (e .tables) (e .change)) (lets : Lets (s .profile) (e .change)) (fits : carriedOf s e .full ≡ false) where
   abbrev b : Edit
   b = takesBack (s .held) (s .timer) e
 
@@ -87,6 +89,19 @@ module _ (s : Session) (f : Formed s) (typed : TypedSession s) (e : Edit) (m : M
   unfolding changeOk
   timer-passes = timer-after-ok (Made (s .held) (s .next) (e .tables)) (λ x h. h .ok) (s .timer) (f .timer-ok) (e .change) m
 
+  -- the entry has the change's kind
+  back-kind : entryFor b .kind ≡ kindOf (e .change)
+  unfolding takesBack timed inverseOf entryFor
+  back-kind = timed-kind (s .timer) (backOf (s .held) (e .change)) ∙ kind-of-back (s .held) (e .change)
+
+  -- clears only, if they were
+  profile-after : Profile (s .profile) (entriesIn (s .used + entryLen b) (addedTo (s .used) b (s .journal))) (entriesIn 0 (replicate 2048 0))
+  profile-after =
+      ⊎-elim (λ z. inl z)
+      (λ k. profile-kept (s .profile) (entriesIn (s .used) (s .journal)) (entriesIn (s .ahead) (s .redo)) _ _ (f .profile-is)
+      (λ j r. (more-clears Before (s .journal) (s .used) (f .journal) b back-writable (back-written .good) room (back-kind ∙ k) j, none-clears (replicate 2048 0))))
+      lets
+
   -- the redo store is empty
   pub carried-formed : wellFormed (carriedOf s e .session) ≡ true
   unfolding renewed withTimer
@@ -100,6 +115,7 @@ module _ (s : Session) (f : Formed s) (typed : TypedSession s) (e : Edit) (m : M
         journal = one-more Before (s .journal) (s .used) (f .journal) b back-writable (back-written .good) room;
         marks-are = refl;
         redo = none-used After 2048;
+        profile-is = profile-after;
       })
 
 -- ---- what comes of what a call asks
@@ -114,7 +130,8 @@ module _ (s : Session) (typed : TypedSession s) (whole : wellFormed s ≡ true) 
   asked-formed (tells bell y) h = whole
   asked-formed (forgets n) h = forgotten-formed n s whole
   asked-formed (passes n) h = passed-formed n s whole
-  asked-formed (makes e bell y) h = cond-cases Whole (carriedOf s e .full) (λ f. whole) (λ f. carried-formed s (formed s whole) typed e h f)
+  asked-formed opens h = watch-formed s whole
+  asked-formed (makes e bell y) h = cond-cases Whole (carriedOf s e .full) (λ f. whole) (λ f. carried-formed s (formed s whole) typed e (h .0) (h .1) f)
   asked-formed (moves w at e) h =
       subst (λ (k : ℕ). wellFormed (sessionMoved w s k e (putOf (s .held) e .after)) ≡ true) (sym (h .1)) (moved-formed w s (formed s whole) e (h .0) typed (h .2 .1))
 

@@ -6,6 +6,7 @@ pub mod Demand1
 pub mod Demand2
 pub mod Effects
 pub mod History
+pub mod Sittings
 pub mod NoTrace
 pub mod Ids
 pub mod Marks

@@ -28,6 +28,8 @@ pub mod Plainly
 pub mod Passed
 pub mod Opened
 pub mod Fresh
+pub mod Sittings
+pub mod Students
 pub mod Examples
 pub mod Unset
 pub mod ComputedSession

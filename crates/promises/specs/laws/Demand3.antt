@@ -414,7 +414,7 @@ module _ (base : Record) (first : ℕ) where
     never (forget m) b = subst Fair (sym (forget-answer m)) (forget-fair m es)
     never (time m) b = settled-fair (p .session) [] _ (time-fair (p .session) formed m)
 
-    demand : Demand3 base first p
+    pub demand : Demand3 base first p
     demand = record {
       record-is = held-is;
       worked-is = worked-is;

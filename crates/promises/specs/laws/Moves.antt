@@ -95,7 +95,7 @@ module _ (s : Session) (at : ℕ) (e : Edit) (held : Record) where
   stores-used After sum = omega (arith, sum)
 
 -- k: either store
-clear-of : (s : Session) (w : Way) → onlyClears (entriesIn (s .used) (s .journal)) ≡ true → onlyClears (entriesIn (s .ahead) (s .redo)) ≡ true → onlyClears (entriesIn (usedOf w s) (storeOf w s)) ≡ true
+pub clear-of : (s : Session) (w : Way) → onlyClears (entriesIn (s .used) (s .journal)) ≡ true → onlyClears (entriesIn (s .ahead) (s .redo)) ≡ true → onlyClears (entriesIn (usedOf w s) (storeOf w s)) ≡ true
 unfolding usedOf storeOf byWay
 clear-of s Before j r = j
 clear-of s After j r = r

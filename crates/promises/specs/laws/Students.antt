@@ -1,0 +1,224 @@
+-- Document 02, k: a watch-only session that nobody can break: whatever it is sent, right or damaged. Assumes nothing.
+use Prim.Native.Nat.{ℕ, _+_}
+use mathlib.Core.Bool.{true, not}
+use mathlib.Core.Logic.{⊎-elim}
+use mathlib.Core.Path.{_≡_, refl, sym, ap, subst, _∙_}
+use mathlib.Core.List.{List, [], _∷_}
+use native.Mathlib.Nat.{add-zero}
+use native.Mathlib.Omega.{arith}
+use borrow.Author.Tests.{eqb-true}
+use lib.Dec.{ltb, leb, eqb}
+use lib.ListN.{length, getD}
+use Rattle.wire.specs.laws.Cases.{cond-elim, cond-cases}
+use Rattle.record.specs.Record.{workedOf}
+use Rattle.record.specs.declared.Record.{Record}
+use Rattle.change.specs.Change.{kindOf, accepted, refused, clearOf, unclearOf, putWith, putOf, takesBack}
+use Rattle.change.specs.Logs.{pendingOf, pendsAt}
+use Rattle.change.specs.With.{withLogs}
+use Rattle.change.specs.declared.Change.{Change}
+use Rattle.change.specs.declared.Change.the-variants.{Clear, Unclear, SetState, SetRole, SetCaps, SetUser, SetThermal, SetThrottles, Reset, Unreset, SetMask, SetDeadman, SetAreas, SetTimer}
+use Rattle.change.specs.declared.Changed.{Changed}
+use Rattle.change.specs.declared.Tables.{Tables}
+use Rattle.change.specs.declared.Edit.{Edit}
+use Rattle.packet.specs.Packet.{packetStatus, dataOf}
+use Rattle.journal.specs.Add.{endOf}
+use Rattle.journal.specs.declared.End.{End}
+use Rattle.journal.specs.declared.End.the-variants.{At, Full}
+use Rattle.journal.specs.declared.Found.{Found}
+use Rattle.journal.specs.declared.Way.{Way}
+use Rattle.journal.specs.declared.Way.the-variants.{Before, After}
+use Rattle.journal.specs.laws.Says.{Says, found-says}
+use Rattle.occ.specs.Judge.{plainly, judgeOf}
+use Rattle.occ.specs.Open.{openIn, shut, byProfile}
+use Rattle.occ.specs.laws.Open.{open-clears}
+use Rattle.occ.specs.declared.Judged.{Judged}
+use Rattle.occ.specs.declared.Verdict.{Verdict}
+use Rattle.occ.specs.declared.Verdict.the-variants.{Refuse, Poll, Make}
+use Rattle.sbe.specs.declared.Ruling.{Ruling}
+use Rattle.sbe.specs.declared.Ruling.the-variants.{Decline, Grant, Done, Read}
+use Rattle.session.specs.Session.{onlyClears, wellFormed, madeOf, renewed, withTimer, withProfile, carriedTo, carriedOf}
+use Rattle.session.specs.Road.{Asks, refuses, tells, makes, moves, forgets, passes, opens, storeOf, usedOf, heldIn, sessionMoved, sessionFreed, forgotten, timePassed, watchOnly, Said, kept, done, carriedSays, settled}
+use Rattle.session.specs.laws.Road.{due-cases}
+use Rattle.session.specs.laws.Session.{formed}
+use Rattle.session.specs.laws.Watch.{clears-first, entries-read}
+use Rattle.session.specs.declared.Session.{Session}
+use Rattle.occ_call.specs.Occ as occs
+use Rattle.sbe_call.specs.Sbe as sbes
+use Rattle.undo_call.specs.Undo.{moveAsks}
+use Rattle.forget_call.specs.Forget.{oldestAsks, forgetAsks}
+use Rattle.time_call.specs.Time.{timeAsks}
+use Rattle.watch_call.specs.Watch.{watchAsks, watchCall}
+use Rattle.promises.specs.Calls.{Call, occ, sbe, undo, redo, forget, time, asks, said}
+use Rattle.promises.specs.Demand2.{Newest}
+use Rattle.promises.specs.Sittings.{Act, calls, watch, handed, Unbroken}
+use Rattle.promises.specs.laws.Moves.{clear-of}
+use Rattle.promises.specs.laws.Profiles.{clear-makes-none}
+use Rattle.promises.specs.laws.UndoDemands.{Called, ill-formed, empty, barred, goes, called}
+
+-- ---- clears move pending logs alone
+
+abbrev Logs : Record → Changed → Type 0
+Logs r c = c .after ≡ withLogs r (c .after .logs)
+
+put-logs : (r : Record) (t : Tables) (ch : Change) → kindOf ch ≡ 0x01 → Logs r (putWith r t ch)
+unfolding putWith clearOf unclearOf accepted refused withLogs kindOf
+put-logs r t (Clear place log) k = cond-elim (Logs r) (not (pendsAt place log (r .logs))) refl refl
+put-logs r t (Unclear place log) k = cond-elim (Logs r) (ltb (pendingOf (r .logs)) place) refl (cond-elim (Logs r) (leb 4 (pendingOf (r .logs))) refl refl)
+put-logs r t (SetState state) k = absurd (omega (arith, k))
+put-logs r t (SetRole got role) k = absurd (omega (arith, k))
+put-logs r t (SetCaps got caps) k = absurd (omega (arith, k))
+put-logs r t (SetUser user) k = absurd (omega (arith, k))
+put-logs r t (SetThermal got) k = absurd (omega (arith, k))
+put-logs r t (SetThrottles got) k = absurd (omega (arith, k))
+put-logs r t (Reset log) k = absurd (omega (arith, k))
+put-logs r t (Unreset state made) k = absurd (omega (arith, k))
+put-logs r t (SetMask mask) k = absurd (omega (arith, k))
+put-logs r t (SetDeadman deadman) k = absurd (omega (arith, k))
+put-logs r t (SetAreas areas) k = absurd (omega (arith, k))
+put-logs r t (SetTimer timer) k = absurd (omega (arith, k))
+
+-- ---- a watch-only session is asked for clears alone
+
+abbrev Clearing : Asks → Type 0
+Clearing (refuses n) = Unit {0}
+Clearing (tells bell y) = Unit {0}
+Clearing (makes e bell y) = kindOf (e .change) ≡ 0x01
+Clearing (moves w at e) = kindOf (e .change) ≡ 0x01
+Clearing (forgets n) = Unit {0}
+Clearing (passes n) = Unit {0}
+Clearing opens = Unit {0}
+
+module _ (s : Session) (on : s .profile ≡ 1) where
+  not-full : s .profile ≡ 0 → ⊥
+  not-full z = omega (arith, z, on)
+
+  module _ (sender : ℕ) (c d : List ℕ) where
+    abbrev Asked : Tables → Verdict → Type 0
+    Asked t v = Clearing (occs.verdictAsks (s .held) (s .worked) (getD c 0 0) (getD c 1 0) d t v)
+
+    abbrev j : Judged
+    j = judgeOf (s .held) (s .worked) (s .next) sender (getD c 1 0) (dataOf c)
+
+    judged-clears : (v : Verdict) → byProfile (s .profile) (getD c 1 0) (j .verdict) ≡ v → Asked (j .tables) v
+    unfolding occs.verdictAsks
+    judged-clears (Refuse status) e = tt
+    judged-clears Poll e = tt
+    judged-clears (Make ch) e = open-clears (s .held) (s .worked) (s .next) sender (dataOf c) (s .profile) (getD c 1 0) ch not-full e
+
+    refused-clears : (status : ℕ) (t : Tables) → Asked t (byProfile (s .profile) (getD c 1 0) (Refuse status))
+    unfolding byProfile shut occs.verdictAsks
+    refused-clears status t = cond-elim (Asked t) (openIn (s .profile) (getD c 1 0)) tt (cond-elim (Asked t) (eqb status 0x15) tt tt)
+
+    occ-clears : Clearing (occs.occAsks s sender c d)
+    unfolding occs.occAsks occs.occRead occs.askedOf occs.askedFor occs.judgedAsks plainly
+    occ-clears =
+        due-cases Clearing (occs.occRefusal s sender (length c) (length d)) (λ n. tt)
+        (λ z. cond-cases (λ (x : Judged). Asked (x .tables) (byProfile (s .profile) (getD c 1 0) (x .verdict))) (not (eqb (packetStatus c) 0)) (λ f. refused-clears _ _)
+        (λ f. judged-clears _ refl))
+
+  module _ (r d : List ℕ) where
+    denied-clears : (v : Ruling) → Clearing (sbes.rulingAsks r d (sbes.denied v))
+    unfolding sbes.rulingAsks sbes.denied
+    denied-clears (Decline primary secondary) = tt
+    denied-clears (Grant ch) = tt
+    denied-clears Done = tt
+    denied-clears (Read offset size) = tt
+
+    sbe-clears : (m x : List ℕ) → Clearing (sbes.sbeAsks s r d m x)
+    unfolding sbes.sbeAsks sbes.sbeRead sbes.byProfile
+    sbe-clears m x =
+        due-cases Clearing (sbes.sbeRefusal s (length r) (length d)) (λ n. tt)
+        (λ z. cond-cases (λ (v : Ruling). Clearing (sbes.rulingAsks r d v)) (eqb (s .profile) 0) (λ t. absurd (not-full (eqb-true (s .profile) 0 t))) (λ t. denied-clears _))
+
+  module _ (w : Way) where
+    newest-clears : wellFormed s ≡ true → (e : Edit) (n : Newest w s e) → kindOf (e .change) ≡ 0x01
+    newest-clears ok e n =
+        let says : kindOf (e .change) ≡ n .entry .kind = subst (λ (x : Found). Says w (n .entry .kind) x) (n .change) (found-says w (n .entry .kind) (n .entry .body)) .0 in
+        ⊎-elim (λ z. absurd (not-full z))
+        (λ h.
+        let all = clear-of s w (h .1) (h .2) in
+        says ∙ clears-first (n .entry) (n .older) (sym (ap onlyClears (entries-read (usedOf w s) (storeOf w s) (n .entry ∷ n .older) (n .read))) ∙ all) .0)
+        (formed s ok .profile-is)
+
+    called-clears : (a : Asks) → Called w s a → Clearing a
+    called-clears a (ill-formed h) = tt
+    called-clears a (empty x z) = tt
+    called-clears a (barred x e n bar) = tt
+    called-clears a (goes x e n u) = newest-clears x e n
+
+  asked-clears : (c : Call) → Clearing (asks s c)
+  unfolding asks forgetAsks oldestAsks timeAsks
+  asked-clears (occ sender c d) = occ-clears sender c d
+  asked-clears (sbe r d m x) = sbe-clears r d m x
+  asked-clears undo = called-clears Before (moveAsks Before s) (called Before s)
+  asked-clears redo = called-clears After (moveAsks After s) (called After s)
+  asked-clears (forget n) = cond-elim Clearing (not (wellFormed s)) tt (cond-elim Clearing (ltb (heldIn s) n) tt tt)
+  asked-clears (time n) = cond-elim Clearing (not (wellFormed s)) tt tt
+
+  -- ---- what comes of it
+
+  same-logs : (r : Record) → r ≡ withLogs r (r .logs)
+  unfolding withLogs
+  same-logs r = refl
+
+  worked-logs : (r x : Record) → x ≡ withLogs r (x .logs) → workedOf x ≡ workedOf r
+  unfolding workedOf withLogs
+  worked-logs r x e = ap workedOf e
+
+  -- with another record, if its logs alone moved, and the same next id
+  unbroken : (t : Session) → t .held ≡ withLogs (s .held) (t .held .logs) → t .next ≡ s .next → t .profile ≡ 1 → Unbroken s t
+  unbroken t h n p = record { record-is = h; worked-is = worked-logs (s .held) (t .held) h; next-is = n; profile-is = p }
+
+  carried-at : (e : Edit) → kindOf (e .change) ≡ 0x01 → (used : ℕ) → Unbroken s (carriedTo s e (At used) .session)
+  unfolding carriedTo renewed withTimer putOf
+  carried-at e k used =
+      unbroken _ (put-logs (s .held) (e .tables) (e .change) k) (ap (λ (n : ℕ). s .next + n) (clear-makes-none (e .change) k) ∙ add-zero (s .next)) on
+
+  carried-unbroken : (e : Edit) → kindOf (e .change) ≡ 0x01 → Unbroken s (carriedOf s e .session)
+  unfolding carriedOf carriedTo
+  carried-unbroken e k = go (endOf (length (s .journal)) (s .used) (takesBack (s .held) (s .timer) e))
+    where
+      go : (x : End) → Unbroken s (carriedTo s e x .session)
+      go (At used) = carried-at e k used
+      go Full = unbroken s (same-logs (s .held)) refl on
+
+  abbrev Safe : Said → Type 0
+  Safe q = Unbroken s (q .session)
+
+  settled-unbroken : (d : List ℕ) (a : Asks) → Clearing a → Safe (settled s d a)
+  unfolding settled carriedSays kept done sessionMoved forgotten sessionFreed timePassed watchOnly renewed withTimer withProfile putOf
+  settled-unbroken d (refuses n) h = unbroken s (same-logs (s .held)) refl on
+  settled-unbroken d (tells bell y) h = unbroken s (same-logs (s .held)) refl on
+  settled-unbroken d (makes e bell y) h = cond-elim Safe (carriedOf s e .full) (unbroken s (same-logs (s .held)) refl on) (carried-unbroken e h)
+  settled-unbroken d (moves w at e) h = unbroken _ (put-logs (s .held) (e .tables) (e .change) h) refl on
+  settled-unbroken d (forgets n) h = unbroken _ (same-logs (s .held)) refl on
+  settled-unbroken d (passes n) h = unbroken _ (same-logs (s .held)) refl on
+  settled-unbroken d opens h = unbroken _ (same-logs (s .held)) refl refl
+
+  call-unbroken : (c : Call) → Unbroken s (said s c .session)
+  unfolding said
+  call-unbroken c = settled-unbroken _ (asks s c) (asked-clears c)
+
+  watch-unbroken : Unbroken s (watchCall s .session)
+  unfolding watchCall watchAsks
+  watch-unbroken = settled-unbroken [] (watchAsks s) (cond-elim Clearing (not (wellFormed s)) tt tt)
+
+-- one after the other
+then-unbroken : (s t u : Session) → Unbroken s t → Unbroken t u → Unbroken s u
+unfolding withLogs
+then-unbroken s t u a b = record {
+  record-is = b .record-is ∙ ap (λ (r : Record). withLogs r (u .held .logs)) (a .record-is);
+  worked-is = b .worked-is ∙ a .worked-is;
+  next-is = b .next-is ∙ a .next-is;
+  profile-is = b .profile-is;
+}
+
+pub students-unbroken : (xs : List Act) (s : Session) → s .profile ≡ 1 → Unbroken s (handed s xs)
+unfolding handed
+students-unbroken [] s on = unbroken s on s (same-logs s on (s .held)) refl on
+students-unbroken (calls c ∷ xs) s on =
+    let here = call-unbroken s on c in
+    then-unbroken s (said s c .session) (handed (said s c .session) xs) here (students-unbroken xs (said s c .session) (here .profile-is))
+students-unbroken (watch ∷ xs) s on =
+    let here = watch-unbroken s on in
+    then-unbroken s (watchCall s .session) (handed (watchCall s .session) xs) here (students-unbroken xs (watchCall s .session) (here .profile-is))

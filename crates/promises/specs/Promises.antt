@@ -3,7 +3,7 @@
 use Prim.Native.Nat.{ℕ, suc, _+_, _≤_, _<_}
 use mathlib.Core.Bool.{true, false}
 use mathlib.Core.Logic.{_↔_, _⊎_, Iff·trans}
-use mathlib.Core.Path.{_≡_, ap, _∙_}
+use mathlib.Core.Path.{_≡_, sym, ap, subst, _∙_}
 use mathlib.Core.List.{List, [], _++_}
 use lib.ListN.{length, getD, take, drop}
 use Rattle.wire.specs.Wire.{Bytes, pasted, joined}
@@ -18,13 +18,15 @@ use Rattle.journal.specs.declared.Way.the-variants.{Before, After}
 use Rattle.packet.specs.Packet.{dataOf, replied}
 use Rattle.sbe.specs.Mailbox as mailbox
 use Rattle.sbe.specs.Statuses.{Status}
-use Rattle.session.specs.Session.{freshSession, wellFormed, madeOf}
+use Rattle.session.specs.Session.{freshSession, wellFormed, madeOf, renewed, withProfile}
 use Rattle.session.specs.declared.Session.{Session}
 use Rattle.inplace.specs.declared.Told.{Told}
 use Rattle.places.specs.Faults.{CommandFaults, NotAfter}
 use Rattle.places.specs.declared.Fault.{Fault}
 use Rattle.places.specs.declared.Blame.the-variants.{Wrong}
-use Rattle.session.specs.Road.{usedOf}
+use Rattle.session.specs.Road.{usedOf, watchOnly, Said, done}
+use Rattle.session.specs.laws.Watch.{watch-formed}
+use Rattle.inplace.specs.InPlace.{noImage}
 use Rattle.session.specs.laws.Road.{refusal-keeps, worked-after, error-keeps, bell-rung}
 use Rattle.occ_call.specs.Occ.{occAsks, occCall, occWhy, OccAllows}
 use Rattle.occ_call.specs.laws.Speaks.{occ-speaks}
@@ -33,6 +35,7 @@ use Rattle.sbe_call.specs.laws.Speaks.{sbe-speaks}
 use Rattle.undo_call.specs.Undo.{moveAsks, moveCall, undoCall, redoCall, UndoAllows, RedoAllows}
 use Rattle.forget_call.specs.Forget.{forgetAsks, forgetCall, ForgetAllows}
 use Rattle.time_call.specs.Time.{timeAsks, timeCall, TimeAllows}
+use Rattle.watch_call.specs.Watch.{watchAsks, watchCall, watchOn, WatchAllows}
 use Rattle.sbe.specs.Conditions.{Changes}
 use Rattle.trace.specs.Trace.{traceScan}
 use Rattle.text.specs.Text.{Sheet, sheet, putAll}
@@ -53,11 +56,17 @@ use Rattle.formed.specs.Formed.{inOrder}
 use Rattle.formed.specs.laws.Thresholds.{out-of-order}
 use Rattle.promises.specs.WellFormed.{WellFormed}
 use Rattle.promises.specs.laws.Plainly.{plainly-formed}
-use Rattle.promises.specs.Demand1.{OccAnswer, SbeAnswer, UndoAnswer, RedoAnswer, ForgetAnswer, TimeAnswer, OccDue, SbeDue, OccStatus, SbeStatus, occError, sbeError}
+use Rattle.promises.specs.Demand1.{OccAnswer, SbeAnswer, UndoAnswer, RedoAnswer, ForgetAnswer, TimeAnswer, WatchAnswer, OccDue, SbeDue, OccStatus, SbeStatus, occError, sbeError}
 use Rattle.promises.specs.Demand2.{KnownSender, entryLength, WellAsked, occKind, sbeKind, atFront, NotPoll, successReply, OccSucceeds, OccAccepted, Served, SbeSucceeds, SbeAccepted, Newest, UndoAccepted, RedoAccepted}
-use Rattle.promises.specs.Effects.{OccEffect, SbeEffect, entryBack, UndoEffect, RedoEffect, ForgetEffect, TimeEffect}
+use Rattle.promises.specs.Effects.{OccEffect, SbeEffect, entryBack, UndoEffect, RedoEffect, ForgetEffect, TimeEffect, WatchEffect}
 use Rattle.promises.specs.laws.ForgetDemands.{forget-answers, forget-effect, occ-fits-freed, sbe-fits-freed}
 use Rattle.promises.specs.laws.TimeDemands.{time-answers, time-effect}
+use Rattle.promises.specs.laws.WatchDemands.{watch-answers, watch-effect}
+use Rattle.promises.specs.laws.WatchLent.{watchedOn, watch-lent, watch-no-image, watch-refused, watch-keeps-bytes}
+use Rattle.promises.specs.Sittings.{Act, sat, sittings, ActsOfBytes, handed, Unbroken}
+use Rattle.promises.specs.laws.Sittings.{watch-opens, opening-starts, sitting-demand, sitting-opens}
+use Rattle.promises.specs.laws.Students.{students-unbroken}
+use Rattle.promises.specs.laws.Profiles.{profile-stays}
 use Rattle.promises.specs.laws.OccDemands.{occ-answers, occ-statuses, occ-reply, occ-accepted}
 use Rattle.promises.specs.laws.Why.{byte-told, byte-least}
 use Rattle.promises.specs.laws.Served.{data-served, data-kept, data-refused, data-on-image, data-no-image}
@@ -84,7 +93,7 @@ use Rattle.promises.specs.laws.Kept.{kept-session, handed-same}
 use Rattle.image.specs.Image.{imageOf, sessionOf}
 use Rattle.image.specs.laws.Typed.{typed-image}
 use Rattle.layout.specs.Layout.{imageLength}
-use Rattle.bjargolsk.specs.Calls.{answerIn, freshOn, FreshReturns, OccReturns, SbeReturns, UndoReturns, RedoReturns, ForgetReturns, SeepromReturns, TimeReturns}
+use Rattle.bjargolsk.specs.Calls.{answerIn, freshOn, FreshReturns, OccReturns, SbeReturns, UndoReturns, RedoReturns, ForgetReturns, SeepromReturns, TimeReturns, WatchReturns}
 use Rattle.promises.specs.laws.Lent.{every-image, every-byte, no-session, fresh-image, lent-run, lent-next}
 use Rattle.promises.specs.Lent.{lent, told as told-beside, carriedOver, lentRun}
 use Rattle.promises.specs.Passed.{MarksStand, PassedAsHeld}
@@ -120,6 +129,10 @@ answer-of-forget = forget-answers
 pub answer-of-time : (n : ℕ) (s : Session) (k : ℕ) → (timeCall n s .answer ≡ k) ↔ TimeAnswer s k
 answer-of-time = time-answers
 
+-- document 02, k: a watch-only session opened over s
+pub answer-of-watch : (s : Session) (k : ℕ) → (watchCall s .answer ≡ k) ↔ WatchAnswer s k
+answer-of-watch = watch-answers
+
 -- well formed: document 01's sentences as plain conditions (WellFormed.antt) are what is tested
 pub well-formed-exactly-when : (s : Session) → (wellFormed s ≡ true) ↔ WellFormed s
 well-formed-exactly-when = plainly-formed
@@ -139,7 +152,7 @@ status-of-occ = occ-statuses
 
 -- 00/00 is success and no error
 pub status-of-sbe : (s : Session) → TypedSession s → (r d m x : List ℕ) → SbeDue s r d → (p q : ℕ) → p < 65536 → q < 65536 → ((p ≡ 0) and (q ≡ 0) → ⊥)
-    → (sbeCall s r d m x ≡ sbeError s r d (p, q)) ↔ SbeStatus r m x (p, q)
+    → (sbeCall s r d m x ≡ sbeError s r d (p, q)) ↔ SbeStatus s r m x (p, q)
 status-of-sbe = sbe-statuses
 
 -- document 02, c: a data byte is told exactly where the status is 0x13; it is wrong, and no other that is wrong comes before it, by number
@@ -189,6 +202,9 @@ pub refusal-of-time-keeps : (n : ℕ) (s : Session) → (timeCall n s .answer �
 unfolding timeCall
 refusal-of-time-keeps n s h = let k = refusal-keeps s [] (timeAsks n s) h in (k .0, k .2)
 
+pub refusal-of-watch-keeps : (s : Session) → (watchCall s .answer ≡ 0 → ⊥) → watchCall s .session ≡ s
+refusal-of-watch-keeps = watch-refused
+
 -- a session that isn't the one handed in comes with the reply of success, so every error reply returns it as it was
 pub error-of-occ-keeps : (s : Session) (sender : ℕ) (c d : List ℕ)
     → (occCall s sender c d .session ≡ s) ⊎ (occCall s sender c d .reply ≡ replied (getD c 0 0) (getD c 1 0) 0x00 [] d)
@@ -235,6 +251,9 @@ one-outcome-of-forget n b = one-pair _ _
 pub one-outcome-of-time : (n : ℕ) (b : List ℕ) → OneOutcome (λ (o : Told × List ℕ). TimeAllows n b (o .0) (o .1))
 one-outcome-of-time n b = one-pair _ _
 
+pub one-outcome-of-watch : (b : List ℕ) → OneOutcome (λ (o : Told × List ℕ). WatchAllows b (o .0) (o .1))
+one-outcome-of-watch b = one-pair _ _
+
 pub one-outcome-of-fresh-for-c : (b : List ℕ) → OneOutcome (λ (o : ℕ × List ℕ). FreshReturns b (o .0) (o .1))
 one-outcome-of-fresh-for-c b = one-pair _ _
 
@@ -258,6 +277,9 @@ one-outcome-of-forget-for-c b n = one-pair _ _
 
 pub one-outcome-of-time-for-c : (b : List ℕ) (n : ℕ) → OneOutcome (λ (o : ℕ × List ℕ). TimeReturns b n (o .0) (o .1))
 one-outcome-of-time-for-c b n = one-pair _ _
+
+pub one-outcome-of-watch-for-c : (b : List ℕ) → OneOutcome (λ (o : ℕ × List ℕ). WatchReturns b (o .0) (o .1))
+one-outcome-of-watch-for-c b = one-pair _ _
 
 pub one-outcome-of-step : (b : List ℕ) (number : ℕ) (e d : List ℕ) → OneOutcome (λ (o : ℕ × List ℕ × List ℕ). StepAllows b number e d (o .0) (o .1) (o .2))
 one-outcome-of-step b number e d = one-triple _ _ _
@@ -325,6 +347,14 @@ pub worked-out-after-time : (n : ℕ) (s : Session) → wellFormed s ≡ true �
 unfolding timeCall
 worked-out-after-time n s w = worked-after s [] w (timeAsks n s)
 
+pub watch-stays-well-formed : (s : Session) → wellFormed s ≡ true → wellFormed (watchCall s .session) ≡ true
+unfolding done
+watch-stays-well-formed s w = ap (λ (q : Said). wellFormed (q .session)) (watch-opens s w) ∙ watch-formed s w
+
+pub worked-out-after-watch : (s : Session) → wellFormed s ≡ true → watchCall s .session .worked ≡ workedOf (watchCall s .session .held)
+unfolding watchCall
+worked-out-after-watch s w = worked-after s [] w (watchAsks s)
+
 -- ---- demand 2: accepted exactly when (the conditions: Demand2.antt), and what is then done (Effects.antt)
 
 pub occ-accepted-exactly-when : (s : Session) → TypedSession s → (sender : ℕ) (c d : List ℕ) → wellFormed s ≡ true
@@ -388,6 +418,10 @@ next-sbe-change-fits-freed-room = sbe-fits-freed
 pub effect-of-time : (n : ℕ) (s : Session) → timeCall n s .answer ≡ 0 → TimeEffect n s (timeCall n s)
 effect-of-time = time-effect
 
+-- document 02, k: "Watch-only is opened over a well-formed session: its record, timer and next id, an empty journal and redo store"
+pub effect-of-watch : (s : Session) → wellFormed s ≡ true → (watchCall s .answer ≡ 0) × WatchEffect s (watchCall s .session)
+effect-of-watch = watch-effect
+
 -- document 02, i (Passed.antt): the marks of every well-formed session, so that of each call's session too, stand at every 32nd entry of its journal, counting
 -- the first, and the unused ones are 0
 pub marks-at-every-32nd-entry : (s : Session) (w : WellFormed s) → MarksStand (s .marks) (w .journal .entries)
@@ -436,6 +470,34 @@ undo-over-any-calls-from s typed ok none none-ahead cs b = demand3 (s .held) (s 
 pub no-id-twice-from : (s : Session) → TypedSession s → wellFormed s ≡ true → s .used ≡ 0 → s .ahead ≡ 0 → (cs : List Call) → AllOfBytes cs
     → idsMade (run (start s) cs .marks) ≡ countdown (s .next) (logsMade (run (start s) cs .marks))
 no-id-twice-from s typed ok none none-ahead cs b = ids-in-order (s .held) (s .next) cs (start s) b (opened-start s typed ok none none-ahead)
+
+-- document 02, k: through any calls and openings of watch-only sessions (Sittings.antt), "demand 3 starts from that record and id", the ones at the last opening; and
+-- an opening is always accepted
+pub undo-over-any-calls-and-openings : (xs : List Act) → ActsOfBytes xs
+    → Demand3 (sittings (sat freshSession) xs .base) (sittings (sat freshSession) xs .first) (sittings (sat freshSession) xs .run)
+unfolding sat freshSession
+undo-over-any-calls-and-openings xs b = sitting-demand xs (sat freshSession) b fresh-start
+
+pub opening-is-accepted : (xs : List Act) → ActsOfBytes xs → watchCall (sittings (sat freshSession) xs .run .session) .answer ≡ 0
+unfolding sat freshSession
+opening-is-accepted xs b = sitting-opens xs (sat freshSession) b fresh-start
+
+-- over a well-formed session: from its record and its next id
+pub undo-over-any-calls-once-opened : (s : Session) → TypedSession s → wellFormed s ≡ true → (cs : List Call) → AllOfBytes cs
+    → Demand3 (s .held) (s .next) (run (start (watchCall s .session)) cs)
+unfolding done watchOnly renewed withProfile
+undo-over-any-calls-once-opened s typed ok cs b =
+    subst (λ (q : Said). Demand3 (s .held) (s .next) (run (start (q .session)) cs)) (sym (watch-opens s ok))
+    (demand3 (s .held) (s .next) cs (start (watchOnly s)) b (opening-starts s typed ok))
+
+-- "The profile is fixed at opening and no undo alters it": no call does, on every session
+pub profile-is-fixed-at-opening : (s : Session) (c : Call) → said s c .session .profile ≡ s .profile
+profile-is-fixed-at-opening = profile-stays
+
+-- "Training rooms want a session students can't break": of a watch-only session, right or damaged, any calls and openings change the pending logs and nothing else
+-- of the record; no log is made, so no id is drawn
+pub students-cant-break-it : (s : Session) → s .profile ≡ 1 → (xs : List Act) → Unbroken s (handed s xs)
+students-cant-break-it s on xs = students-unbroken xs s on
 
 -- document 02, h: "Demand 3 reads from then on with the timer left out". The timer after a call is the one that a timer command sets; undo and redo of one give back
 -- what its mark holds, "as it stood just before that command or, if it was redone since, just before its last redo", and "as it stood just before that undo" (Marks.antt,
@@ -506,6 +568,16 @@ refusal-keeps-every-byte = every-byte
 -- bytes of another length are no session: answer 1, and all is kept
 pub another-length-is-answer-1 : (b : List ℕ) → (length b ≡ imageLength → ⊥) → (c : Call) → lent b c ≡ record { result = 1; image = b; reply = bufferOf c }
 another-length-is-answer-1 = no-session
+
+-- the same of an opening: on every image what it gives on its session; a refusal keeps every byte; bytes of another length are no session
+pub watch-on-every-image : (b : List ℕ) → length b ≡ imageLength → watchOn b ≡ watchedOn (sessionOf b)
+watch-on-every-image = watch-lent
+
+pub refusal-of-watch-keeps-every-byte : (b : List ℕ) → Bytes b → (watchOn b .told .answer ≡ 0 → ⊥) → watchOn b .image ≡ b
+refusal-of-watch-keeps-every-byte = watch-keeps-bytes
+
+pub another-length-is-answer-1-of-watch : (b : List ℕ) → (length b ≡ imageLength → ⊥) → watchOn b ≡ noImage b []
+another-length-is-answer-1-of-watch = watch-no-image
 
 -- ---- the same for C: an image made fresh, and any calls on it; it stays the image of the session, and each call's result and reply are the session's
 

@@ -30,6 +30,7 @@ pub mod Opened
 pub mod Fresh
 pub mod Sittings
 pub mod Students
+pub mod WatchLent
 pub mod Examples
 pub mod Unset
 pub mod ComputedSession

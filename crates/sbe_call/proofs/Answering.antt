@@ -11,7 +11,7 @@ use lib.Dec.{ltb, eqb}
 use lib.ListN.{length, take, drop, length-drop}
 use lib.Seq.{length-take-le}
 use Rattle.wire.specs.Wire.{Bytes, pasted}
-use Rattle.wire.specs.laws.Cases.{cond-cases, said-of, else-eq, if-ne, else-ne}
+use Rattle.wire.specs.laws.Cases.{cond-cases, said-of, if-ne, else-ne}
 use Rattle.change.specs.Change.{noTables}
 use Rattle.change.specs.declared.Change.{Change}
 use Rattle.change.specs.declared.Edit.{Edit}
@@ -22,7 +22,7 @@ use Rattle.session.specs.Session.{wellFormed, carriedOf}
 use Rattle.session.specs.Road.{Asks, refuses, tells, makes, due, Said, kept, done, settled}
 use Rattle.session.specs.laws.Road.{made-full, made-done}
 use Rattle.session.specs.declared.Session.{Session}
-use Rattle.sbe_call.specs.Sbe.{refusalOf, sbeRefusal, countedIn, readStatus, readAt, judgedFor, servedAt, servedBy, toldOf, rulingAsks, sbeRuling, denied, byProfile, sbeRead, sbeAsks, sbeCall, ruledLeft, sbeOn, dataFor, sbeData, dataOn}
+use Rattle.sbe_call.specs.Sbe.{refusalOf, sbeRefusal, countedIn, readStatus, readAt, judgedFor, servedAt, servedBy, toldOf, rulingAsks, sbeRuling, byProfile, sbeRead, sbeAsks, sbeCall, ruledLeft, sbeOn, dataFor, sbeData, dataOn}
 use Rattle.image.specs.declared.Head.{Head}
 use Rattle.image.specs.Image.{headIn, sessionIn}
 use Rattle.layout.specs.Layout.{imageLength}
@@ -169,18 +169,6 @@ other-judged image room (Decline p q) h = refl
 other-judged image room (Grant ch) h = refl
 other-judged image room Done h = refl
 other-judged image room (Read offset size) h = absurd (miss noRead 3 tt h)
-
--- a change is denied, another ruling stays
-pub change-denied : (profile : ℕ) (v : Ruling) (ch : Change) → (profile ≡ 0 → ⊥) → v ≡ Grant ch → Decline 0x05 0x20 ≡ byProfile profile v
-unfolding byProfile denied
-change-denied profile v ch on is = else-eq _ _ on (sym (ap denied is))
-
-pub other-stays : (profile : ℕ) (v : Ruling) → (profile ≡ 0 → ⊥) → OneOf noChange (tagOf the-type v) → v ≡ byProfile profile v
-unfolding byProfile denied
-other-stays profile (Decline p q) on h = else-eq _ _ on refl
-other-stays profile (Grant ch) on h = absurd (miss noChange 1 tt h)
-other-stays profile Done on h = else-eq _ _ on refl
-other-stays profile (Read offset size) on h = else-eq _ _ on refl
 
 -- ---- the whole call: f says whether the session is well formed, n is the refusal that is due
 

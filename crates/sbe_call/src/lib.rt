@@ -3,7 +3,7 @@ ghost use mathlib.Core.Bool.{true};
 ghost use mathlib.Core.Path.{_≡_};
 ghost use Prim.Native.Nat.{_≤_};
 ghost use lib.ListN.{length};
-ghost use Rattle.sbe_call.specs.Sbe.{refusalOf, countedIn, readStatus, judgedFor, byProfile, servedBy, toldOf, ruledLeft, SbeAllows, AloneAllows};
+ghost use Rattle.sbe_call.specs.Sbe.{refusalOf, countedIn, readStatus, judgedFor, denied, byProfile, servedBy, toldOf, ruledLeft, SbeAllows, AloneAllows};
 ghost use Rattle.session.specs.Session.{wellFormed};
 ghost use Rattle.image.specs.Image.{sessionIn};
 ghost use Rattle.inplace.specs.InPlace.{HeadStands};
@@ -90,17 +90,25 @@ fn serve(ruling: Ruling, seeprom: &[u8], served: &mut [u8])
 
 // ---- a request that is due an answer
 
-// In a watch-only session no change is granted.
+// In a watch-only session no change is granted; other rulings stay.
+fn denied(ruling: Ruling) -> Ruling
+    ensures { λ x. ⌜ x ≡ denied ruling ⌝ }
+{
+    match ruling {
+        Ruling::Decline(primary, secondary) => Ruling::Decline(primary, secondary),
+        Ruling::Grant(_) => Ruling::Decline(0x05, 0x20),
+        Ruling::Done => Ruling::Done,
+        Ruling::Read(offset, size) => Ruling::Read(offset, size),
+    }
+}
+
 fn by_profile(profile: u8, ruling: Ruling) -> Ruling
     ensures { λ x. ⌜ x ≡ byProfile profile ruling ⌝ }
 {
     if profile == 0 {
         return ruling;
     }
-    let Ruling::Grant(_) = ruling else {
-        return ruling;
-    };
-    Ruling::Decline(0x05, 0x20)
+    denied(ruling)
 }
 
 // The response to what is no change; a change has none yet.

@@ -49,6 +49,7 @@ pub mod SbeDemands
 pub mod UndoDemands
 pub mod ForgetDemands
 pub mod TimeDemands
+pub mod WatchDemands
 pub mod Moved
 pub mod Moves
 pub mod Effects

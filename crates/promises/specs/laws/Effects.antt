@@ -33,7 +33,7 @@ use Rattle.occ.specs.laws.Exactly.{found-there}
 use Rattle.sbe.specs.Mailbox.{responseBytes}
 use Rattle.sbe.specs.Conditions.{Changes, Plainly}
 use Rattle.session.specs.Session.{renewed, withTimer, madeOf, carriedTo, carriedOf}
-use Rattle.session.specs.Road.{Asks, refuses, tells, makes, moves, forgets, passes, Said, kept, done, carriedSays, settled}
+use Rattle.session.specs.Road.{Asks, refuses, tells, makes, moves, forgets, passes, opens, Said, kept, done, carriedSays, settled}
 use Rattle.session.specs.laws.Session.{Formed, formed}
 use Rattle.session.specs.laws.Timer.{carried-timer}
 use Rattle.session.specs.declared.Session.{Session}
@@ -50,8 +50,8 @@ use Rattle.promises.specs.laws.Asked.{data-bytes, next-some, occ-made, s
 use Rattle.promises.specs.laws.WellFormed.{back-writable, room, session-is}
 use Rattle.promises.specs.laws.OccAsks as occ-asks
 use Rattle.promises.specs.laws.OccWays as occ-ways
-use Rattle.promises.specs.laws.OccDemands.{well-read, not-refused, asked-as, polled-type, made-type, done-is, heard-exactly}
-use Rattle.promises.specs.laws.Served.{change-ruled, done-ruled}
+use Rattle.promises.specs.laws.OccDemands.{well-read, not-refused, polled-type, made-judged, made-as, made-type, done-is, heard-exactly}
+use Rattle.promises.specs.laws.Served.{change-granted, plain-exactly, never-changes}
 use Rattle.promises.specs.laws.SbeDemands as sbe-demands
 use Rattle.promises.specs.laws.Replies.{front-is}
 
@@ -205,8 +205,8 @@ module _ (s : Session) (typed : TypedSession s) (sender : ℕ) (c d : List ℕ) 
   heard-effect b p q e (occ-ways.no-room z ch v full) ok = absurd (omega (arith, ok .0))
   heard-effect b p q e (occ-ways.carried z ch v fits) ok =
       let f = formed s (p .formed) in
-      effect s f typed (getD c 1 0) (dataOf c) ch _ (asked-as s typed sender c d p (Make ch) v)
-      (occ-made (s .held) (s .worked) (s .next) sender (getD c 1 0) (dataOf c) (data-bytes c b) (f .record-ok) (typed .held) ch v) fits
+      effect s f typed (getD c 1 0) (dataOf c) ch _ (made-as s typed sender c d p ch v)
+      (occ-made (s .held) (s .worked) (s .next) sender (getD c 1 0) (dataOf c) (data-bytes c b) (f .record-ok) (typed .held) ch (made-judged s typed sender c d p ch v)) fits
 
   called-effect : Bytes c → (q : Said) (e : Deed) → occ-ways.Called s sender c d q e → Done q → OccLeft (q .session)
   unfolding kept
@@ -280,10 +280,10 @@ module _ (s : Session) (typed : TypedSession s) (r d m x : List ℕ) where
   called-request b q e (sbe-demands.short-reply w h) ok = absurd (omega (arith, ok .0))
   called-request b q e (sbe-demands.short-request w g h) ok = absurd (omega (arith, ok .0))
   called-request b q e (sbe-demands.answered p y g (sbe-demands.declined i j v)) ok = absurd (sbe-demands.told-apart s typed r d m x i j v (sym (front-is _ d) ∙ ok .1))
-  called-request b q e (sbe-demands.answered p y g (sbe-demands.plain v)) ok = plain-effect (done-ruled r m x .0 v)
+  called-request b q e (sbe-demands.answered p y g (sbe-demands.plain v)) ok = plain-effect (plain-exactly s r m x .0 v)
   called-request b q e (sbe-demands.answered p y g (sbe-demands.no-room ch v full)) ok = absurd (omega (arith, ok .0))
   called-request b q e (sbe-demands.answered p y g (sbe-demands.carried ch v fits)) ok =
-      let w = change-ruled r m x ch v in request-effect (formed s (p .formed)) ch (sbe-demands.asks r ch w) (sbe-made (s .held) (s .next) r b ch w) fits
+      let w = change-granted s r m x ch v .0 in request-effect (formed s (p .formed)) ch (sbe-demands.asks r ch w) (sbe-made (s .held) (s .next) r b ch w) fits
 
   pub sbe-effect : Bytes r → SbeSucceeds s r d m x → SbeEffect s r (sbes.sbeCall s r d m x .session)
   unfolding SbeSucceeds
@@ -299,10 +299,10 @@ module _ (s : Session) (typed : TypedSession s) (r d m x : List ℕ) where
   request-deed q e (sbe-demands.short-request w g h) = (none-added, λ z. absurd (omega (arith, z .0 .0)))
   request-deed q e (sbe-demands.answered p y g (sbe-demands.declined i j v)) =
       (none-added, λ z. absurd (sbe-demands.told-apart s typed r d m x i j v (sym (front-is _ d) ∙ z .0 .1)))
-  request-deed q e (sbe-demands.answered p y g (sbe-demands.plain v)) = (none-added, λ z. absurd (sbe-demands.answered-not r m x v (z .1)))
+  request-deed q e (sbe-demands.answered p y g (sbe-demands.plain v)) = (none-added, λ z. absurd (never-changes s r m x v (z .1)))
   request-deed q e (sbe-demands.answered p y g (sbe-demands.no-room ch v full)) = (none-added, λ z. absurd (omega (arith, z .0 .0)))
   request-deed q e (sbe-demands.answered p y g (sbe-demands.carried ch v fits)) =
-      (λ a. ((refl, front-is _ d), sbe-demands.is-asked r m x ch v), λ z. (sbe-demands.edit ch, refl))
+      (λ a. ((refl, front-is _ d), sbe-demands.is-asked s r m x ch v .0), λ z. (sbe-demands.edit ch, refl))
 
   -- what is answered without a change counts as nothing
   pub sbe-deed : ((c : Edit) × (deed s (sbe r d m x) ≡ adds c)) ↔ (SbeSucceeds s r d m x and Changes r)
@@ -332,6 +332,7 @@ module _ (s : Session) (x : Edit) where
   asked-shown d (moves After at e) = λ p. absurd (unstrikes-not x p)
   asked-shown d (forgets n) = λ p. absurd (drops-not n x p)
   asked-shown d (passes n) = λ p. absurd (ticks-not n x p)
+  asked-shown d opens = λ p. absurd (keeps-not x p)
 
   pub deed-shown : (c : Call) → deed s c ≡ adds x → Shown (said s c .session)
   unfolding said deed

@@ -184,6 +184,11 @@ module _ (n : ℕ) (s : Session) (typed : TypedSession s) (done : forgetCall n s
       occ-accepted t typed-after sender c d formed-after .1
       (known, (long, (some, (subst (λ (x : Session). WellAsked x sender c) (sym (e .session-is)) well, λ z. has-room (occKind c) room))))
 
-  pub sbe-fits-freed : (r d m x : List ℕ) → 32 ≤ length d → 32 ≤ length r → Changes r → s .used + entryLength (sbeKind r) ≤ 2048 + freed → SbeSucceeds t r d m x
+  -- the profile is kept
+  full-after : s .profile ≡ 0 → t .profile ≡ 0
+  unfolding renewed
+  full-after full = ap (λ (x : Session). x .profile) (e .session-is) ∙ full
+
+  pub sbe-fits-freed : (r d m x : List ℕ) → 32 ≤ length d → 32 ≤ length r → Changes r → s .profile ≡ 0 → s .used + entryLength (sbeKind r) ≤ 2048 + freed → SbeSucceeds t r d m x
   unfolding SbeAccepted
-  sbe-fits-freed r d m x long some ok room = sbe-accepted t typed-after r d m x formed-after .1 (long, (some, inl (ok, has-room (sbeKind r) room)))
+  sbe-fits-freed r d m x long some ok full room = sbe-accepted t typed-after r d m x formed-after .1 (long, (some, inl (ok, (full-after full, has-room (sbeKind r) room))))

@@ -26,7 +26,7 @@ use Rattle.sbe.specs.laws.Exactly.{same-change, deadman-start, deadman-stop, co
 use Rattle.session.specs.Session.{wellFormed, carriedOf}
 use Rattle.session.specs.Road.{Asks, due, Said, kept, done, carriedSays, settled}
 use Rattle.session.specs.declared.Session.{Session}
-use Rattle.sbe_call.specs.Sbe.{refusalOf, sbeRefusal, toldOf, rulingAsks, sbeRuling, sbeRead, sbeAsks, sbeCall}
+use Rattle.sbe_call.specs.Sbe.{refusalOf, sbeRefusal, toldOf, rulingAsks, sbeRead, sbeAsks, sbeCall}
 use Rattle.promises.specs.Calls.{sbe}
 use Rattle.promises.specs.Calls as calls
 use Rattle.promises.specs.History.{Deed, keeps, adds, adding, deedBy, deed}
@@ -35,7 +35,7 @@ use Rattle.promises.specs.Demand1.{NoRoom, SbeAnswer, SbeDue, ReadStatus
 use Rattle.promises.specs.Demand2.{atFront, HasRoom, sbeKind, Served, SbeAccepted, SbeSucceeds}
 use Rattle.promises.specs.laws.Room.{carried-longer, has-room, has-none}
 use Rattle.promises.specs.laws.Replies.{front-is}
-use Rattle.promises.specs.laws.Served.{change-ruled, done-ruled, status-ruled, changes-ruled, none-read}
+use Rattle.promises.specs.laws.Served.{ruling, change-granted, changes-granted, plain-exactly, never-changes, never-read, status-ruled}
 
 abbrev pub edit : Change → Edit
 edit ch = record { change = ch; tables = noTables }
@@ -79,20 +79,21 @@ module _ (r : List ℕ) where
   kind-is ch (stops-timer n x) = kind-by 0xD4 0x01 0x0C n refl
   kind-is ch (sets-areas n) = kind-by 0xD7 0x04 0x0B n refl
 
-  -- ---- the statuses: primary 1 or 2, and two bytes each
+  -- ---- the statuses: primary 1, 2 or 5, and two bytes each
 
   record Small (n : Status) : Type 0 where
-    primary : (n .0 ≡ 1) ⊎ (n .0 ≡ 2)
+    some : 1 ≤ n .0
+    primary : n .0 < 65536
     secondary : n .1 < 65536
 
-  small : {n : Status} (p q : ℕ) → (p ≡ 1) ⊎ (p ≡ 2) → q < 65536 → n ≡ (p, q) → Small n
-  small p q a b e = subst Small (sym e) (record { primary = a; secondary = b })
+  small : {n : Status} (p q : ℕ) → 1 ≤ p → p < 65536 → q < 65536 → n ≡ (p, q) → Small n
+  small p q z a b e = subst Small (sym e) (record { some = z; primary = a; secondary = b })
 
   small-1 : {n : Status} (q : ℕ) → q < 65536 → n ≡ (0x01, q) → Small n
-  small-1 q = small 0x01 q (inl refl)
+  small-1 q = small 0x01 q (omega arith) (omega arith)
 
   small-2 : {n : Status} (q : ℕ) → q < 65536 → n ≡ (0x02, q) → Small n
-  small-2 q = small 0x02 q (inr refl)
+  small-2 q = small 0x02 q (omega arith) (omega arith)
 
   by-row : {P : Type 0} {T rest : Status → Type 0} {n : Status} → (T n → Small n) → (rest n → Small n) → Rows P T rest n → Small n
   by-row f g (here h t) = f t
@@ -101,9 +102,9 @@ module _ (r : List ℕ) where
   no-row : {n : Status} → none n → Small n
   no-row z = absurd z
 
-  status-small : (m x : List ℕ) (n : Status) → SbeStatus r m x n → Small n
+  status-small : (s : Session) (m x : List ℕ) (n : Status) → SbeStatus s r m x n → Small n
   unfolding SbeStatus RequestStatus ReadStatus
-  status-small m x n =
+  status-small s m x n =
       ⊎-elim
       (by-row (small-1 0x01 (omega arith))
       (by-row (small-1 0x02 (omega arith))
@@ -111,7 +112,8 @@ module _ (r : List ℕ) where
       (by-row (small-2 0x19 (omega arith))
       (by-row (by-row (small-2 0x04 (omega arith)) (by-row (small-2 0x05 (omega arith)) no-row))
       (by-row (by-row (small-2 0x03 (omega arith)) (by-row (small-2 0x19 (omega arith)) (by-row (small-2 0x03 (omega arith)) (by-row (small-2 0x19 (omega arith)) no-row)))) no-row))))))
-      (λ t. by-row (small-2 0x19 (omega arith)) (by-row (small-2 0x18 (omega arith)) no-row) (t .1))
+      (⊎-elim (λ t. by-row (small-2 0x19 (omega arith)) (by-row (small-2 0x18 (omega arith)) no-row) (t .1))
+      (λ t. small 0x05 0x20 (omega arith) (omega arith) (omega arith) (t .1 .1)))
 
   -- two responses that are the same have the same statuses
   two-bytes : (m n : ℕ) → m < 65536 → n < 65536 → m / 256 % 256 ≡ n / 256 % 256 → m % 256 ≡ n % 256 → m ≡ n
@@ -127,48 +129,44 @@ module _ (r : List ℕ) where
 
 -- ---- the ruling of a call, and what was asked for
 
-module _ (r m x : List ℕ) where
+module _ (s : Session) (r m x : List ℕ) where
   abbrev pub Ruled : Ruling → Type 0
-  Ruled v = sbeRuling r m x ≡ v
+  Ruled v = ruling s r m x ≡ v
 
-  -- a change, what is answered without one, or a read that is served
+  -- a change in a full session, what is answered without one, or a read that is served
   abbrev Asked : Type 0
-  Asked = Changes r ⊎ (Plainly r ⊎ Served r m x)
+  Asked = (Changes r and (s .profile ≡ 0)) ⊎ (Plainly r ⊎ Served r m x)
 
   declined-not : (p q : ℕ) → Ruled (Decline p q) → Asked → ⊥
   unfolding accepts grants
   declined-not p q e =
-      ⊎-elim (λ c. false≢true (sym (ap grants e) ∙ changes-ruled r m x c)) (λ b. false≢true (sym (ap accepts e) ∙ ap accepts (done-ruled r m x .1 b)))
+      ⊎-elim (λ c. false≢true (sym (ap grants e) ∙ changes-granted s r m x (c .0) (c .1))) (λ b. false≢true (sym (ap accepts e) ∙ ap accepts (plain-exactly s r m x .1 b)))
 
   changed-not : (ch : Change) → Ruled (Grant ch) → (Plainly r ⊎ Served r m x) → ⊥
   unfolding grants
-  changed-not ch e a = true≢false (sym (ap grants e) ∙ ap grants (done-ruled r m x .1 a))
-
-  pub answered-not : Ruled Done → Changes r → ⊥
-  unfolding grants
-  answered-not e c = false≢true (sym (ap grants e) ∙ changes-ruled r m x c)
+  changed-not ch e a = true≢false (sym (ap grants e) ∙ ap grants (plain-exactly s r m x .1 a))
 
   -- a status is told by one ruling alone
   same-refusal : (a b p q : ℕ) → Decline a b ≡ Decline p q → (a ≡ p) × (b ≡ q)
   same-refusal a b p q e = (cc, cc)
 
   declined-small : (p q : ℕ) → Ruled (Decline p q) → Small r (p, q)
-  declined-small p q e = status-small r m x (p, q) (status-ruled r m x (p, q) .0 e)
+  declined-small p q e = status-small r s m x (p, q) (status-ruled s r m x (p, q) .0 e)
 
-  status-never : (p q : ℕ) → SbeStatus r m x (p, q) → Asked → ⊥
-  status-never p q t = declined-not p q (status-ruled r m x (p, q) .1 t)
+  status-never : (p q : ℕ) → SbeStatus s r m x (p, q) → Asked → ⊥
+  status-never p q t = declined-not p q (status-ruled s r m x (p, q) .1 t)
 
-  pub is-asked : (ch : Change) → Ruled (Grant ch) → Changes r
-  is-asked ch e = granted r ch (change-ruled r m x ch e)
+  pub is-asked : (ch : Change) → Ruled (Grant ch) → Changes r and (s .profile ≡ 0)
+  is-asked ch e = let g = change-granted s r m x ch e in (granted r ch (g .0), g .1)
 
 module _ (s : Session) (typed : TypedSession s) (r d m x : List ℕ) where
   -- ---- the ways
 
   pub data Heard : Said → Deed → Type 0 where
-    declined : (p q : ℕ) → Ruled r m x (Decline p q) → Heard (done s (bellOf r) 0 (pasted 0 (responseBytes p q r) d)) keeps
-    plain : Ruled r m x Done → Heard (done s (bellOf r) 0 (pasted 0 (responseBytes 0x00 0x00 r) d)) keeps
-    no-room : (ch : Change) → Ruled r m x (Grant ch) → carriedOf s (edit ch) .full ≡ true → Heard (kept 5 s d) keeps
-    carried : (ch : Change) → Ruled r m x (Grant ch) → carriedOf s (edit ch) .full ≡ false
+    declined : (p q : ℕ) → Ruled s r m x (Decline p q) → Heard (done s (bellOf r) 0 (pasted 0 (responseBytes p q r) d)) keeps
+    plain : Ruled s r m x Done → Heard (done s (bellOf r) 0 (pasted 0 (responseBytes 0x00 0x00 r) d)) keeps
+    no-room : (ch : Change) → Ruled s r m x (Grant ch) → carriedOf s (edit ch) .full ≡ true → Heard (kept 5 s d) keeps
+    carried : (ch : Change) → Ruled s r m x (Grant ch) → carriedOf s (edit ch) .full ≡ false
         → Heard (done (carriedOf s (edit ch) .session) (bellOf r) 0 (pasted 0 (responseBytes 0x00 0x00 r) d)) (adds (edit ch))
 
   pub data Called : Said → Deed → Type 0 where
@@ -181,15 +179,15 @@ module _ (s : Session) (typed : TypedSession s) (r d m x : List ℕ) where
   Settles a = Heard (settled s d a) (deedBy s a)
 
   -- a read is judged by now
-  heard-ruling : (v : Ruling) → Ruled r m x v → Settles (rulingAsks r d v)
+  heard-ruling : (v : Ruling) → Ruled s r m x v → Settles (rulingAsks r d v)
   unfolding settled deedBy rulingAsks toldOf carriedSays adding
   heard-ruling (Decline p q) e = declined p q e
   heard-ruling (Grant ch) e = by-both Heard (carriedOf s (edit ch) .full) (no-room ch e) (carried ch e)
   heard-ruling Done e = plain e
-  heard-ruling (Read offset size) e = absurd (none-read r m x offset size e)
+  heard-ruling (Read offset size) e = absurd (never-read s r m x offset size e)
 
   abbrev Refused : ℕ → Type 0
-  Refused n = Called (settled s d (due n (sbeRead r d m x))) (deedBy s (due n (sbeRead r d m x)))
+  Refused n = Called (settled s d (due n (sbeRead (s .profile) r d m x))) (deedBy s (due n (sbeRead (s .profile) r d m x)))
 
   pub called : Called (sbeCall s r d m x) (deed s (sbe r d m x))
   unfolding sbeCall sbeAsks sbeRead due sbeRefusal refusalOf deed calls.asks settled deedBy
@@ -198,29 +196,27 @@ module _ (s : Session) (typed : TypedSession s) (r d m x : List ℕ) where
       (λ f. let w = not-false _ f in
       cond-cases Refused (ltb (length d) 32) (λ h. short-reply w (ltb-true _ _ h))
       (λ h. cond-cases Refused (ltb (length r) 32) (λ l. short-request w (ltb-false _ _ h) (ltb-true _ _ l))
-      (λ l. answered (record { formed = w; reply = ltb-false _ _ h; request = ltb-false _ _ l }) _ _ (heard-ruling (sbeRuling r m x) refl))))
+      (λ l. answered (record { formed = w; reply = ltb-false _ _ h; request = ltb-false _ _ l }) _ _ (heard-ruling (ruling s r m x) refl))))
 
   -- ---- demand 2
 
-  kind : (ch : Change) → Ruled r m x (Grant ch) → kindOf ch ≡ sbeKind r
-  kind ch v = kind-is r ch (asks r ch (change-ruled r m x ch v))
+  kind : (ch : Change) → Ruled s r m x (Grant ch) → kindOf ch ≡ sbeKind r
+  kind ch v = kind-is r ch (asks r ch (change-granted s r m x ch v .0))
 
-  made-room : (ch : Change) → Ruled r m x (Grant ch) → carriedOf s (edit ch) .full ≡ false → HasRoom s (sbeKind r)
+  made-room : (ch : Change) → Ruled s r m x (Grant ch) → carriedOf s (edit ch) .full ≡ false → HasRoom s (sbeKind r)
   made-room ch v = has-room s (typed .journal) (edit ch) (sbeKind r) (kind ch v)
 
-  made-none : (ch : Change) → Ruled r m x (Grant ch) → carriedOf s (edit ch) .full ≡ true → NoRoom s (sbeKind r)
+  made-none : (ch : Change) → Ruled s r m x (Grant ch) → carriedOf s (edit ch) .full ≡ true → NoRoom s (sbeKind r)
   made-none ch v = has-none s (typed .journal) (edit ch) (sbeKind r) (kind ch v)
 
-  pub told-apart : (p q : ℕ) → Ruled r m x (Decline p q) → atFront (responseBytes p q r) d ≡ atFront (responseBytes 0x00 0x00 r) d → ⊥
-  told-apart p q v e =
-      ⊎-elim (λ y. omega (arith, y, same-primary r p q 0x00 0x00 d (omega arith) (omega arith) e)) (λ y. omega (arith, y, same-primary r p q 0x00 0x00 d (omega arith) (omega arith) e))
-      (declined-small r m x p q v .primary)
+  pub told-apart : (p q : ℕ) → Ruled s r m x (Decline p q) → atFront (responseBytes p q r) d ≡ atFront (responseBytes 0x00 0x00 r) d → ⊥
+  told-apart p q v e = let n = declined-small s r m x p q v in omega (arith, n .some, same-primary r p q 0x00 0x00 d (n .primary) (omega arith) e)
 
   abbrev Granted : Type 0
-  Granted = (Changes r and HasRoom s (sbeKind r)) ⊎ (Plainly r ⊎ Served r m x)
+  Granted = (Changes r and (s .profile ≡ 0) and HasRoom s (sbeKind r)) ⊎ (Plainly r ⊎ Served r m x)
 
-  was-asked : Granted → Asked r m x
-  was-asked = ⊎-elim (λ z. inl (z .0)) (λ z. inr z)
+  was-asked : Granted → Asked s r m x
+  was-asked = ⊎-elim (λ z. inl (z .0, z .1 .0)) (λ z. inr z)
 
   success : wellFormed s ≡ true → (q : Said) (e : Deed) → Called q e
       → ((q .answer ≡ 0) and (q .reply ≡ atFront (responseBytes 0x00 0x00 r) d)) ↔ ((32 ≤ length d) and (32 ≤ length r) and Granted)
@@ -229,11 +225,11 @@ module _ (s : Session) (typed : TypedSession s) (r d m x : List ℕ) where
   success y q e (short-reply w h) = (λ z. absurd (omega (arith, z .0)), λ z. absurd (not-le-of-lt h (z .0)))
   success y q e (short-request w l h) = (λ z. absurd (omega (arith, z .0)), λ z. absurd (not-le-of-lt h (z .1 .0)))
   success y q e (answered p _ _ (declined a b v)) =
-      (λ z. absurd (told-apart a b v (sym (front-is _ d) ∙ z .1)), λ z. absurd (declined-not r m x a b v (was-asked (z .1 .1))))
-  success y q e (answered p _ _ (plain v)) = (λ z. (p .reply, (p .request, inr (done-ruled r m x .0 v))), λ z. (refl, front-is _ d))
+      (λ z. absurd (told-apart a b v (sym (front-is _ d) ∙ z .1)), λ z. absurd (declined-not s r m x a b v (was-asked (z .1 .1))))
+  success y q e (answered p _ _ (plain v)) = (λ z. (p .reply, (p .request, inr (plain-exactly s r m x .0 v))), λ z. (refl, front-is _ d))
   success y q e (answered p _ _ (no-room ch v full)) =
-      (λ z. absurd (omega (arith, z .0)), λ z. absurd (⊎-elim (λ k. not-le-of-lt (made-none ch v full) (k .1)) (changed-not r m x ch v) (z .1 .1)))
-  success y q e (answered p _ _ (carried ch v fits)) = (λ z. (p .reply, (p .request, inl (is-asked r m x ch v, made-room ch v fits))), λ z. (refl, front-is _ d))
+      (λ z. absurd (omega (arith, z .0)), λ z. absurd (⊎-elim (λ k. not-le-of-lt (made-none ch v full) (k .1 .1)) (changed-not s r m x ch v) (z .1 .1)))
+  success y q e (answered p _ _ (carried ch v fits)) = (λ z. (p .reply, (p .request, (let a = is-asked s r m x ch v in inl (a .0, (a .1, made-room ch v fits))))), λ z. (refl, front-is _ d))
 
   pub sbe-accepted : wellFormed s ≡ true → SbeSucceeds s r d m x ↔ SbeAccepted s r d m x
   unfolding SbeSucceeds SbeAccepted
@@ -254,11 +250,11 @@ module _ (s : Session) (typed : TypedSession s) (r d m x : List ℕ) where
   answer-table q e (short-request w l h) = miss Answers (λ z. z w) (miss Answers (λ z. not-le-of-lt z l) (hit Answers h (answers _ _ _ _)))
   answer-table q e (answered p y g h) = miss Answers (λ z. z (p .formed)) (miss Answers (λ z. not-le-of-lt z (p .reply)) (miss Answers (λ z. not-le-of-lt z (p .request)) (go y g h)))
     where
-      go : (q : Said) (e : Deed) → Heard q e → ByTable Answers q (row 5 (Changes r and NoRoom s (sbeKind r)) (is 0))
-      go q e (declined a b v) = miss Answers (λ z. declined-not r m x a b v (inl (z .0))) (answers _ _ _ _)
-      go q e (plain v) = miss Answers (λ z. answered-not r m x v (z .0)) (answers _ _ _ _)
-      go q e (no-room ch v full) = hit Answers (is-asked r m x ch v, made-none ch v full) (answers _ _ _ _)
-      go q e (carried ch v fits) = miss Answers (λ z. not-le-of-lt (z .1) (made-room ch v fits)) (answers _ _ _ _)
+      go : (q : Said) (e : Deed) → Heard q e → ByTable Answers q (row 5 (Changes r and (s .profile ≡ 0) and NoRoom s (sbeKind r)) (is 0))
+      go q e (declined a b v) = miss Answers (λ z. declined-not s r m x a b v (inl (z .0, z .1 .0))) (answers _ _ _ _)
+      go q e (plain v) = miss Answers (λ z. never-changes s r m x v (z .0)) (answers _ _ _ _)
+      go q e (no-room ch v full) = hit Answers (let a = is-asked s r m x ch v in (a .0, (a .1, made-none ch v full))) (answers _ _ _ _)
+      go q e (carried ch v fits) = miss Answers (λ z. not-le-of-lt (z .1 .1) (made-room ch v fits)) (answers _ _ _ _)
 
   pub sbe-answers : (n : ℕ) → (sbeCall s r d m x .answer ≡ n) ↔ SbeAnswer s r d n
   sbe-answers = answer-table _ _ called .exactly
@@ -270,33 +266,32 @@ module _ (s : Session) (typed : TypedSession s) (r d m x : List ℕ) where
   error-is a b p q e = λ i. done s (bellOf r) 0 ((front-is (responseBytes a b r) d ∙ (λ j. atFront (responseBytes (e .0 j) (e .1 j) r) d)) i)
 
   -- p and q are numbers of two bytes; 00/00, which is success, is no error's
-  status-table : SbeDue s r d → (p q : ℕ) → p < 65536 → q < 65536 → ((p ≡ 0) and (q ≡ 0) → ⊥) → (u : Said) (e : Deed) → Called u e → (u ≡ sbeError s r d (p, q)) ↔ SbeStatus r m x (p, q)
+  status-table : SbeDue s r d → (p q : ℕ) → p < 65536 → q < 65536 → ((p ≡ 0) and (q ≡ 0) → ⊥) → (u : Said) (e : Deed) → Called u e → (u ≡ sbeError s r d (p, q)) ↔ SbeStatus s r m x (p, q)
   unfolding done kept
   status-table y p q j k error u e (ill-formed h) = absurd (h (y .formed))
   status-table y p q j k error u e (short-reply w h) = absurd (not-le-of-lt h (y .reply))
   status-table y p q j k error u e (short-request w l h) = absurd (not-le-of-lt h (y .request))
   status-table y p q j k error u e (answered _ _ _ (declined a b v)) =
-      let n = declined-small r m x a b v in
-      let low : a < 65536 = ⊎-elim (λ z. omega arith) (λ z. omega arith) (n .primary) in (
+      let n = declined-small s r m x a b v in (
         λ z.
             let g = sym (front-is (responseBytes a b r) d) ∙ ap (λ (o : Said). o .reply) z in
-            let f = same-primary r a b p q d low j g in
+            let f = same-primary r a b p q d (n .primary) j g in
             let h = same-secondary r a b p q d (n .secondary) k g in
-            status-ruled r m x (p, q) .0 (v ∙ (λ i. Decline (f i) (h i))),
-        λ z. error-is a b p q (same-refusal r m x a b p q (sym v ∙ status-ruled r m x (p, q) .1 z)),
+            status-ruled s r m x (p, q) .0 (v ∙ (λ i. Decline (f i) (h i))),
+        λ z. error-is a b p q (same-refusal s r m x a b p q (sym v ∙ status-ruled s r m x (p, q) .1 z)),
       )
   status-table y p q j k error u e (answered _ _ _ (plain v)) = (
     λ z.
         let g = sym (front-is (responseBytes 0x00 0x00 r) d) ∙ ap (λ (o : Said). o .reply) z in
         absurd (error (sym (same-primary r 0x00 0x00 p q d (omega arith) j g), sym (same-secondary r 0x00 0x00 p q d (omega arith) k g))),
-    λ z. absurd (status-never r m x p q z (inr (done-ruled r m x .0 v))),
+    λ z. absurd (status-never s r m x p q z (inr (plain-exactly s r m x .0 v))),
   )
   status-table y p q j k error u e (answered _ _ _ (no-room ch v full)) =
-      (λ z. absurd (omega (arith, ap (λ (o : Said). o .answer) z)), λ z. absurd (status-never r m x p q z (inl (is-asked r m x ch v))))
+      (λ z. absurd (omega (arith, ap (λ (o : Said). o .answer) z)), λ z. absurd (status-never s r m x p q z (inl (is-asked s r m x ch v))))
   status-table y p q j k error u e (answered _ _ _ (carried ch v fits)) =
-      (λ z. absurd (omega (arith, carried-longer s (edit ch) fits, ap (λ (o : Said). o .session .used) z)), λ z. absurd (status-never r m x p q z (inl (is-asked r m x ch v))))
+      (λ z. absurd (omega (arith, carried-longer s (edit ch) fits, ap (λ (o : Said). o .session .used) z)), λ z. absurd (status-never s r m x p q z (inl (is-asked s r m x ch v))))
 
-  pub sbe-statuses : SbeDue s r d → (p q : ℕ) → p < 65536 → q < 65536 → ((p ≡ 0) and (q ≡ 0) → ⊥) → (sbeCall s r d m x ≡ sbeError s r d (p, q)) ↔ SbeStatus r m x (p, q)
+  pub sbe-statuses : SbeDue s r d → (p q : ℕ) → p < 65536 → q < 65536 → ((p ≡ 0) and (q ≡ 0) → ⊥) → (sbeCall s r d m x ≡ sbeError s r d (p, q)) ↔ SbeStatus s r m x (p, q)
   sbe-statuses y p q j k error = status-table y p q j k error _ _ called
 
   -- ---- answer 0: a response, good or error, is written

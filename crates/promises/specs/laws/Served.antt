@@ -16,7 +16,7 @@ use Rattle.wire.specs.laws.Tables.{ByTable, by-none, by-is, hit, miss}
 use Rattle.change.specs.declared.Change.{Change}
 use Rattle.sbe.specs.Mailbox.{wordAt, requestRuling, responseBytes}
 use Rattle.sbe.specs.Conditions.{grants, accepts, ReadAsked, Changes, Plainly}
-use Rattle.sbe.specs.Statuses.{Status}
+use Rattle.sbe.specs.Statuses.{Status, RequestStatus}
 use Rattle.sbe.specs.declared.Ruling.{Ruling}
 use Rattle.sbe.specs.declared.Ruling.the-variants.{Decline, Grant, Done, Read}
 use Rattle.sbe.specs.laws.Exactly.{changes-exactly, done-exactly, read-exactly, read-asked}
@@ -26,7 +26,7 @@ use Rattle.session.specs.Road.{Asks, due, done, settled}
 use Rattle.session.specs.declared.Session.{Session}
 use Rattle.image.specs.Image.{sessionOf}
 use Rattle.layout.specs.Layout.{imageLength}
-use Rattle.sbe_call.specs.Sbe.{refusalOf, sbeRefusal, countedIn, readStatus, readAt, judgedFor, servedAt, servedBy, toldOf, rulingAsks, sbeRuling, sbeRead, sbeAsks, sbeCall, dataFor, sbeData, dataOn}
+use Rattle.sbe_call.specs.Sbe.{refusalOf, sbeRefusal, countedIn, readStatus, readAt, judgedFor, servedAt, servedBy, toldOf, rulingAsks, sbeRuling, denied, byProfile, sbeRead, sbeAsks, sbeCall, dataFor, sbeData, dataOn}
 use Rattle.promises.specs.Calls.{Call, occ, sbe, undo, redo, forget, time, secondOf}
 use Rattle.promises.specs.Demand1.{SbeDue, ReadStatus, SbeStatus}
 use Rattle.promises.specs.Demand2.{atFront, InImage, Served, SbeSucceeds}
@@ -138,13 +138,13 @@ module _ (r m x : List ℕ) where
   unfolding sbeRuling judgedFor
   read-ruled a = ap (judgedFor (length m) (length x)) (read-asked r a)
 
-  pub change-ruled : (ch : Change) → sbeRuling r m x ≡ Grant ch → requestRuling r ≡ Grant ch
+  change-ruled : (ch : Change) → sbeRuling r m x ≡ Grant ch → requestRuling r ≡ Grant ch
   unfolding grants
   change-ruled ch =
       by-request (λ (v : Ruling). v ≡ Grant ch → requestRuling r ≡ Grant ch) (λ v e h. e ∙ h) (λ a h. absurd (true≢false (sym (ap grants h) ∙ never-grants status)))
 
   -- what is done without a change, or served
-  pub done-ruled : (sbeRuling r m x ≡ Done) ↔ (Plainly r ⊎ Served r m x)
+  done-ruled : (sbeRuling r m x ≡ Done) ↔ (Plainly r ⊎ Served r m x)
   unfolding sbeRuling judgedFor
   done-ruled = (
     by-request (λ (v : Ruling). v ≡ Done → Plainly r ⊎ Served r m x) (λ v e h. inl (done-exactly r .0 (e ∙ h)))
@@ -153,25 +153,125 @@ module _ (r m x : List ℕ) where
   )
 
   -- the statuses, the request's own and a read's
-  pub status-ruled : (n : Status) → (sbeRuling r m x ≡ Decline (n .0) (n .1)) ↔ SbeStatus r m x n
-  unfolding SbeStatus ReadStatus sbeRuling judgedFor
-  status-ruled n =
+  abbrev OwnStatus : Status → Type 0
+  OwnStatus n = RequestStatus r n ⊎ (ReadAsked r and ReadStatus r m x n)
+
+  own-ruled : (n : Status) → (sbeRuling r m x ≡ Decline (n .0) (n .1)) ↔ OwnStatus n
+  unfolding ReadStatus sbeRuling judgedFor
+  own-ruled n =
       let rows = read-rows _ _ _ _ status status-is in (
-        by-request (λ (v : Ruling). v ≡ Decline (n .0) (n .1) → SbeStatus r m x n) (λ v e h. inl (request-rows r .exactly n .0 (e ∙ h))) (λ a h. inr (a, rows .exactly n .0 h)),
+        by-request (λ (v : Ruling). v ≡ Decline (n .0) (n .1) → OwnStatus n) (λ v e h. inl (request-rows r .exactly n .0 (e ∙ h))) (λ a h. inr (a, rows .exactly n .0 h)),
         ⊎-elim (λ t. ap (judgedFor (length m) (length x)) (request-rows r .exactly n .1 t)) (λ t. read-ruled (t .0) ∙ rows .exactly n .1 (t .1)),
       )
 
   -- a request that makes a change is no read
-  pub changes-ruled : Changes r → grants (sbeRuling r m x) ≡ true
+  changes-ruled : Changes r → grants (sbeRuling r m x) ≡ true
   unfolding grants
   changes-ruled c =
       by-request (λ (v : Ruling). grants v ≡ true) (λ v e. sym (ap grants e) ∙ changes-exactly r .1 c)
       (λ a. absurd (true≢false (sym (changes-exactly r .1 c) ∙ ap grants (read-asked r a))))
 
   -- and by now there is none left to judge
-  pub none-read : (offset size : ℕ) → sbeRuling r m x ≡ Read offset size → ⊥
+  none-read : (offset size : ℕ) → sbeRuling r m x ≡ Read offset size → ⊥
   unfolding sbeRuling
   none-read offset size e = true≢false (sym (ap isRead e) ∙ judged-read (length m) (length x) (requestRuling r))
+
+-- ---- by the profile (k): what would make an entry is refused with 05/20, and nothing else differs
+
+denied-change : (v : Ruling) → grants v ≡ true → denied v ≡ Decline 0x05 0x20
+unfolding denied grants
+denied-change (Decline p q) g = absurd (false≢true g)
+denied-change (Grant ch) g = refl
+denied-change Done g = absurd (false≢true g)
+denied-change (Read offset size) g = absurd (false≢true g)
+
+denied-same : (v : Ruling) → grants v ≡ false → denied v ≡ v
+unfolding denied grants
+denied-same (Decline p q) g = refl
+denied-same (Grant ch) g = absurd (true≢false g)
+denied-same Done g = refl
+denied-same (Read offset size) g = refl
+
+-- a ruling that grants nothing stays
+stays : (profile : ℕ) (v : Ruling) → grants v ≡ false → byProfile profile v ≡ v
+unfolding byProfile
+stays profile v g = cond-elim (λ (u : Ruling). u ≡ v) (eqb profile 0) refl (denied-same v g)
+
+module _ (s : Session) (r m x : List ℕ) where
+  -- the ruling of a call
+  abbrev pub ruling : Ruling
+  ruling = byProfile (s .profile) (sbeRuling r m x)
+
+  -- it is the one that was judged, in a full session or where nothing is granted; else 05/20
+  by-profile : (P : Ruling → Type 0) → ((s .profile ≡ 0) ⊎ (grants (sbeRuling r m x) ≡ false) → P (sbeRuling r m x))
+      → ((s .profile ≡ 0 → ⊥) → grants (sbeRuling r m x) ≡ true → P (Decline 0x05 0x20)) → P ruling
+  unfolding byProfile
+  by-profile P same other =
+      cond-cases P (eqb (s .profile) 0) (λ t. same (inl (eqb-true (s .profile) 0 t)))
+      (λ t. go (eqb-false (s .profile) 0 t) (grants (sbeRuling r m x)) refl)
+    where
+      go : (s .profile ≡ 0 → ⊥) → (b : Bool) → grants (sbeRuling r m x) ≡ b → P (denied (sbeRuling r m x))
+      go z true g = subst P (sym (denied-change (sbeRuling r m x) g)) (other z g)
+      go z false g = subst P (sym (denied-same (sbeRuling r m x) g)) (same (inr g))
+
+  -- a change is granted in a full session, as the request has it
+  pub change-granted : (ch : Change) → ruling ≡ Grant ch → (requestRuling r ≡ Grant ch) × (s .profile ≡ 0)
+  unfolding grants
+  change-granted ch =
+      by-profile (λ (v : Ruling). v ≡ Grant ch → (requestRuling r ≡ Grant ch) × (s .profile ≡ 0))
+      (λ p e. (change-ruled r m x ch e, ⊎-elim (λ z. z) (λ g. absurd (true≢false (sym (ap grants e) ∙ g))) p))
+      (λ z g e. absurd (false≢true (ap grants e)))
+
+  pub changes-granted : Changes r → s .profile ≡ 0 → grants ruling ≡ true
+  changes-granted c full = by-profile (λ (v : Ruling). grants v ≡ true) (λ p. changes-ruled r m x c) (λ z g. absurd (z full))
+
+  -- what is answered without a change is so in any
+  pub plain-exactly : (ruling ≡ Done) ↔ (Plainly r ⊎ Served r m x)
+  unfolding grants accepts
+  plain-exactly = (
+    by-profile (λ (v : Ruling). v ≡ Done → Plainly r ⊎ Served r m x) (λ p e. done-ruled r m x .0 e) (λ z g e. absurd (false≢true (ap accepts e))),
+    λ h. let e = done-ruled r m x .1 h in stays (s .profile) (sbeRuling r m x) (ap grants e) ∙ e,
+  )
+
+  pub never-changes : ruling ≡ Done → Changes r → ⊥
+  unfolding grants accepts
+  never-changes e c =
+      by-profile (λ (v : Ruling). v ≡ Done → ⊥) (λ p h. false≢true (sym (ap grants h) ∙ changes-ruled r m x c)) (λ z g h. false≢true (ap accepts h)) e
+
+  pub never-read : (offset size : ℕ) → ruling ≡ Read offset size → ⊥
+  never-read offset size =
+      by-profile (λ (v : Ruling). v ≡ Read offset size → ⊥) (λ p e. none-read r m x offset size e) (λ z g e. false≢true (ap isRead e))
+
+  -- the statuses
+  granted-changes : (v : Ruling) → sbeRuling r m x ≡ v → grants v ≡ true → Changes r
+  unfolding grants
+  granted-changes (Decline p q) e g = absurd (false≢true g)
+  granted-changes (Grant ch) e g = changes-exactly r .0 (ap grants (change-ruled r m x ch e))
+  granted-changes Done e g = absurd (false≢true g)
+  granted-changes (Read offset size) e g = absurd (false≢true g)
+
+  five-twenty : (n : Status) → Decline 0x05 0x20 ≡ Decline (n .0) (n .1) → n ≡ (0x05, 0x20)
+  five-twenty n e = let p : n .0 ≡ 0x05 = cc in let q : n .1 ≡ 0x20 = cc in λ i. (p i, q i)
+
+  five-is : (n : Status) → n ≡ (0x05, 0x20) → Decline 0x05 0x20 ≡ Decline (n .0) (n .1)
+  five-is n e = sym (ap (λ (k : Status). Decline (k .0) (k .1)) e)
+
+  own-stays : (n : Status) → OwnStatus r m x n → ruling ≡ Decline (n .0) (n .1)
+  unfolding grants
+  own-stays n t = let e = own-ruled r m x n .1 t in stays (s .profile) (sbeRuling r m x) (ap grants e) ∙ e
+
+  watch-refuses : (s .profile ≡ 0 → ⊥) → Changes r → ruling ≡ Decline 0x05 0x20
+  watch-refuses z c =
+      by-profile (λ (v : Ruling). v ≡ Decline 0x05 0x20) (⊎-elim (λ full. absurd (z full)) (λ g. absurd (true≢false (sym (changes-ruled r m x c) ∙ g)))) (λ y g. refl)
+
+  pub status-ruled : (n : Status) → (ruling ≡ Decline (n .0) (n .1)) ↔ SbeStatus s r m x n
+  unfolding SbeStatus
+  status-ruled n = (
+    by-profile (λ (v : Ruling). v ≡ Decline (n .0) (n .1) → SbeStatus s r m x n) (λ p e. ⊎-elim (λ t. inl t) (λ t. inr (inl t)) (own-ruled r m x n .0 e))
+        (λ z g e. inr (inr (z, (granted-changes (sbeRuling r m x) refl g, five-twenty n e)))),
+    ⊎-elim (λ t. own-stays n (inl t))
+        (⊎-elim (λ t. own-stays n (inr t)) (λ t. watch-refuses (t .0) (t .1 .0) ∙ five-is n (t .1 .1))),
+  )
 
 -- ---- the second buffer
 
@@ -230,7 +330,7 @@ module _ (s : Session) (r d : List ℕ) where
     -- "kept on refusal": a read that is served succeeds
     served-succeeds : SbeDue s r d → Served r m x → SbeSucceeds s r d m x
     unfolding SbeSucceeds sbeCall sbeAsks sbeRead
-    served-succeeds y h = subst Succeeded (sym (λ i. due (none-refused y i) (rulingAsks r d (done-ruled r m x .1 (inr h) i)))) done-so
+    served-succeeds y h = subst Succeeded (sym (λ i. due (none-refused y i) (rulingAsks r d (plain-exactly s r m x .1 (inr h) i)))) done-so
 
     pub data-refused : (SbeSucceeds s r d m x → ⊥) → sbeData s r d m x ≡ x
     data-refused z = data-kept (λ h. z (served-succeeds (h .0) (h .1)))

@@ -12,7 +12,7 @@ use Rattle.entries.specs.Entries.{bodyLen}
 use Rattle.journal.specs.Add.{entryLen, endOf}
 use Rattle.journal.specs.declared.End.the-variants.{At, Full}
 use Rattle.session.specs.Session.{carriedTo, carriedOf}
-use Rattle.session.specs.Road.{Asks, refuses, tells, makes, moves, forgets, passes, timerBell, Said, kept, done, carriedSays, settled}
+use Rattle.session.specs.Road.{Asks, refuses, tells, makes, moves, forgets, passes, opens, timerBell, Said, kept, done, carriedSays, settled}
 use Rattle.session.specs.declared.Session.{Session}
 use Rattle.change.specs.laws.Timed.{kind-of-back, timed-kind}
 use Rattle.promises.specs.History.{keeps, adds, adding, deedBy}
@@ -55,3 +55,4 @@ module _ (s t : Session) (full-is : (e : Edit) → carriedOf t e .full ≡ carri
   same-settled (moves w at e) = (alike refl refl refl refl, refl)
   same-settled (forgets n) = (alike refl refl refl refl, refl)
   same-settled (passes n) = (alike refl (ap (timerBell n) timer-is) refl refl, refl)
+  same-settled opens = (alike refl refl refl refl, refl)

@@ -410,7 +410,7 @@ pub next-occ-change-fits-freed-room : (n : ℕ) (s : Session) → TypedSession s
 next-occ-change-fits-freed-room = occ-fits-freed
 
 pub next-sbe-change-fits-freed-room : (n : ℕ) (s : Session) → TypedSession s → forgetCall n s .answer ≡ 0 → (e : ForgetEffect n s (forgetCall n s)) (r d m x : List ℕ)
-    → 32 ≤ length d → 32 ≤ length r → Changes r → s .used + entryLength (sbeKind r) ≤ 2048 + length (written (e .forgotten)) → SbeSucceeds (forgetCall n s .session) r d m x
+    → 32 ≤ length d → 32 ≤ length r → Changes r → s .profile ≡ 0 → s .used + entryLength (sbeKind r) ≤ 2048 + length (written (e .forgotten)) → SbeSucceeds (forgetCall n s .session) r d m x
 next-sbe-change-fits-freed-room = sbe-fits-freed
 
 -- document 02, h: the timer "expires only when the bench reports as many microseconds as are left, or more (fewer are taken off; off means 0 left); doorbell bit 14

@@ -145,12 +145,12 @@ module _ (base : Record) where
   history-profile p es next rs g =
       ⊎-elim (λ z. inl z)
       (λ z.
-          let on : p ≡ 0 → ⊥ = λ y. omega (arith, y, z) in
-          inr (
-            z,
-            ap onlyClears (stored-read Before (backs es) (backs-stored p next es (g .kept))) ∙ backs-clear p next es on (g .kept),
-            ap onlyClears (stored-read After rs (again-stored p next es rs (g .again))) ∙ again-clear p next es rs on (g .again),
-          ))
+      let on : p ≡ 0 → ⊥ = λ y. omega (arith, y, z) in
+      inr (
+        z,
+        ap onlyClears (stored-read Before (backs es) (backs-stored p next es (g .kept))) ∙ backs-clear p next es on (g .kept),
+        ap onlyClears (stored-read After rs (again-stored p next es rs (g .again))) ∙ again-clear p next es rs on (g .again),
+      ))
       (g .profile)
 
   pub history-formed : (s : Session) → Clock (s .timer) → (es : List Edit) (next : ℕ) (rs : List Edit) → Sane (s .profile) es next rs → wellFormed (byHistory s es next rs) ≡ true

@@ -176,11 +176,10 @@ module _ (w : Way) (s : Session) (f : Formed s) (e : Edit) (n : Newest w s e) wh
     both-clear : onlyClears (entriesIn (s .used) (s .journal)) ≡ true → onlyClears (entriesIn (s .ahead) (s .redo)) ≡ true → BothClear s at e (putOf (s .held) e .after) w
     unfolding lessened grown grownTo entryFor
     both-clear j r =
-        let from = less-clears w (storeOf w s) (usedOf w s) store (n .entry) (n .older) (n .read) (clear-of s w j r) in
-        (
+        let from = less-clears w (storeOf w s) (usedOf w s) store (n .entry) (n .older) (n .read) (clear-of s w j r) in (
           from .1,
           pasted-clears (other w) (storeOf (other w) s) (usedOf (other w) s) (store-of s f (other w)) back writable (entry-ok (other w) back writable back-passes)
-          (omega (arith, room, long-store s typed (other w))) (same-kind ∙ from .0) (clear-of s (other w) j r),
+              (omega (arith, room, long-store s typed (other w))) (same-kind ∙ from .0) (clear-of s (other w) j r),
         )
 
     pub moved-formed : recordOk (putOf (s .held) e .after) (s .next) ≡ true → wellFormed (settled s [] (moves w at e) .session) ≡ true

@@ -59,7 +59,7 @@ written-timed t ok fits tables =
     (λ x h. let w : Writable Before tables (SetTimer t) = (fits, h .writable .1) in record { writable = w; good = entry-ok Before (record { change = SetTimer t; tables = tables }) w ok })
     (λ ch n h. h)
 
-module _ (s : Session) (f : Formed s) (typed : TypedSession s) (e : Edit) (m : Made (s .held) (s .next) (e .tables) (e .change)) (lets : Lets (s .profile) (e .change)) (fits : carriedOf s e .full ≡ false) where
+module _ (s : Session) (f : Formed s) (typed : TypedSession s) (e : Edit) (m : Made (s .held) (s .next) (e .tables) (e .change)) (fits : carriedOf s e .full ≡ false) where
   abbrev b : Edit
   b = takesBack (s .held) (s .timer) e
 
@@ -95,17 +95,17 @@ module _ (s : Session) (f : Formed s) (typed : TypedSession s) (e : Edit) (m : M
   back-kind = timed-kind (s .timer) (backOf (s .held) (e .change)) ∙ kind-of-back (s .held) (e .change)
 
   -- clears only, if they were
-  profile-after : Profile (s .profile) (entriesIn (s .used + entryLen b) (addedTo (s .used) b (s .journal))) (entriesIn 0 (replicate 2048 0))
-  profile-after =
+  profile-after : Lets (s .profile) (e .change) → Profile (s .profile) (entriesIn (s .used + entryLen b) (addedTo (s .used) b (s .journal))) (entriesIn 0 (replicate 2048 0))
+  profile-after lets =
       ⊎-elim (λ z. inl z)
       (λ k. profile-kept (s .profile) (entriesIn (s .used) (s .journal)) (entriesIn (s .ahead) (s .redo)) _ _ (f .profile-is)
       (λ j r. (more-clears Before (s .journal) (s .used) (f .journal) b back-writable (back-written .good) room (back-kind ∙ k) j, none-clears (replicate 2048 0))))
       lets
 
   -- the redo store is empty
-  pub carried-formed : wellFormed (carriedOf s e .session) ≡ true
+  pub carried-formed : Lets (s .profile) (e .change) → wellFormed (carriedOf s e .session) ≡ true
   unfolding renewed withTimer
-  carried-formed =
+  carried-formed lets =
       ap wellFormed session-is
       ∙ formed-ok after (record {
         record-ok = l .put-sound;
@@ -115,7 +115,7 @@ module _ (s : Session) (f : Formed s) (typed : TypedSession s) (e : Edit) (m : M
         journal = one-more Before (s .journal) (s .used) (f .journal) b back-writable (back-written .good) room;
         marks-are = refl;
         redo = none-used After 2048;
-        profile-is = profile-after;
+        profile-is = profile-after lets;
       })
 
 -- ---- what comes of what a call asks
@@ -131,7 +131,7 @@ module _ (s : Session) (typed : TypedSession s) (whole : wellFormed s ≡ true) 
   asked-formed (forgets n) h = forgotten-formed n s whole
   asked-formed (passes n) h = passed-formed n s whole
   asked-formed opens h = watch-formed s whole
-  asked-formed (makes e bell y) h = cond-cases Whole (carriedOf s e .full) (λ f. whole) (λ f. carried-formed s (formed s whole) typed e (h .0) (h .1) f)
+  asked-formed (makes e bell y) h = cond-cases Whole (carriedOf s e .full) (λ f. whole) (λ f. carried-formed s (formed s whole) typed e (h .0) f (h .1))
   asked-formed (moves w at e) h =
       subst (λ (k : ℕ). wellFormed (sessionMoved w s k e (putOf (s .held) e .after)) ≡ true) (sym (h .1)) (moved-formed w s (formed s whole) e (h .0) typed (h .2 .1))
 

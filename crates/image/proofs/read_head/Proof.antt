@@ -29,9 +29,9 @@ shared-slice-read-t9 c = search needs
 returns : tie.Need-returns
 unfolding headIn
 returns c = (
-    λ i. record { held = (c .before .before .before .before .before .before .record-in .ensures) i; worked = (c .before .before .before .before .before .worked-in .ensures) i; next = (c .before .before .before .before .be16 .ensures) i; used = (c .before .before .before .be162 .ensures) i; ahead = (c .before .before .be163 .ensures) i; timer = (c .before .timer-in .ensures) i; profile = byteAt 4410 (c .before .before .before .before .before .before .before .before .args .b .now) },
-    bytes-of (c .before .before .before .before .before .before .before .before .args .b .now) (λ i. omega (arith, c .before .before .before .before .before .before .before .shared-slice-known .given i)),
-    )
+  λ i. record { held = (c .before .before .before .before .before .before .record-in .ensures) i; worked = (c .before .before .before .before .before .worked-in .ensures) i; next = (c .before .before .before .before .be16 .ensures) i; used = (c .before .before .before .be162 .ensures) i; ahead = (c .before .before .be163 .ensures) i; timer = (c .before .timer-in .ensures) i; profile = byteAt 4410 (c .before .before .before .before .before .before .before .before .args .b .now) },
+  bytes-of (c .before .before .before .before .before .before .before .before .args .b .now) (λ i. omega (arith, c .before .before .before .before .before .before .before .shared-slice-known .given i)),
+)
 
 pub read-head-spec : {M : Type 1} → statement M
 read-head-spec =

@@ -156,6 +156,10 @@ impl<B: Bench> Generator<B> {
         self.give(Order::Time(microseconds));
     }
 
+    fn watch(&mut self) {
+        self.give(Order::Watch);
+    }
+
     fn timer(&mut self) {
         let request = requests::timer(&mut self.random);
         self.give(Order::Sbe(request));

@@ -229,7 +229,11 @@ impl<B: Bench> Generator<B> {
         self.give(Order::Image);
         for _ in 0..self.random.between(2, 12) {
             match self.random.below(8) {
-                0 | 1 => self.right(About::Clear),
+                0 => self.right(About::Clear),
+                1 => {
+                    let sender = self.random.pick(&[0x10, 0x20]);
+                    self.right_from(sender, About::Clear);
+                }
                 2 => self.undos(2),
                 3 => self.redos(2),
                 4 => self.back_and_forth(1),
@@ -252,6 +256,10 @@ impl<B: Bench> Generator<B> {
         self.framed(0x10, 0x21, &[FORMAT_ROLE, 1]);
         (0..4).for_each(|_| self.framed(0x10, 0x25, &[0, 1]));
         self.watch();
+        // While every log pends: what is open to HTMGT alone is so in this profile too.
+        for about in commands::ALL {
+            self.right_from(0x20, about);
+        }
         for about in commands::ALL {
             for _ in 0..if self.small { 1 } else { 6 } {
                 self.right(about);

@@ -9,8 +9,8 @@
  *
  * A call that changes nothing writes nothing to the session: polls, SBE requests that make no entry (D1 02, D3 01, D7 03), error replies, every answer
  * but 0. That its bytes stay is proved; that nothing is stored at all is tried, on memory that can't be written (examples/c/edges.c). Polls may so
- * share a session; a call that changes it needs it alone, and so do forgetting no changes, which stores the bytes that stand there, and every time
- * report.
+ * share a session; a call that changes it needs it alone, and so do forgetting no changes, which stores the bytes that stand there, every time
+ * report, and opening a watch-only session again over one.
  *
  * The archive takes memcpy and memset from the C library, or from you, and nothing else. A call takes under 4 KB of stack.
  *
@@ -47,10 +47,10 @@ extern "C" {
 #endif
 
 /* Goes up with every change of a function, a constant or the image's bytes. */
-#define BJARGOLSK_VERSION 4
+#define BJARGOLSK_VERSION 5
 
 enum {
-    BJARGOLSK_SESSION = 4410, /* the image's length */
+    BJARGOLSK_SESSION = 4411, /* the image's length */
     BJARGOLSK_OCC_REPLY = 4096,
     BJARGOLSK_SBE_REPLY = 32,
     BJARGOLSK_HTMGT = 0x10,
@@ -119,6 +119,13 @@ uint32_t bjargolsk_redo(uint8_t *session, size_t session_length);
 /* Forgets the n oldest changes, which can't be taken back any more, and moves the rest down: their room in the journal is used again. The record, the
  * timer, the next id and what can be redone stay; n = 0 changes nothing. Answers 0, 1 and 9; nothing stands beside the answer. */
 uint32_t bjargolsk_forget(uint8_t *session, size_t session_length, uint32_t n);
+
+/* Opens a watch-only session over this one and in its place: the record, the timer and the next id stay, and the journal and what can be redone are empty.
+ * In it polls are open, from both senders, and clear log, from BJARGOLSK_HTMGT; every other OCC command gets status 0x16 where its data is right. An SBE
+ * request that would make an entry gets status 05/20 where all else in it is right; D1 02, D3 01 and D7 03 are open. So are undo, redo, forgetting, time
+ * reports and opening again. No call but bjargolsk_fresh, and no undo, makes a watch-only session a full one again; the profile is the image's last byte.
+ * Answers 0 and 1; nothing stands beside the answer. */
+uint32_t bjargolsk_watch(uint8_t *session, size_t session_length);
 
 #ifdef __cplusplus
 }

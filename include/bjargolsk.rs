@@ -2,10 +2,10 @@
 
 /// As in bjargolsk.h: goes up with every change of a function, a constant or the image's bytes.
 #[allow(dead_code)]
-pub const BJARGOLSK_VERSION: u32 = 4;
+pub const BJARGOLSK_VERSION: u32 = 5;
 /// The image's length.
 #[allow(dead_code)]
-pub const BJARGOLSK_SESSION: usize = 4410;
+pub const BJARGOLSK_SESSION: usize = 4411;
 
 extern "C" {
     pub fn bjargolsk_fresh(session: *mut u8, session_length: usize) -> u32;
@@ -42,4 +42,5 @@ extern "C" {
     pub fn bjargolsk_undo(session: *mut u8, session_length: usize) -> u32;
     pub fn bjargolsk_redo(session: *mut u8, session_length: usize) -> u32;
     pub fn bjargolsk_forget(session: *mut u8, session_length: usize, n: u32) -> u32;
+    pub fn bjargolsk_watch(session: *mut u8, session_length: usize) -> u32;
 }

@@ -1,4 +1,4 @@
-/* What bjargolsk.h says of its callers' buffers, tried: any alignment, NULL with length 0, sessions that calls which change nothing leave unwritten, data that a
+/* What bjargolsk.h says of its callers' buffers, tried: any alignment, NULL with length 0, sessions that calls which change nothing leave unwritten, watch-only ones too, data that a
  * read of the SEEPROM gives and what it keeps. */
 #define _DEFAULT_SOURCE /* mmap's MAP_ANONYMOUS */
 #include <stdio.h>
@@ -20,6 +20,14 @@ static void expect(const char *what, uint32_t result, uint32_t answer)
 {
     if (BJARGOLSK_ANSWER(result) != answer) {
         printf("%s: answer %u, not %u\n", what, (unsigned)BJARGOLSK_ANSWER(result), (unsigned)answer);
+        failures++;
+    }
+}
+
+static void expect_status(const char *what, unsigned status, unsigned due)
+{
+    if (status != due) {
+        printf("%s: status %X, not %X\n", what, status, due);
         failures++;
     }
 }
@@ -75,6 +83,7 @@ static void nulls(uint8_t *session)
     expect("undo, no session", bjargolsk_undo(NULL, 0), 1);
     expect("redo, no session", bjargolsk_redo(NULL, 0), 1);
     expect("forget, no session", bjargolsk_forget(NULL, 0, 0), 1);
+    expect("watch, no session", bjargolsk_watch(NULL, 0), 1);
 }
 
 /* On a page that can't be written: a call that wrote would end the program. */
@@ -123,6 +132,25 @@ static void damaged(uint8_t *session)
     mprotect(session, ROOM, PROT_READ | PROT_WRITE);
 }
 
+/* A watch-only session: what is shut writes nothing. Nor does opening one over a session with another profile than 0 and 1, the image's last byte. */
+static void watched(uint8_t *session)
+{
+    static const uint8_t state_packet[] = {3, 0x20, 0, 3, 0, 1, 0, 0, 0x27};
+    static const uint8_t mask_request[BJARGOLSK_SBE_REPLY] = {0, 0, 0, 0, 0, 1, 0xD1, 0x03};
+    bjargolsk_fresh(session, BJARGOLSK_SESSION);
+    expect("watch", bjargolsk_watch(session, BJARGOLSK_SESSION), 0);
+    mprotect(session, ROOM, PROT_READ);
+    expect("shut command, read-only", occ(session, state_packet, sizeof state_packet, 0), 0);
+    expect_status("shut command", reply[2], 0x16);
+    expect("shut request, read-only", sbe(session, mask_request), 0);
+    expect_status("shut request", reply[1] * 256u + reply[3], 0x0520);
+    mprotect(session, ROOM, PROT_READ | PROT_WRITE);
+    session[BJARGOLSK_SESSION - 1] = 2;
+    mprotect(session, ROOM, PROT_READ);
+    expect("watch over a damaged session, read-only", bjargolsk_watch(session, BJARGOLSK_SESSION), 1);
+    mprotect(session, ROOM, PROT_READ | PROT_WRITE);
+}
+
 int main(void)
 {
     uint8_t *pages = mmap(NULL, ROOM, PROT_READ | PROT_WRITE, MAP_PRIVATE | MAP_ANONYMOUS, -1, 0);
@@ -133,11 +161,13 @@ int main(void)
         expect("poll, any alignment", occ(pages + shift, poll_packet, sizeof poll_packet, shift), 0);
         expect("time, any alignment", bjargolsk_time(pages + shift, BJARGOLSK_SESSION, 1), 0);
         reads(pages + shift, shift);
+        expect("watch, any alignment", bjargolsk_watch(pages + shift, BJARGOLSK_SESSION), 0);
     }
     bjargolsk_fresh(pages, BJARGOLSK_SESSION);
     nulls(pages);
     full(pages);
     damaged(pages);
+    watched(pages);
     bjargolsk_fresh(pages, BJARGOLSK_SESSION);
     mprotect(pages, ROOM, PROT_READ);
     unwritten(pages);

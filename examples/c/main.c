@@ -1,5 +1,5 @@
 /* A master OCC brought up and capped; changes taken back, one step too far, and one put in again; a cap that is too high; the oldest changes forgotten; the
- * SBE's timer; a part of its SEEPROM read. */
+ * SBE's timer; a part of its SEEPROM read; a session that can only be watched. */
 #include <stdio.h>
 
 #include "bjargolsk.h"
@@ -78,6 +78,12 @@ static void forget(uint32_t n)
     printf("forget: answer %u\n", (unsigned)BJARGOLSK_ANSWER(result));
 }
 
+static void watch(void)
+{
+    uint32_t result = bjargolsk_watch(session, sizeof session);
+    printf("watch: answer %u\n", (unsigned)BJARGOLSK_ANSWER(result));
+}
+
 int main(void)
 {
     static const uint8_t poll[] = {0x10};
@@ -88,6 +94,8 @@ int main(void)
     static const uint8_t active[] = {0, 3, 0};
     static const uint8_t user[] = {0x03, 0xE8};
     static const uint8_t high[] = {0x07, 0xD0};
+    static const uint8_t failed[] = {0, 1};
+    static const uint8_t first[] = {1};
     static const uint8_t deadman[32] = {0, 0, 0x01, 0x01, 0, 7, 0xD1, 0x01, 0, 0, 0, 0, 0, 0, 0x03, 0xE8};
     static const uint8_t timer[32] = {0, 0, 0x00, 0x01, 0, 8, 0xD4, 0x01, 0, 0, 0, 0, 0, 0, 0x03, 0xE8};
     static const uint8_t read[32] = {0, 0, 0x01, 0x00, 0, 9, 0xD7, 0x03, 0, 0, 0, 8, 0, 0, 0, 8};
@@ -128,5 +136,15 @@ int main(void)
     passes(600);
     /* 8 bytes from offset 8 on. */
     seeprom(read, sizeof read, image, sizeof image);
+    /* A reset leaves log 1. For a training room the session is made watch-only: status 0x16 to the state, 05/20 to the deadman; the log may be cleared, and that
+     * taken back. No change from before can be. */
+    occ("reset", BJARGOLSK_HTMGT, 0x25, failed, sizeof failed);
+    watch();
+    occ("state", BJARGOLSK_HTMGT, 0x20, active, sizeof active);
+    sbe("deadman", deadman, sizeof deadman);
+    occ("clear", BJARGOLSK_HTMGT, 0x12, first, sizeof first);
+    undo();
+    undo();
+    occ("poll", BJARGOLSK_BMC, 0x00, poll, sizeof poll);
     return 0;
 }

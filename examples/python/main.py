@@ -1,5 +1,5 @@
 """A master OCC brought up and capped; changes taken back, one step too far, and one put in again; a cap that is too high; the oldest changes forgotten; the
-SBE's timer; a part of its SEEPROM read.
+SBE's timer; a part of its SEEPROM read; a session that can only be watched.
 
 usage: python3 main.py LIBRARY, the shared object that is made from the archive
 """
@@ -7,7 +7,7 @@ import ctypes
 import sys
 
 HTMGT, BMC = 0x10, 0x20
-SESSION = 4410  # BJARGOLSK_SESSION of bjargolsk.h
+SESSION = 4411  # BJARGOLSK_SESSION of bjargolsk.h
 
 
 def load(path):
@@ -22,7 +22,8 @@ def load(path):
     lib.bjargolsk_undo.argtypes = buffer
     lib.bjargolsk_redo.argtypes = buffer
     lib.bjargolsk_forget.argtypes = buffer + [ctypes.c_uint32]
-    for name in ("fresh", "occ", "sbe", "sbe_seeprom", "time", "undo", "redo", "forget"):
+    lib.bjargolsk_watch.argtypes = buffer
+    for name in ("fresh", "occ", "sbe", "sbe_seeprom", "time", "undo", "redo", "forget", "watch"):
         getattr(lib, "bjargolsk_" + name).restype = ctypes.c_uint32
     return lib
 
@@ -81,6 +82,10 @@ class Bench:
         result = self.lib.bjargolsk_forget(self.session, SESSION, n)
         print("forget: answer %d" % (result & 0xFF))
 
+    def watch(self):
+        result = self.lib.bjargolsk_watch(self.session, SESSION)
+        print("watch: answer %d" % (result & 0xFF))
+
 
 def main():
     if len(sys.argv) != 2:
@@ -96,7 +101,8 @@ def main():
     bench.occ("poll", BMC, 0x00, [0x10])
     bench.undo()
     bench.occ("poll", BMC, 0x00, [0x10])
-    bench.sbe("deadman", bytes([0, 0, 0x01, 0x01, 0, 7, 0xD1, 0x01, 0, 0, 0, 0, 0, 0, 0x03, 0xE8]) + bytes(16))
+    deadman = bytes([0, 0, 0x01, 0x01, 0, 7, 0xD1, 0x01, 0, 0, 0, 0, 0, 0, 0x03, 0xE8]) + bytes(16)
+    bench.sbe("deadman", deadman)
     # The deadman is to go. The state went too: that was one step too far.
     bench.undo()
     bench.undo()
@@ -120,6 +126,16 @@ def main():
     bench.time(600)
     # 8 bytes from offset 8 on.
     bench.seeprom(bytes([0, 0, 0x01, 0x00, 0, 9, 0xD7, 0x03, 0, 0, 0, 8, 0, 0, 0, 8]) + bytes(16), bytes(range(16)))
+    # A reset leaves log 1. For a training room the session is made watch-only: status 0x16 to the state, 05/20 to the deadman; the log may be cleared, and that
+    # taken back. No change from before can be.
+    bench.occ("reset", HTMGT, 0x25, [0, 1])
+    bench.watch()
+    bench.occ("state", HTMGT, 0x20, [0, 3, 0])
+    bench.sbe("deadman", deadman)
+    bench.occ("clear", HTMGT, 0x12, [1])
+    bench.undo()
+    bench.undo()
+    bench.occ("poll", BMC, 0x00, [0x10])
 
 
 main()

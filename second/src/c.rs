@@ -77,6 +77,10 @@ pub fn redo(image: &mut [u8]) -> u32 {
     on(image, |session| with_kind(session.redo()))
 }
 
+pub fn watch(image: &mut [u8]) -> u32 {
+    on(image, |session| session.watch().into())
+}
+
 pub fn forget(image: &mut [u8], count: u32) -> u32 {
     on(image, |session| session.forget(count).into())
 }

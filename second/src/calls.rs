@@ -1,4 +1,4 @@
-//! The calls on a session and their answers: OCC and SBE commands, undo, redo, forget and time reports.
+//! The calls on a session and their answers: OCC and SBE commands, undo, redo, forget, time reports and opening to watch.
 
 use crate::journal::{Bytes, Change, Holding};
 use crate::occ;
@@ -205,6 +205,15 @@ impl<B: Bytes> Session<B> {
             return NOT_SO_MANY;
         }
         self.drop_oldest(count);
+        DONE
+    }
+
+    /// Opens a watch-only session over this one, which is lost.
+    pub fn watch(&mut self) -> u8 {
+        if !self.well_formed() {
+            return NOT_WELL_FORMED;
+        }
+        self.open_to_watch();
         DONE
     }
 

@@ -4,7 +4,7 @@
 use crate::journal::{entries, Change, Holding, MARKED};
 use crate::occ::command_packet;
 use crate::protocol::{for_each_line, parse, Order, Program};
-use crate::session::Session;
+use crate::session::{Session, WATCH_ONLY};
 use std::cmp::Ordering;
 use std::collections::BTreeMap;
 use std::io::{BufReader, Read};
@@ -68,17 +68,19 @@ fn count_order(counts: &mut Counts, program: &mut Program, order: Order) {
         | Described::Undo(what)
         | Described::Redo(what)
         | Described::Forget(what)
-        | Described::Time(what) => what.clone(),
+        | Described::Time(what)
+        | Described::Watch(what) => what.clone(),
         Described::Other => String::new(),
     };
     let answer = program.obey(order);
+    let profile = if watched(&before) { ", watched," } else { "" };
     let words: Vec<&str> = answer.split_whitespace().collect();
     let number = words.first().copied().unwrap_or("");
     match described {
         Described::Occ(what) => {
             add(counts, "call occ".to_string());
             let status = words.get(3).map_or(String::new(), |status| format!(" status {status}"));
-            add(counts, format!("occ {what} answer {number}{status}"));
+            add(counts, format!("occ {what}{profile} answer {number}{status}"));
             if let Some(fault) = program.fault {
                 let sort = what.split(' ').next().unwrap_or("");
                 add(counts, format!("why {}", fault.reason.words()));
@@ -94,19 +96,19 @@ fn count_order(counts: &mut Counts, program: &mut Program, order: Order) {
                 let least = read.checked_ilog2().map_or(0, |power| 1 << power);
                 add(counts, format!("seeprom read of {least} bytes or more"));
             }
-            add(counts, format!("sbe {what} answer {number}{status}"));
+            add(counts, format!("sbe {what}{profile} answer {number}{status}"));
             add(counts, format!("sbe answer {number}{status}{bell}"));
         }
         Described::Undo(what) => {
             add(counts, "call undo".to_string());
-            add(counts, format!("undo {what} answer {number}"));
+            add(counts, format!("undo {what}{profile} answer {number}"));
             if let (DONE_WORD, Some(passed)) = (number, words.get(2)) {
                 add(counts, format!("undo passed {passed:>2}"));
             }
         }
         Described::Redo(what) => {
             add(counts, "call redo".to_string());
-            add(counts, format!("redo {what} answer {number}"));
+            add(counts, format!("redo {what}{profile} answer {number}"));
         }
         Described::Forget(what) => {
             add(counts, "call forget".to_string());
@@ -116,6 +118,10 @@ fn count_order(counts: &mut Counts, program: &mut Program, order: Order) {
             add(counts, "call time".to_string());
             let bell = words.last().filter(|_| number == DONE_WORD).map_or("", |bell| *bell);
             add(counts, format!("time {what} answer {number} {bell}"));
+        }
+        Described::Watch(what) => {
+            add(counts, "call watch".to_string());
+            add(counts, format!("watch {what} answer {number}"));
         }
         Described::Other if asked_why => add(counts, "line why".to_string()),
         Described::Other => add(counts, "line not a call".to_string()),
@@ -137,6 +143,7 @@ enum Described {
     Redo(String),
     Forget(String),
     Time(String),
+    Watch(String),
     Other,
 }
 
@@ -157,6 +164,7 @@ fn describe(order: &Order, session: &Session) -> Described {
         }),
         Order::Undo => Described::Undo(undo_sort(session)),
         Order::Redo => Described::Redo(redo_sort(session)),
+        Order::Watch => Described::Watch(watch_sort(session)),
         Order::Time(microseconds) => Described::Time(time_sort(session, *microseconds)),
         Order::Forget(count) => Described::Forget(forget_sort(session, *count as usize)),
         _ => Described::Other,
@@ -252,6 +260,22 @@ fn ring_sort(request: &[u8]) -> String {
         Some([0, target @ 0..=4]) => format!("type {target}"),
         _ => "other type".to_string(),
     }
+}
+
+fn watched(session: &Session) -> bool {
+    session.profile == WATCH_ONLY
+}
+
+/// What is lost by opening.
+fn watch_sort(session: &Session) -> String {
+    let lost = match (session.journal.used, session.redo.used) {
+        _ if !session.well_formed() => return "over a damaged session".to_string(),
+        (0, 0) => "over empty stores",
+        (_, 0) => "over a journal",
+        (0, _) => "over a redo store",
+        _ => "over both stores",
+    };
+    format!("{lost}{}", if watched(session) { ", again" } else { "" })
 }
 
 /// Against what the timer has left.

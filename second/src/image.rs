@@ -9,8 +9,8 @@ use crate::session::Session;
 const HEAD_LENGTH: usize = 239;
 const REDO_AT: usize = HEAD_LENGTH + STORE_LENGTH;
 const TAIL_AT: usize = REDO_AT + 2 + STORE_LENGTH;
-/// All behind the redo store's bytes: marks, timer.
-const TAIL_LENGTH: usize = 2 * MARKS + 9;
+/// All behind the redo store's bytes: marks, timer, profile.
+const TAIL_LENGTH: usize = 2 * MARKS + 9 + 1;
 pub const IMAGE_LENGTH: usize = TAIL_AT + TAIL_LENGTH;
 
 pub fn write(session: &Session) -> Vec<u8> {
@@ -38,6 +38,7 @@ fn write_tail<B>(tail: &mut [u8], session: &Session<B>) {
     let mut tail = Writer::new(tail);
     session.marks.iter().for_each(|mark| tail.put(&mark.to_be_bytes()));
     write_timer(&mut tail, &session.timer);
+    tail.put(&[session.profile]);
 }
 
 fn write_record(head: &mut Writer, record: &Record) {
@@ -105,6 +106,7 @@ fn read_around<B>(head: &[u8], journal: B, redo: Store<B>, tail: &[u8]) -> Optio
         redo,
         marks: read_marks(&mut tail)?,
         timer: read_timer(&mut tail)?,
+        profile: tail.u8()?,
     })
 }
 

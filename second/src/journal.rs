@@ -5,9 +5,12 @@ use crate::record::*;
 
 pub const STORE_LENGTH: usize = 2048;
 
+/// The kind of a cleared log, which alone a watch-only session may have.
+pub const CLEAR: u8 = 0x01;
+
 pub fn body_length(kind: u8) -> Option<usize> {
     match kind {
-        0x01 => Some(3),
+        CLEAR => Some(3),
         0x02 => Some(1),
         0x03 => Some(2),
         0x04 => Some(7),
@@ -129,6 +132,8 @@ pub struct Survey {
     /// How many entries there are, and the marks that they ask for.
     pub entries: usize,
     pub marks: Marks,
+    /// No entry is of another kind.
+    pub clears_only: bool,
 }
 
 impl Survey {
@@ -140,6 +145,7 @@ impl Survey {
         }
         self.entries += 1;
         self.newest = Some(entry.offset);
+        self.clears_only &= entry.kind == CLEAR;
     }
 
     pub fn reads(&self) -> bool {
@@ -173,7 +179,7 @@ impl<B: Bytes> Store<B> {
     }
 
     pub fn survey(&self, holding: Holding) -> Survey {
-        let mut found = Survey { used: self.used, ..Survey::default() };
+        let mut found = Survey { used: self.used, clears_only: true, ..Survey::default() };
         let Some(used) = self.used_bytes() else {
             found.too_long = true;
             return found;

@@ -101,18 +101,47 @@ fn read_packet(command: &[u8]) -> Result<(u8, &[u8]), Refusal> {
     Ok((*command_type, data))
 }
 
+/// What is open, type by type: to whom, and in which sessions. HTMGT may send every type.
+struct Open {
+    command_type: u8,
+    to_bmc: bool,
+    when_watched: bool,
+}
+
+const OPEN: [Open; 6] = [
+    Open { command_type: POLL, to_bmc: true, when_watched: true },
+    Open { command_type: CLEAR_LOG, to_bmc: false, when_watched: true },
+    Open { command_type: SET_STATE, to_bmc: false, when_watched: false },
+    Open { command_type: CONFIGURATION, to_bmc: false, when_watched: false },
+    Open { command_type: USER_CAP, to_bmc: true, when_watched: false },
+    Open { command_type: RESET_PREP, to_bmc: false, when_watched: false },
+];
+
 /// Every status of the table, in its order.
 pub fn judge(session: &Standing, sender: u8, command: &[u8]) -> Judged {
     let (command_type, data) = read_packet(command)?;
-    need(sender != BMC || command_type == POLL || command_type == USER_CAP, INVALID_COMMAND)?;
-    match command_type {
+    let open = OPEN.iter().find(|open| open.command_type == command_type).ok_or(INVALID_COMMAND)?;
+    need(sender != BMC || open.to_bmc, INVALID_COMMAND)?;
+    let judged = match command_type {
         POLL => poll(data),
         CLEAR_LOG => clear_log(session, data),
         SET_STATE => set_state(session, data),
         CONFIGURATION => configuration(session, data),
         USER_CAP => user_cap(session, data),
-        RESET_PREP => reset_prep(session, data),
-        _ => Err(INVALID_COMMAND.into()),
+        _ => reset_prep(session, data),
+    };
+    if session.is_watched() && !open.when_watched {
+        shut(judged)
+    } else {
+        judged
+    }
+}
+
+/// The profile forbids with the role and the state: once the data is right, and before a log is asked for.
+fn shut(judged: Judged) -> Judged {
+    match judged {
+        Err(refusal) if refusal.status != INTERNAL_ERROR => Err(refusal),
+        _ => Err(STATE_PROHIBITS.into()),
     }
 }
 

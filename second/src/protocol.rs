@@ -26,6 +26,7 @@ undo              take the newest change back
 redo              put the change last taken back in again
 forget N          forget the N oldest changes
 time N            N microseconds have passed
+watch             go on with a watch-only session over this one
 fresh             begin again with a fresh session
 image             the session as {IMAGE_LENGTH} bytes
 load BYTES        go on with the session of such an image
@@ -53,6 +54,7 @@ pub enum Order {
     Redo,
     Forget(u32),
     Time(u64),
+    Watch,
     Fresh,
     Image,
     Load(Vec<u8>),
@@ -212,6 +214,7 @@ fn parse_words(rest: &mut Scanner) -> Result<Order, Complaint> {
             let microseconds = rest.number(u64::MAX)?;
             rest.nothing_more(Order::Time(microseconds))
         }
+        b"watch" => rest.nothing_more(Order::Watch),
         b"seeprom" => Ok(Order::Seeprom(rest.bytes(LONGEST_SEEPROM, seeprom_over)?)),
         b"fresh" => rest.nothing_more(Order::Fresh),
         b"image" => rest.nothing_more(Order::Image),
@@ -289,6 +292,7 @@ impl Program {
                 (DONE, bell) => format!("{DONE} bell {bell:04X}\n"),
                 (answer, _) => format!("{answer}\n"),
             },
+            Order::Watch => format!("{}\n", self.session.watch()),
             Order::Seeprom(bytes) => {
                 self.seeprom = bytes;
                 "ok\n".to_string()

@@ -63,6 +63,10 @@ pub fn time(image: &mut [u8], microseconds: u64) -> u32 {
     unsafe { ffi::bjargolsk_time(image.as_mut_ptr(), image.len(), microseconds) }
 }
 
+pub fn watch(image: &mut [u8]) -> u32 {
+    unsafe { ffi::bjargolsk_watch(image.as_mut_ptr(), image.len()) }
+}
+
 pub fn forget(image: &mut [u8], count: u32) -> u32 {
     unsafe { ffi::bjargolsk_forget(image.as_mut_ptr(), image.len(), count) }
 }

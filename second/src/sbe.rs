@@ -16,6 +16,8 @@ pub const INVALID_TARGET_TYPE: Status = (0x02, 0x04);
 pub const INVALID_CHIPLET: Status = (0x02, 0x05);
 pub const BUFFER_TOO_SMALL: Status = (0x02, 0x18);
 pub const INVALID_PARAMETERS: Status = (0x02, 0x19);
+/// Denied chip-op access: in a watch-only session.
+pub const ACCESS_DENIED: Status = (0x05, 0x20);
 
 pub const RESPONSE_ASKED: u16 = 0x0100;
 pub const ACKNOWLEDGE_ASKED: u16 = 0x0200;
@@ -80,9 +82,17 @@ pub enum Effect {
     Respond,
 }
 
+/// In a watch-only session what would make a journal entry is refused, once all else is right.
+pub fn judge(session: &Standing, request: &Request, image: usize, room: usize) -> Result<Effect, Status> {
+    match judge_request(session, request, image, room)? {
+        Effect::Change(_) if session.is_watched() => Err(ACCESS_DENIED),
+        effect => Ok(effect),
+    }
+}
+
 /// Class, then command, then flags, then what the command itself asks. `image` and `room` are the lengths of the two buffers that
 /// are lent for reading the SEEPROM.
-pub fn judge(session: &Standing, request: &Request, image: usize, room: usize) -> Result<Effect, Status> {
+fn judge_request(session: &Standing, request: &Request, image: usize, room: usize) -> Result<Effect, Status> {
     let now = session.record;
     let (before, record) = match (request.class, request.command) {
         (0xD1, 0x01) => deadman(now, request)?,

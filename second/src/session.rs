@@ -14,7 +14,12 @@ pub struct Session<B = [u8; STORE_LENGTH]> {
     /// Of the journal's entries.
     pub marks: Marks,
     pub timer: Timer,
+    /// Fixed at opening.
+    pub profile: u8,
 }
+
+pub const FULL: u8 = 0;
+pub const WATCH_ONLY: u8 = 1;
 
 /// What commands are judged by: the session without its stores.
 pub struct Standing<'a> {
@@ -22,6 +27,13 @@ pub struct Standing<'a> {
     pub worked_out: &'a WorkedOut,
     pub next_id: u16,
     pub timer: Timer,
+    profile: u8,
+}
+
+impl Standing<'_> {
+    pub fn is_watched(&self) -> bool {
+        self.profile == WATCH_ONLY
+    }
 }
 
 /// A command that passed every status: what stood before, and what shall stand.
@@ -77,6 +89,9 @@ pub const RULES: &[Rule] = &[
     ("marks at their entries", |s| !s.journal.reads() || s.marks_fit(0, s.journal.used_marks())),
     ("unused marks zero", |s| !s.journal.reads() || s.marks_fit(s.journal.used_marks(), MARKS)),
     ("timer", |s| timer_fits(&s.standing.timer)),
+    ("profile", |s| s.standing.profile <= WATCH_ONLY),
+    ("journal of clears", |s| !s.standing.is_watched() || !s.journal.reads() || s.journal.clears_only),
+    ("redo store of clears", |s| !s.standing.is_watched() || !s.redo.reads() || s.redo.clears_only),
 ];
 
 impl Inspection<'_> {
@@ -104,6 +119,7 @@ impl Session {
             redo: Store::empty(),
             marks: [0; MARKS],
             timer: Timer::default(),
+            profile: FULL,
         }
     }
 }
@@ -115,6 +131,7 @@ impl<B: Bytes> Session<B> {
             worked_out: &self.worked_out,
             next_id: self.next_id,
             timer: self.timer,
+            profile: self.profile,
         }
     }
 
@@ -197,6 +214,14 @@ impl<B: Bytes> Session<B> {
     pub fn set_record(&mut self, record: Record) {
         self.record = record;
         self.worked_out = record.work_out();
+    }
+
+    /// Becomes the watch-only session over itself: nothing can be taken back or put in again, all else stays.
+    pub fn open_to_watch(&mut self) {
+        self.journal.cut(0);
+        self.redo.cut(0);
+        self.marks = [0; MARKS];
+        self.profile = WATCH_ONLY;
     }
 
     /// Adds the entry, makes the change and empties the redo store; false, and nothing done, if the entry is longer than

@@ -2,7 +2,7 @@
 
 use crate::journal::{list, Store, STORE_LENGTH};
 use crate::record::*;
-use crate::session::Session;
+use crate::session::{Session, FULL, WATCH_ONLY};
 use std::fmt::Write;
 
 fn mark(received: u8) -> &'static str {
@@ -105,6 +105,12 @@ fn write_rest(text: &mut String, session: &Session) -> std::fmt::Result {
         Timer { running: 0, .. } => writeln!(text, "timer off")?,
         Timer { left, .. } => writeln!(text, "timer on {left}")?,
     }
+    let profile = match session.profile {
+        FULL => "full",
+        WATCH_ONLY => "watch-only",
+        _ => "unknown",
+    };
+    writeln!(text, "profile {profile}")?;
     writeln!(text, "next id {}", session.next_id)?;
     let listing = journal_listing(session);
     writeln!(text, "{}", listing.lines().next().unwrap_or(""))?;

@@ -127,8 +127,8 @@ fn images_are_read_back_as_they_were() {
         let session = image::read(&bytes).expect("an image");
         assert_eq!(image::write(&session), bytes);
     }
-    assert_eq!(image::IMAGE_LENGTH, 4410);
-    assert!(image::read(&[0; 4409]).is_none() && image::read(&[0; 4411]).is_none());
+    assert_eq!(image::IMAGE_LENGTH, 4411);
+    assert!(image::read(&[0; 4410]).is_none() && image::read(&[0; 4412]).is_none());
 }
 
 #[test]
@@ -168,6 +168,6 @@ fn a_fresh_session_shows_as_the_page_says() {
                 thresholds 255 255 255 255 255 255 255 255 255 not received\n\
                 throttles none not received\nlogs none\ncores out none\ndeadman off 0\n\
                 area ffdc 0000000000000000 00000000\narea pass 0000000000000000 00000000\n\
-                redo 0\ntimer off\nnext id 1\njournal 0\nroom 2048\n.\n";
+                redo 0\ntimer off\nprofile full\nnext id 1\njournal 0\nroom 2048\n.\n";
     assert_eq!(after(&["show"]).1, page);
 }

@@ -296,6 +296,7 @@ pub fn help(out: &mut [u8]) -> usize
           redo              put the change last taken back in again\n|\
           forget N          forget the N oldest changes\n|\
           time N            N microseconds have passed\n|\
+          watch             go on with a watch-only session over this one\n|\
           fresh             begin again with a fresh session\n|\
           image             the session as |",
     );

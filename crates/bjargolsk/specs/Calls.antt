@@ -16,6 +16,7 @@ use Rattle.sbe_call.specs.Sbe.{sbeOn, dataOn}
 use Rattle.undo_call.specs.Undo.{undoOn, redoOn}
 use Rattle.forget_call.specs.Forget.{forgetOn}
 use Rattle.time_call.specs.Time.{timeOn}
+use Rattle.watch_call.specs.Watch.{watchOn}
 
 -- the answer in bits 0 to 7, the small number in bits 8 to 15, the other in bits 16 to 31
 unfoldable pub packed : Told → ℕ
@@ -58,3 +59,6 @@ ForgetReturns b n result image = (result ≡ packed (forgetOn n b .told)) and (i
 
 abbrev pub TimeReturns : List ℕ → ℕ → ℕ → List ℕ → Type 0
 TimeReturns b n result image = (result ≡ packed (timeOn n b .told)) and (image ≡ timeOn n b .image)
+
+abbrev pub WatchReturns : List ℕ → ℕ → List ℕ → Type 0
+WatchReturns b result image = (result ≡ packed (watchOn b .told)) and (image ≡ watchOn b .image)

@@ -1,7 +1,7 @@
-// The calls for C: those of `occ_call`, `sbe_call`, `undo_call`, `forget_call` and `time_call` under C names. A result has the answer in bits 0 to 7, a small number beside
+// The calls for C: those of `occ_call`, `sbe_call`, `undo_call`, `forget_call`, `time_call` and `watch_call` under C names. A result has the answer in bits 0 to 7, a small number beside
 // it in bits 8 to 15, and one of 16 bits above.
 ghost use mathlib.Core.Path.{_≡_};
-ghost use Rattle.bjargolsk.specs.Calls.{packed, FreshReturns, OccReturns, SbeReturns, SeepromReturns, UndoReturns, RedoReturns, ForgetReturns, TimeReturns};
+ghost use Rattle.bjargolsk.specs.Calls.{packed, FreshReturns, OccReturns, SbeReturns, SeepromReturns, UndoReturns, RedoReturns, ForgetReturns, TimeReturns, WatchReturns};
 use inplace::Told;
 
 fn pack(t: Told) -> u32
@@ -87,4 +87,12 @@ pub extern "C" fn bjargolsk_time(lent: &mut [u8], n: u64) -> u32
     ensures { λ x. ⌜ TimeReturns (now (lent .entry)) n x (now (lent .exit)) ⌝ }
 {
     pack(time_call::time(lent, n))
+}
+
+// A watch-only session opened over this one.
+#[no_mangle]
+pub extern "C" fn bjargolsk_watch(lent: &mut [u8]) -> u32
+    ensures { λ x. ⌜ WatchReturns (now (lent .entry)) x (now (lent .exit)) ⌝ }
+{
+    pack(watch_call::watch(lent))
 }

@@ -14,7 +14,7 @@ use Rattle.text.specs.declared.Number.the-variants.{Missing, TooGreat, Is}
 use Rattle.text.specs.Text.{ascii, inWord, leading, pastBlanks, sameText, HexRun, hexRun}
 use Rattle.text.specs.Numbers.{numberAt}
 use Rattle.orders.specs.declared.Call.{Call}
-use Rattle.orders.specs.declared.Call.the-variants.{Occ, Sbe, Send, Load, Undo, Redo, Forget, Time, Fresh}
+use Rattle.orders.specs.declared.Call.the-variants.{Occ, Sbe, Send, Load, Undo, Redo, Forget, Time, Watch, Fresh}
 use Rattle.orders.specs.declared.View.the-variants.{Image, Why, Show, Journal, Help}
 use Rattle.orders.specs.declared.Buffer.the-variants.{Whole, Bytes}
 use Rattle.orders.specs.declared.Wrong.{Wrong}
@@ -50,10 +50,11 @@ wordOf w =
     (cond (sameText w (ascii "redo")) (Make Redo)
     (cond (sameText w (ascii "forget")) (Make (Forget 0))
     (cond (sameText w (ascii "time")) (Make (Time 0))
+    (cond (sameText w (ascii "watch")) (Make Watch)
     (cond (sameText w (ascii "fresh")) (Make Fresh)
     (cond (sameText w (ascii "buffer")) (Lend Whole)
     (cond (sameText w (ascii "seeprom")) Seeprom
-    (viewOf w)))))))))))
+    (viewOf w))))))))))))
 
 -- ---- what follows a word
 
@@ -151,6 +152,7 @@ callOf Undo line from d = ordered (aloneOf (Make Undo) line from) d
 callOf Redo line from d = ordered (aloneOf (Make Redo) line from) d
 callOf (Forget n) line from d = ordered (forgetOf line from) d
 callOf (Time n) line from d = ordered (timeOf line from) d
+callOf Watch line from d = ordered (aloneOf (Make Watch) line from) d
 callOf Fresh line from d = ordered (aloneOf (Make Fresh) line from) d
 
 -- ---- lines

@@ -33,6 +33,7 @@ pub enum Call {
     Redo,
     Forget(u32),
     Time(u64),
+    Watch,
     Fresh,
 }
 
@@ -154,6 +155,9 @@ fn word_of(word: &[u8]) -> Word
     }
     if text::same(word, b"time") {
         return Word::Make(Call::Time(0));
+    }
+    if text::same(word, b"watch") {
+        return Word::Make(Call::Watch);
     }
     if text::same(word, b"fresh") {
         return Word::Make(Call::Fresh);
@@ -351,6 +355,7 @@ fn read_call(call: Call, line: &[u8], from: usize, sent: &mut [u8]) -> Order
         Call::Redo => alone(Word::Make(Call::Redo), line, from),
         Call::Forget(_) => read_forget(line, from),
         Call::Time(_) => read_time(line, from),
+        Call::Watch => alone(Word::Make(Call::Watch), line, from),
         Call::Fresh => alone(Word::Make(Call::Fresh), line, from),
     }
 }

@@ -180,12 +180,17 @@ journalText j used =
 unfoldable pub timerText : Timer → List (List ℕ)
 timerText t = cond (eqb (t .running) 0) (ascii "timer off\n" ∷ []) (namedText (ascii "timer on") (t .left))
 
-unfoldable pub sessionText : Record → Worked → ℕ → List ℕ → ℕ → List ℕ → ℕ → Timer → List (List ℕ)
-sessionText r w next j used redo ahead timer =
+-- "0 `full`, 1 `watch-only`, else `unknown`"
+unfoldable pub profileWord : ℕ → List ℕ
+profileWord n = cond (eqb n 0) (ascii "profile full\n") (cond (eqb n 1) (ascii "profile watch-only\n") (ascii "profile unknown\n"))
+
+unfoldable pub sessionText : Record → Worked → ℕ → List ℕ → ℕ → List ℕ → ℕ → Timer → ℕ → List (List ℕ)
+sessionText r w next j used redo ahead timer profile =
     settingsText r w
     ++ (restText r
     ++ (redoText redo ahead
     ++ (timerText timer
-    ++ (namedText (ascii "next id") next
+    ++ (profileWord profile
+    ∷ (namedText (ascii "next id") next
     ++ (journalText j used
-    ++ (ascii ".\n" ∷ []))))))
+    ++ (ascii ".\n" ∷ [])))))))

@@ -12,7 +12,7 @@ allWords =
     ascii "active-ready" ∷ ascii "thresholds" ∷ ascii "throttles" ∷ ascii "logs" ∷ ascii "cores out" ∷ ascii "deadman off" ∷
     ascii "deadman on" ∷ ascii "area ffdc " ∷ ascii "area pass " ∷ ascii "redo" ∷ ascii "redo damaged at" ∷ ascii "redo too long\n" ∷
     ascii "journal" ∷ ascii "damaged at" ∷ ascii "too long\n" ∷ ascii "room" ∷ ascii "user cap" ∷ ascii "next id" ∷ ascii ".\n" ∷
-    ascii "timer off\n" ∷ ascii "timer on" ∷ []
+    ascii "timer off\n" ∷ ascii "timer on" ∷ ascii "profile full\n" ∷ ascii "profile watch-only\n" ∷ ascii "profile unknown\n" ∷ []
 
 unfoldable pub wordNumber : ℕ → List ℕ
 wordNumber n = getD allWords n []

@@ -7,7 +7,7 @@ ghost use lib.Dec.{eqb};
 ghost use Rattle.io.specs.Counts.{Counts};
 ghost use Rattle.text.specs.Text.{sheet, putOn, putAll, fromFront};
 ghost use Rattle.show.specs.Words.{wordNumber};
-ghost use Rattle.show.specs.Show.{numberText, numbersText, namedText, markText, yesText, stateWord, stateText, roleWord, roleText, capsText, wantedText, workedText, settingsText, thresholdsText, pairText, pairsText, throttlesText, logText, placesText, logsText, coresText, maskText, deadmanText, areaText, areasText, restText, readingText, storeText, redoText, journalText, timerText, sessionText};
+ghost use Rattle.show.specs.Show.{numberText, numbersText, namedText, markText, yesText, stateWord, stateText, roleWord, roleText, capsText, wantedText, workedText, settingsText, thresholdsText, pairText, pairsText, throttlesText, logText, placesText, logsText, coresText, maskText, deadmanText, areaText, areasText, restText, readingText, storeText, redoText, journalText, timerText, profileWord, sessionText};
 use entries::Reading;
 use record::Area;
 use record::Areas;
@@ -106,6 +106,12 @@ const TIMER_OFF: usize = 41;
 
 const TIMER_ON: usize = 42;
 
+const FULL: usize = 43;
+
+const WATCH_ONLY: usize = 44;
+
+const UNKNOWN_PROFILE: usize = 45;
+
 fn put_word(out: &mut [u8], at: usize, n: usize) -> usize
     ensures { λ r. ⌜ Counts r (now (out .exit)) ⌝ }
     ensures { λ r. ⌜ sheet (now (out .exit)) r ≡ putOn (sheet (now (out .entry)) at) (wordNumber n) ⌝ }
@@ -114,7 +120,8 @@ fn put_word(out: &mut [u8], at: usize, n: usize) -> usize
         b" |\n| not received\n| received\n| no\n| yes\n| standby\n| observation\n| active\n| unknown\n| slave| master| unknown| none|:|.|\
           state|role|caps|wanted format |limit|observation-ready|active-ready|thresholds|throttles|logs|\
           cores out|deadman off|deadman on|area ffdc |area pass |redo|redo damaged at|redo too long\n|journal|\
-          damaged at|too long\n|room|user cap|next id|.\n|timer off\n|timer on|",
+          damaged at|too long\n|room|user cap|next id|.\n|timer off\n|timer on|\
+          profile full\n|profile watch-only\n|profile unknown\n|",
         n,
     );
     text::put(out, at, word)
@@ -474,6 +481,22 @@ fn put_timer(out: &mut [u8], at: usize, timer: Timer) -> usize
     put_named(out, at, TIMER_ON, timer.left)
 }
 
+fn profile_word(profile: u8) -> usize
+    ensures { λ r. ⌜ wordNumber r ≡ profileWord profile ⌝ }
+{
+    match profile {
+        0 => FULL,
+        1 => WATCH_ONLY,
+        _ => UNKNOWN_PROFILE,
+    }
+}
+
+fn put_profile(out: &mut [u8], at: usize, profile: u8) -> usize
+    ensures { λ r. ⌜ sheet (now (out .exit)) r ≡ putOn (sheet (now (out .entry)) at) (profileWord profile) ⌝ }
+{
+    put_word(out, at, profile_word(profile))
+}
+
 fn put_settings(out: &mut [u8], at: usize, held: Record, worked: Worked) -> usize
     ensures { λ r. ⌜ sheet (now (out .exit)) r ≡ putAll (sheet (now (out .entry)) at) (settingsText held worked) ⌝ }
 {
@@ -514,15 +537,17 @@ pub fn put_session(
     redo: &[u8],
     ahead: usize,
     timer: Timer,
+    profile: u8,
 ) -> usize
     ensures { λ r. ⌜ Counts r (now (out .exit)) ⌝ }
-    ensures { λ r. ⌜ sheet (now (out .exit)) r ≡ fromFront (now (out .entry)) (sessionText held worked next (now (j .entry)) used (now (redo .entry)) ahead timer) ⌝ }
+    ensures { λ r. ⌜ sheet (now (out .exit)) r ≡ fromFront (now (out .entry)) (sessionText held worked next (now (j .entry)) used (now (redo .entry)) ahead timer profile) ⌝ }
 {
     let settings = put_settings(out, 0, held, worked);
     let rest = put_rest(out, settings, held);
     let stored = put_redo(out, rest, redo, ahead);
     let clock = put_timer(out, stored, timer);
-    let id = put_named(out, clock, NEXT_ID, next as u64);
+    let open = put_profile(out, clock, profile);
+    let id = put_named(out, open, NEXT_ID, next as u64);
     let end = put_journal(out, id, j, used);
     put_word(out, end, END)
 }

@@ -107,6 +107,7 @@ fn carry_out(
         Call::Redo => undo_call::redo(lent),
         Call::Forget(n) => forget_call::forget(lent, n),
         Call::Time(n) => time_call::time(lent, n),
+        Call::Watch => watch_call::watch(lent),
         Call::Fresh => fresh(lent),
     }
 }
@@ -134,6 +135,7 @@ fn form_of(call: Call) -> Form {
         Call::Redo => Form::Kind,
         Call::Forget(_) => Form::Answer,
         Call::Time(_) => Form::Bell,
+        Call::Watch => Form::Answer,
         Call::Fresh => Form::Ok,
     }
 }
@@ -274,6 +276,7 @@ fn put_show(lent: &[u8], out: &mut [u8]) -> usize
         &lent[layout::REDO..layout::REDO_END],
         h.ahead as usize,
         timer,
+        h.profile,
     )
 }
 

@@ -1,5 +1,5 @@
 //! A master OCC brought up and capped; changes taken back, one step too far, and one put in again; a cap that is too high; the oldest changes forgotten; the
-//! SBE's timer; a part of its SEEPROM read.
+//! SBE's timer; a part of its SEEPROM read; a session that can only be watched.
 
 #[path = "../../../include/bjargolsk.rs"]
 mod ffi;
@@ -136,6 +136,11 @@ impl Bench {
             unsafe { ffi::bjargolsk_forget(self.session.as_mut_ptr(), self.session.len(), n) };
         println!("forget: answer {}", result & 0xFF);
     }
+
+    fn watch(&mut self) {
+        let result = unsafe { ffi::bjargolsk_watch(self.session.as_mut_ptr(), self.session.len()) };
+        println!("watch: answer {}", result & 0xFF);
+    }
 }
 
 /// A request of these bytes and zeros.
@@ -200,4 +205,14 @@ fn main() {
     bench.time(600);
     // 8 bytes from offset 8 on.
     bench.seeprom(&read, &image);
+    // A reset leaves log 1. For a training room the session is made watch-only: status 0x16 to the state, 05/20 to the deadman; the log may be cleared, and that
+    // taken back. No change from before can be.
+    bench.occ("reset", HTMGT, 0x25, &[0, 1]);
+    bench.watch();
+    bench.occ("state", HTMGT, 0x20, &[0, 3, 0]);
+    bench.sbe("deadman", &deadman);
+    bench.occ("clear", HTMGT, 0x12, &[1]);
+    bench.undo();
+    bench.undo();
+    bench.occ("poll", BMC, 0x00, &[0x10]);
 }

@@ -93,7 +93,31 @@ const OTHER_DAMAGES: &[Damage] = &[
     |r, s| s.timer = Timer { running: r.pick(&[2, 128]), left: 0 },
     |r, s| s.timer = Timer { running: 0, left: r.pick(&[1, 1 << 32, u64::MAX]) },
     |_, s| s.timer = Timer { running: 0, left: 1 << 63 },
+    |r, s| s.profile = r.pick(&[3, 128, 255]),
+    |_, s| s.profile = 2,
+    |r, s| another_kind_watched(r, s, Holding::Before),
+    |r, s| another_kind_watched(r, s, Holding::Before),
+    |r, s| another_kind_watched(r, s, Holding::After),
+    |r, s| another_kind_watched(r, s, Holding::After),
 ];
+
+/// A watch-only session with an entry of another kind than a clear's in one store, in front or behind.
+fn another_kind_watched(random: &mut Random, session: &mut Session, holding: Holding) {
+    *session = scene::watched(random);
+    (session.journal, session.redo) = (Store::empty(), Store::empty());
+    let store = match holding {
+        Holding::Before => &mut session.journal,
+        Holding::After => &mut session.redo,
+    };
+    let kind = random.between(2, 12) as u8;
+    let other = scene::change(random, kind, holding);
+    let clears = random.below(4);
+    let before = random.below(clears + 1);
+    for place in 0..=clears {
+        let clear = scene::change(random, 0x01, holding);
+        store.push(if place == before { &other } else { &clear });
+    }
+}
 
 /// Each breaks one rule of the marks.
 const MARK_DAMAGES: &[Damage] = &[
@@ -544,11 +568,11 @@ pub fn hard_redo(random: &mut Random, session: &mut Session, number: usize) {
 }
 
 /// Where a changed byte tells most: head, received marks, logs, areas, worked-out values, ids, the stores' edges, the
-/// journal's marks, the timer.
+/// journal's marks, the timer, the profile.
 fn telling_place(random: &mut Random, image: &[u8]) -> usize {
     let used = usize::from(u16::from_be_bytes([image[237], image[238]])).min(STORE_LENGTH);
     let redo = usize::from(u16::from_be_bytes([image[2287], image[2288]])).min(STORE_LENGTH);
-    match random.below(18) {
+    match random.below(19) {
         0 | 1 => random.below(10),
         2 => 170 + random.below(15),
         3 | 4 => 185 + random.below(8),
@@ -564,6 +588,7 @@ fn telling_place(random: &mut Random, image: &[u8]) -> usize {
         14 => 4337 + random.below(2 * MARKS),
         15 => 4337 + random.below(6),
         16 => 4401 + random.below(9),
+        17 => 4410,
         _ => random.below(IMAGE_LENGTH),
     }
 }
@@ -594,6 +619,7 @@ pub fn random_bytes(random: &mut Random) -> Vec<u8> {
         (2289, 2048),
         (4337, 64),
         (4401, 9),
+        (4410, 1),
     ];
     let (start, length) = random.pick(&parts);
     let bytes = random.bytes(length);

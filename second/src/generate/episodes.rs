@@ -43,6 +43,8 @@ impl<B: Bench> Generator<B> {
         self.every_redo();
         self.every_mark();
         self.every_forget();
+        self.every_shut();
+        (0..if self.small { 2 } else { 8 }).for_each(|_| self.watching());
         self.every_chiplet();
         self.every_seeprom();
         for _ in 0..if self.small { 2 } else { 6 } {
@@ -203,6 +205,77 @@ impl<B: Bench> Generator<B> {
         self.look();
     }
 
+    /// A watch-only session, opened over another or loaded: what is open, what is shut, and clears back and forth.
+    fn watching(&mut self) {
+        match self.random.below(4) {
+            0 => {
+                let session = scene::watched(&mut self.random);
+                self.load_session(&session);
+            }
+            1 => {
+                self.give(Order::Fresh);
+                if !self.random.one_in(4) {
+                    self.framed(0x10, 0x21, &[FORMAT_ROLE, 1]);
+                    (0..self.random.between(0, 4)).for_each(|_| self.framed(0x10, 0x25, &[0, 1]));
+                }
+                self.watch();
+            }
+            _ => {
+                let session = scene::session(&mut self.random);
+                self.load_session(&session);
+                self.watch();
+            }
+        }
+        self.give(Order::Image);
+        for _ in 0..self.random.between(2, 12) {
+            match self.random.below(8) {
+                0 => self.right(About::Clear),
+                1 => {
+                    let sender = self.random.pick(&[0x10, 0x20]);
+                    self.right_from(sender, About::Clear);
+                }
+                2 => self.undos(2),
+                3 => self.redos(2),
+                4 => self.back_and_forth(1),
+                5 => self.timer(),
+                _ => self.step(),
+            }
+        }
+        self.every_change();
+        if self.random.one_in(4) {
+            self.watch();
+        }
+        self.undo_to_the_start();
+        self.redo_to_the_end();
+        self.look();
+    }
+
+    /// Each sort of command and request, with everything wrong that it can have, in a watch-only session.
+    fn every_shut(&mut self) {
+        self.give(Order::Fresh);
+        self.framed(0x10, 0x21, &[FORMAT_ROLE, 1]);
+        (0..4).for_each(|_| self.framed(0x10, 0x25, &[0, 1]));
+        self.watch();
+        // While every log pends: what is open to HTMGT alone is so in this profile too.
+        for about in commands::ALL {
+            self.right_from(0x20, about);
+        }
+        for about in commands::ALL {
+            for _ in 0..if self.small { 1 } else { 6 } {
+                self.right(about);
+                let (kind, data) = commands::off(&mut self.random, self.bench.session(), about);
+                self.framed(0x10, kind, &data);
+                let sender = commands::sender(&mut self.random, kind);
+                self.framed(sender, kind, &data);
+            }
+        }
+        (0..if self.small { 12 } else { 60 }).for_each(|_| self.sbe());
+        self.every_change();
+        self.undos(3);
+        self.redos(3);
+        self.give(Order::Show);
+    }
+
     /// Each sort of command with each sort of fault that any command can have.
     fn every_fault(&mut self) {
         self.give(Order::Fresh);
@@ -296,7 +369,7 @@ impl<B: Bench> Generator<B> {
     }
 
     pub fn episode(&mut self) {
-        let loads = if self.small { 34 } else { 162 };
+        let loads = if self.small { 35 } else { 172 };
         match self.random.below(loads) {
             0..=9 => self.bring_up(),
             10..=13 => self.walk_from_fresh(),
@@ -311,6 +384,7 @@ impl<B: Bench> Generator<B> {
             31 if self.small => self.timers(),
             32 if self.small => self.wrong_packets(),
             33 if self.small => self.timers(),
+            34 if self.small => self.watching(),
             28..=37 => self.ids_near_their_end(),
             38..=53 => self.scene(),
             54..=59 => {
@@ -341,6 +415,7 @@ impl<B: Bench> Generator<B> {
             135..=144 => self.room_made(),
             145..=156 => self.timers(),
             157..=160 => self.lend(),
+            161..=170 => self.watching(),
             _ => self.bounds(),
         }
         if !self.small || self.random.one_in(4) {
@@ -723,6 +798,9 @@ impl<B: Bench> Generator<B> {
         self.sbe();
         self.forget_some();
         self.pass_time();
+        if !self.session().well_formed() || self.random.one_in(8) {
+            self.watch();
+        }
         if self.random.one_in(12) {
             self.other_buffers();
         }

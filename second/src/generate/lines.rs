@@ -65,6 +65,7 @@ impl Bench for Lines {
             Order::Sbe(request) => self.line(random, "sbe", &[request]),
             Order::Load(image) => self.line(random, "load", &[image]),
             Order::Buffer(Some(length)) => self.number(random, "buffer", *length as u64),
+            Order::Watch => self.line(random, "watch", &[]),
             Order::Time(microseconds) => self.number(random, "time", *microseconds),
             Order::Seeprom(image) => self.line(random, "seeprom", &[image]),
             Order::Buffer(None) => self.line(random, "buffer", &[]),

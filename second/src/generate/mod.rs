@@ -77,9 +77,14 @@ impl<B: Bench> Generator<B> {
 
     /// A command that is right as far as the session allows.
     fn right(&mut self, about: About) {
-        let (kind, data) = commands::right(&mut self.random, self.bench.session(), about);
         let for_bmc = matches!(about, About::Poll | About::UserCap);
         let sender = if for_bmc && self.random.one_in(3) { occ::BMC } else { occ::HTMGT };
+        self.right_from(sender, about);
+    }
+
+    /// Right but, it may be, for its sender.
+    fn right_from(&mut self, sender: u8, about: About) {
+        let (kind, data) = commands::right(&mut self.random, self.bench.session(), about);
         self.framed(sender, kind, &data);
     }
 
@@ -154,6 +159,10 @@ impl<B: Bench> Generator<B> {
             _ => any % 300,
         };
         self.give(Order::Time(microseconds));
+    }
+
+    fn watch(&mut self) {
+        self.give(Order::Watch);
     }
 
     fn timer(&mut self) {

@@ -3,7 +3,7 @@
 use super::random::Random;
 use crate::journal::{Change, Holding, Store, STORE_LENGTH};
 use crate::record::*;
-use crate::session::Session;
+use crate::session::{Session, WATCH_ONLY};
 
 pub fn caps(random: &mut Random) -> Caps {
     let (one, two) = (random.edge_u16(), random.edge_u16());
@@ -214,6 +214,38 @@ pub fn session_with_room(random: &mut Random, room: usize) -> Session {
     if random.one_in(2) {
         fill_redo(random, &mut session);
     }
+    session
+}
+
+/// A watch-only session: some clears in each store, the newest one that fits the logs now and then.
+pub fn watched(random: &mut Random) -> Session {
+    let mut session = session_with_room(random, STORE_LENGTH);
+    session.profile = WATCH_ONLY;
+    session.redo = Store::empty();
+    let (before, after) = match random.below(6) {
+        0 => (512, 0),
+        1 => (random.between(30, 70), random.between(0, 440)),
+        2 => (0, 0),
+        _ => (random.between(0, 5), random.between(0, 5)),
+    };
+    for (store, count, holding) in
+        [(&mut session.journal, before, Holding::Before), (&mut session.redo, after, Holding::After)]
+    {
+        for _ in 0..count {
+            let clear = change(random, 0x01, holding);
+            store.push(&clear);
+        }
+    }
+    let pending = session.record.pending();
+    if pending > 0 && random.one_in(2) {
+        let place = random.below(pending);
+        let again = Change::ClearAgain { place: place as u8, log: session.record.logs[place] };
+        session.redo.push(&again);
+    }
+    if session.journal.used + session.redo.used > STORE_LENGTH as u16 {
+        session.redo = Store::empty();
+    }
+    session.mark_all();
     session
 }
 

@@ -278,6 +278,7 @@ impl Bench for Soak {
                 self.call(random, call);
             }
             Order::Time(microseconds) => self.call(random, Call::Time(microseconds)),
+            Order::Watch => self.call(random, Call::Watch),
             Order::Seeprom(image) => self.seeprom = Rc::new(image),
             Order::Undo => self.call(random, Call::Undo),
             Order::Redo => self.call(random, Call::Redo),

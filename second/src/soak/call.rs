@@ -19,6 +19,7 @@ pub struct Library {
     forget: fn(&mut [u8], u32) -> u32,
     sbe_seeprom: SbeSeeprom,
     time: fn(&mut [u8], u64) -> u32,
+    watch: fn(&mut [u8]) -> u32,
 }
 
 pub const PROVED: Library = Library {
@@ -30,6 +31,7 @@ pub const PROVED: Library = Library {
     forget: proved::forget,
     sbe_seeprom: proved::sbe_seeprom,
     time: proved::time,
+    watch: proved::watch,
 };
 pub const SECOND: Library = Library {
     fresh: c::fresh,
@@ -40,6 +42,7 @@ pub const SECOND: Library = Library {
     forget: c::forget,
     sbe_seeprom: c::sbe_seeprom,
     time: c::time,
+    watch: c::watch,
 };
 
 /// All that a call's outcome hangs on beside the session; `room` is the length of the reply buffer.
@@ -66,9 +69,11 @@ pub enum Call {
         data_room: usize,
     },
     Time(u64),
+    Watch,
 }
 
-pub const NAMES: [&str; 8] = ["fresh", "occ", "sbe", "undo", "redo", "forget", "sbe_seeprom", "time"];
+pub const NAMES: [&str; 9] =
+    ["fresh", "occ", "sbe", "undo", "redo", "forget", "sbe_seeprom", "time", "watch"];
 
 pub const SBE_SEEPROM: usize = 6;
 
@@ -93,6 +98,7 @@ impl Call {
             Call::Forget(_) => 5,
             Call::SbeSeeprom { .. } => SBE_SEEPROM,
             Call::Time(_) => 7,
+            Call::Watch => 8,
         }
     }
 
@@ -157,6 +163,7 @@ impl Call {
             Call::Forget(count) => (library.forget)(image, *count),
             Call::SbeSeeprom { .. } => (library.sbe_seeprom)(image, input, reply, seeprom, data),
             Call::Time(microseconds) => (library.time)(image, *microseconds),
+            Call::Watch => (library.watch)(image),
         }
     }
 
@@ -167,7 +174,7 @@ impl Call {
             Call::Sbe { request, .. } | Call::SbeSeeprom { request, .. } => format!("sbe {}", hex(request)),
             Call::Time(microseconds) => format!("time {microseconds}"),
             Call::Forget(count) => format!("forget {count}"),
-            Call::Fresh | Call::Undo | Call::Redo => NAMES[self.number()].to_string(),
+            Call::Fresh | Call::Undo | Call::Redo | Call::Watch => NAMES[self.number()].to_string(),
         }
     }
 }

@@ -26,6 +26,7 @@ enum Call {
     Redo,
     Forget(u32),
     Time(u64),
+    Watch,
     /// With all of `SEEPROM` lent.
     Seeprom(Vec<u8>),
     /// Back to where the calls started: made along, but not counted.
@@ -53,6 +54,7 @@ fn proved(image: &mut [u8], call: &Call, reply: &mut [u8]) -> u32 {
         Call::Redo => proved::redo(image),
         Call::Forget(count) => proved::forget(image, *count),
         Call::Time(microseconds) => proved::time(image, *microseconds),
+        Call::Watch => proved::watch(image),
         Call::Seeprom(request) => {
             let (reply, data) = reply.split_at_mut(32);
             proved::sbe_seeprom(image, request, reply, &SEEPROM, data)
@@ -72,6 +74,7 @@ fn on_value(session: &mut Session, call: &Call, reply: &mut [u8]) -> u32 {
         Call::Redo => c::with_kind(session.redo()),
         Call::Forget(count) => session.forget(*count).into(),
         Call::Time(microseconds) => c::with_bell(session.time(*microseconds)),
+        Call::Watch => session.watch().into(),
         Call::Seeprom(request) => {
             let (reply, data) = reply.split_at_mut(32);
             let told = session.sbe_seeprom(request, reply, &SEEPROM, data);
@@ -92,6 +95,7 @@ fn on_image(image: &mut [u8], call: &Call, reply: &mut [u8]) -> u32 {
         Call::Redo => c::redo(image),
         Call::Forget(count) => c::forget(image, *count),
         Call::Time(microseconds) => c::time(image, *microseconds),
+        Call::Watch => c::watch(image),
         Call::Seeprom(request) => {
             let (reply, data) = reply.split_at_mut(32);
             c::sbe_seeprom(image, request, reply, &SEEPROM, data)
@@ -149,6 +153,13 @@ fn with_entries(count: usize) -> Session {
     session
 }
 
+/// Watch-only, with a log pending.
+fn watched() -> Session {
+    let mut session = after(&brought_up(), 0x25, &[0, 1]);
+    assert_eq!(session.watch(), 0, "opening was refused");
+    session
+}
+
 fn after(before: &Session, kind: u8, data: &[u8]) -> Session {
     let mut session = before.clone();
     session.occ(HTMGT, &command_packet(1, kind, data), &mut [0; 4096]);
@@ -196,6 +207,8 @@ fn works() -> Vec<Work> {
         work("SBE timer stop and undo", &up, vec![timer_stop(), Call::Undo]),
         work("SBE read of 2,048 bytes of the SEEPROM", &up, vec![seeprom_read()]),
         work("time report", &up, vec![Call::Time(1)]),
+        work("clear log and undo, watch-only", &watched(), vec![occ(0x12, &[1]), Call::Undo]),
+        work("user cap, watch-only (0x16)", &watched(), vec![occ(0x22, &[0x03, 0xE8])]),
         work("poll, 500 entries", &half, poll()),
         work("set state and undo, 500 entries", &half, state()),
         work("poll, 1,000 entries", &full, poll()),
@@ -212,12 +225,14 @@ fn works() -> Vec<Work> {
         works.push(work(polled, &start, poll()));
         works.push(work(taken_back, &start, back()));
     }
-    // Forgetting doesn't lead back, so the session is copied back each time; the time has that copy in it.
-    for (name, count) in
-        [("forget 1 of 1,000 entries, copied back", 1), ("forget 500 of 1,000 entries, copied back", 500)]
-    {
+    // Forgetting and opening don't lead back, so the session is copied back each time; the time has that copy in it.
+    for (name, call) in [
+        ("forget 1 of 1,000 entries, copied back", Call::Forget(1)),
+        ("forget 500 of 1,000 entries, copied back", Call::Forget(500)),
+        ("watch over 1,000 entries, copied back", Call::Watch),
+    ] {
         let back = Start { image: image::write(&full), session: full.clone() };
-        works.push(work(name, &full, vec![Call::Forget(count), Call::Again(Box::new(back))]));
+        works.push(work(name, &full, vec![call, Call::Again(Box::new(back))]));
     }
     works
 }
@@ -330,7 +345,8 @@ fn stacks() {
         ("time", brought_up(), Call::Time(1)),
         ("undo", capped, Call::Undo),
         ("redo", undone, Call::Redo),
-        ("forget: 500 of 1,000 entries", full, Call::Forget(500)),
+        ("forget: 500 of 1,000 entries", full.clone(), Call::Forget(500)),
+        ("watch: over 1,000 entries", full, Call::Watch),
     ] {
         let used = |make: fn(&mut [u8], &Call, &mut [u8]) -> u32| {
             let (mut image, mut reply) = (image::write(&start), [0; 4096]);

@@ -24,6 +24,7 @@ use Rattle.occ_call.specs.laws.Why.{answer-beside}
 use Rattle.sbe_call.specs.Sbe.{sbeAsks, sbeCall, sbeOn}
 use Rattle.forget_call.specs.Forget.{forgetAsks, forgetCall, forgetLeft, forgetOn}
 use Rattle.time_call.specs.Time.{timeAsks, timeCall, timeOn}
+use Rattle.watch_call.specs.Watch.{watchAsks, watchCall, watchOn}
 use Rattle.undo_call.specs.Undo.{moveAsks, moveCall, passedBy, movedLeft, moveOn, undoOn, redoOn}
 use Rattle.bjargolsk.specs.Calls.{packed, answerIn}
 
@@ -73,6 +74,11 @@ module _ (b : List ℕ) (bytes : Bytes b) where
   unfolding timeOn rungLeft timeCall
   time-refused n =
       refused (λ (s : Session). rungLeft (timeCall n s)) [] (λ h. let k = refusal-keeps (sessionOf b) [] (timeAsks n (sessionOf b)) h in (_, (k .0, refl, k .1)))
+
+  pub watch-refused : Kept (watchOn b) []
+  unfolding watchOn rungLeft watchCall
+  watch-refused =
+      refused (λ (s : Session). rungLeft (watchCall s)) [] (λ h. let k = refusal-keeps (sessionOf b) [] (watchAsks (sessionOf b)) h in (_, (k .0, refl, k .1)))
 
   pub undo-refused : Kept (undoOn b) []
   undo-refused = move-refused Before

@@ -1,4 +1,3 @@
--- `orders::read_call` meets its contract: each call is a case of the definition. Assumes nothing.
 use Rattle.orders.proofs.Reading.{call-as, kept}
 use Rattle.orders.specs.Orders.{callOf}
 use borrow.Author.Needs.{needs}
@@ -59,6 +58,12 @@ enum-told-9 c = search needs
 alone-requires-3 : tie.Need-alone-requires-3
 alone-requires-3 c κs = search needs
 
+enum-told-10 : tie.Need-enum-told-10
+enum-told-10 c = search needs
+
+alone-requires-4 : tie.Need-alone-requires-4
+alone-requires-4 c κs = search needs
+
 same-length : tie.Need-same-length
 same-length c = search needs
 
@@ -107,6 +112,10 @@ returns-9 : tie.Need-returns-9
 unfolding callOf
 returns-9 c = (call-as _ _ _ (c .before .enum-told9 .given .1) (kept _ (c .alone3 .ensures .0)), search needs)
 
+returns-10 : tie.Need-returns-10
+unfolding callOf
+returns-10 c = (call-as _ _ _ (c .before .enum-told10 .given .1) (kept _ (c .alone4 .ensures .0)), search needs)
+
 pub read-call-spec : {M : Type 1} → statement M
 read-call-spec =
     tie.close
@@ -129,6 +138,8 @@ read-call-spec =
     read-time-requires
     enum-told-9
     alone-requires-3
+    enum-told-10
+    alone-requires-4
     same-length
     returns
     same-length-2
@@ -141,4 +152,5 @@ read-call-spec =
     returns-6
     returns-7
     returns-8
-    returns-9)
+    returns-9
+    returns-10)

@@ -81,6 +81,12 @@ time-requires c κs = search needs
 enum-told-7 : tie.Need-enum-told-7
 enum-told-7 c = search needs
 
+watch-requires : tie.Need-watch-requires
+watch-requires c κs = search needs
+
+enum-told-8 : tie.Need-enum-told-8
+enum-told-8 c = search needs
+
 fresh-requires : tie.Need-fresh-requires
 fresh-requires c κs = search needs
 
@@ -162,6 +168,12 @@ same-length-17 c = search needs
 returns-9 : tie.Need-returns-9
 returns-9 c = search needs
 
+same-length-18 : tie.Need-same-length-18
+same-length-18 c = search needs
+
+returns-10 : tie.Need-returns-10
+returns-10 c = search needs
+
 pub carry-out-spec : {M : Type 1} → statement M
 carry-out-spec =
     tie.close
@@ -191,6 +203,8 @@ carry-out-spec =
     enum-known-call-2
     time-requires
     enum-told-7
+    watch-requires
+    enum-told-8
     fresh-requires
     same-length
     same-length-2
@@ -217,4 +231,6 @@ carry-out-spec =
     same-length-16
     returns-8
     same-length-17
-    returns-9)
+    returns-9
+    same-length-18
+    returns-10)

@@ -336,39 +336,27 @@ fn configure(state: u8, role: u8, d: &[u8]) -> Judged
 
 // ---- every command
 
-// The table of what is open: HTMGT may send every type, and every type is open in a full session.
+fn opens(bmc: bool, watch: bool) -> Row
+    ensures { λ x. ⌜ x ≡ record { bmc = bmc; watch = watch } ⌝ }
+{
+    Row {
+        bmc: bmc,
+        watch: watch,
+    }
+}
+
+// The table of what is open, to the BMC and in a watch-only session: HTMGT may send every type, and every type is open in a full session.
 fn row_of(kind: u8) -> Row
     ensures { λ x. ⌜ x ≡ rowOf kind ⌝ }
 {
     match kind {
-        0x00 => Row {
-            bmc: true,
-            watch: true,
-        },
-        0x12 => Row {
-            bmc: false,
-            watch: true,
-        },
-        0x20 => Row {
-            bmc: false,
-            watch: false,
-        },
-        0x21 => Row {
-            bmc: false,
-            watch: false,
-        },
-        0x22 => Row {
-            bmc: true,
-            watch: false,
-        },
-        0x25 => Row {
-            bmc: false,
-            watch: false,
-        },
-        0x01..=0x11 | 0x13..=0x1F | 0x23..=0x24 | 0x26..=0xFF => Row {
-            bmc: false,
-            watch: false,
-        },
+        0x00 => opens(true, true),
+        0x12 => opens(false, true),
+        0x20 => opens(false, false),
+        0x21 => opens(false, false),
+        0x22 => opens(true, false),
+        0x25 => opens(false, false),
+        0x01..=0x11 | 0x13..=0x1F | 0x23..=0x24 | 0x26..=0xFF => opens(false, false),
     }
 }
 

@@ -87,7 +87,8 @@ pub record SbeDue (s : Session) (r d : List ℕ) : Type 0 where
   pub reply : 32 ≤ length d
   pub request : 32 ≤ length r
 
--- document 02, k: "0x16 after the data checks": where the profile shuts a type, its command gets its own statuses but 0x15, before which 0x16 stands
+-- document 02, k: "0x16 after the data checks": where the profile shuts a type, its command gets its own statuses but 0x15, and 0x16
+-- for what would be 0x15 or accepted
 abbrev pub ShutStatus : (ℕ → Type 0) → Type 0 → ℕ → Type 0
 ShutStatus Own Ok n = (Own n and (n ≡ 0x15 → ⊥)) ⊎ ((n ≡ 0x16) and (Own 0x15 ⊎ Ok))
 

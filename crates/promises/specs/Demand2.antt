@@ -47,7 +47,7 @@ HasRoom s kind = s .used + entryLength kind ≤ 2048
 abbrev pub KnownSender : ℕ → Type 0
 KnownSender sender = (sender ≡ 0x10) ⊎ (sender ≡ 0x20)
 
--- document 02, k: every type is open in a full session; in a watch-only one poll and clear log are
+-- document 02, k: every type is open in a full session; in a watch-only one poll and clear log are (the column of profiles in occ/specs/Open.antt, as a condition)
 abbrev pub Open : Session → ℕ → Type 0
 Open s type = (s .profile ≡ 0) ⊎ ((type ≡ 0x00) ⊎ (type ≡ 0x12))
 

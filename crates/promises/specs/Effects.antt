@@ -159,8 +159,8 @@ RedoEffect s q = MoveEffect After s q
 
 -- ---- forget
 
--- n changes forgotten: the oldest entries go, the rest stands at the front of the journal, zeros behind it; record, worked-out values, next id, timer and redo store are as
--- before. The entries stand newest first, as the journal's do elsewhere
+-- n changes forgotten: the oldest entries go, the rest stands at the front of the journal, zeros behind it; record, worked-out values, next id, timer, profile and redo store are
+-- as before. The entries stand newest first, as the journal's do elsewhere
 pub record ForgetEffect (n : ℕ) (s : Session) (q : Said) : Type 0 where
   pub forgotten : List Entry
   pub kept : List Entry

@@ -44,7 +44,7 @@ deedBy s (makes e bell reply) = adding s e
 deedBy s (moves w at e) = byWay w strikes unstrikes
 deedBy s (forgets n) = drops n
 deedBy s (passes n) = ticks n
--- none of these calls opens a session: openings stand in Sittings.antt
+-- none of these calls asks it (`no-opening` in laws/Profiles.antt): openings stand in Sittings.antt
 deedBy s opens = keeps
 
 unfoldable pub deed : Session → Call → Deed

@@ -68,7 +68,7 @@ pub record Twins (k : ℕ) (s t : Session) : Type 0 where
   pub next-is : t .next ≡ suc (s .next)
   pub used-is : t .used ≡ s .used
   pub timer-is : t .timer ≡ s .timer
-  -- k: a session in which a log was made is a full one
+  -- k: a watch-only session makes no log, so both are full
   pub full : s .profile ≡ 0
   pub full′ : t .profile ≡ 0
 

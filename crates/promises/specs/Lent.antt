@@ -12,6 +12,8 @@ use Rattle.sbe_call.specs.Sbe.{sbeOn}
 use Rattle.undo_call.specs.Undo.{passedBy, undoOn, redoOn}
 use Rattle.forget_call.specs.Forget.{forgetOn}
 use Rattle.time_call.specs.Time.{timeOn}
+use Rattle.watch_call.specs.Watch.{watchCall}
+use Rattle.inplace.specs.InPlace.{Left}
 use Rattle.bjargolsk.specs.Calls.{packed}
 use Rattle.promises.specs.Calls.{Call, occ, sbe, undo, redo, forget, time, said}
 
@@ -44,3 +46,8 @@ carriedOver s c = record { result = packed (told s c); image = imageOf (said s c
 unfoldable pub lentRun : List ℕ → List Call → List ℕ
 lentRun b [] = b
 lentRun b (c ∷ cs) = lentRun (lent b c .image) cs
+
+-- ---- an opening (document 02, k): the answer alone, and the session's image
+
+abbrev pub watchedOn : Session → Left
+watchedOn s = record { told = record { answer = watchCall s .answer; small = 0; beside = 0 }; image = imageOf (watchCall s .session); reply = [] }

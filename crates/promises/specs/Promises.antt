@@ -62,11 +62,11 @@ use Rattle.promises.specs.Effects.{OccEffect, SbeEffect, entryBack, Undo
 use Rattle.promises.specs.laws.ForgetDemands.{forget-answers, forget-effect, occ-fits-freed, sbe-fits-freed}
 use Rattle.promises.specs.laws.TimeDemands.{time-answers, time-effect}
 use Rattle.promises.specs.laws.WatchDemands.{watch-answers, watch-effect}
-use Rattle.promises.specs.laws.WatchLent.{watchedOn, watch-lent, watch-no-image, watch-refused, watch-keeps-bytes}
+use Rattle.promises.specs.laws.WatchLent.{watch-lent, watch-no-image, watch-refused, watch-keeps-bytes}
 use Rattle.promises.specs.Sittings.{Act, sat, sittings, ActsOfBytes, handed, Unbroken}
 use Rattle.promises.specs.laws.Sittings.{watch-opens, opening-starts, sitting-demand, sitting-opens}
-use Rattle.promises.specs.laws.Students.{students-unbroken}
-use Rattle.promises.specs.laws.Profiles.{profile-stays}
+use Rattle.promises.specs.laws.Students.{moves-clears, students-unbroken}
+use Rattle.promises.specs.laws.Profiles.{profile-fixed}
 use Rattle.promises.specs.laws.OccDemands.{occ-answers, occ-statuses, occ-reply, occ-accepted}
 use Rattle.promises.specs.laws.Why.{byte-told, byte-least}
 use Rattle.promises.specs.laws.Served.{data-served, data-kept, data-refused, data-on-image, data-no-image}
@@ -95,7 +95,7 @@ use Rattle.image.specs.laws.Typed.{typed-image}
 use Rattle.layout.specs.Layout.{imageLength}
 use Rattle.bjargolsk.specs.Calls.{answerIn, freshOn, FreshReturns, OccReturns, SbeReturns, UndoReturns, RedoReturns, ForgetReturns, SeepromReturns, TimeReturns, WatchReturns}
 use Rattle.promises.specs.laws.Lent.{every-image, every-byte, no-session, fresh-image, lent-run, lent-next}
-use Rattle.promises.specs.Lent.{lent, told as told-beside, carriedOver, lentRun}
+use Rattle.promises.specs.Lent.{lent, told as told-beside, carriedOver, lentRun, watchedOn}
 use Rattle.promises.specs.Passed.{MarksStand, PassedAsHeld}
 use Rattle.promises.specs.laws.Passed.{session-marks, passed-as-held, none-passed, few-passed}
 use Rattle.promises.specs.Replays.{callsIn, wholePart, linesBy, PlaysUpTo}
@@ -202,7 +202,7 @@ pub refusal-of-time-keeps : (n : ℕ) (s : Session) → (timeCall n s .answer �
 unfolding timeCall
 refusal-of-time-keeps n s h = let k = refusal-keeps s [] (timeAsks n s) h in (k .0, k .2)
 
-pub refusal-of-watch-keeps : (s : Session) → (watchCall s .answer ≡ 0 → ⊥) → watchCall s .session ≡ s
+pub refusal-of-watch-keeps : (s : Session) → (watchCall s .answer ≡ 0 → ⊥) → (watchCall s .session ≡ s) × (watchCall s .bell ≡ 0) × (watchCall s .kind ≡ 0)
 refusal-of-watch-keeps = watch-refused
 
 -- a session that isn't the one handed in comes with the reply of success, so every error reply returns it as it was
@@ -471,18 +471,19 @@ pub no-id-twice-from : (s : Session) → TypedSession s → wellFormed s ≡ tru
     → idsMade (run (start s) cs .marks) ≡ countdown (s .next) (logsMade (run (start s) cs .marks))
 no-id-twice-from s typed ok none none-ahead cs b = ids-in-order (s .held) (s .next) cs (start s) b (opened-start s typed ok none none-ahead)
 
--- document 02, k: through any calls and openings of watch-only sessions (Sittings.antt), "demand 3 starts from that record and id", the ones at the last opening; and
--- an opening is always accepted
-pub undo-over-any-calls-and-openings : (xs : List Act) → ActsOfBytes xs
-    → Demand3 (sittings (sat freshSession) xs .base) (sittings (sat freshSession) xs .first) (sittings (sat freshSession) xs .run)
-unfolding sat freshSession
-undo-over-any-calls-and-openings xs b = sitting-demand xs (sat freshSession) b fresh-start
+-- document 02, k: through any calls and openings of watch-only sessions (Sittings.antt), "demand 3 starts from that record and id", the ones at the last opening, of both
+-- profiles; and an opening is always accepted. s is one that starts a history, a fresh one say
+pub undo-over-any-calls-and-openings : (s : Session) → TypedSession s → wellFormed s ≡ true → s .used ≡ 0 → s .ahead ≡ 0 → (xs : List Act) → ActsOfBytes xs
+    → Demand3 (sittings (sat s) xs .base) (sittings (sat s) xs .first) (sittings (sat s) xs .run)
+unfolding sat
+undo-over-any-calls-and-openings s typed ok none none-ahead xs b = sitting-demand xs (sat s) b (opened-start s typed ok none none-ahead)
 
-pub opening-is-accepted : (xs : List Act) → ActsOfBytes xs → watchCall (sittings (sat freshSession) xs .run .session) .answer ≡ 0
-unfolding sat freshSession
-opening-is-accepted xs b = sitting-opens xs (sat freshSession) b fresh-start
+pub opening-is-accepted : (s : Session) → TypedSession s → wellFormed s ≡ true → s .used ≡ 0 → s .ahead ≡ 0 → (xs : List Act) → ActsOfBytes xs
+    → watchCall (sittings (sat s) xs .run .session) .answer ≡ 0
+unfolding sat
+opening-is-accepted s typed ok none none-ahead xs b = sitting-opens xs (sat s) b (opened-start s typed ok none none-ahead)
 
--- over a well-formed session: from its record and its next id
+-- over any well-formed session, whatever its stores hold: from its record and its next id
 pub undo-over-any-calls-once-opened : (s : Session) → TypedSession s → wellFormed s ≡ true → (cs : List Call) → AllOfBytes cs
     → Demand3 (s .held) (s .next) (run (start (watchCall s .session)) cs)
 unfolding done watchOnly renewed withProfile
@@ -490,12 +491,17 @@ undo-over-any-calls-once-opened s typed ok cs b =
     subst (λ (q : Said). Demand3 (s .held) (s .next) (run (start (q .session)) cs)) (sym (watch-opens s ok))
     (demand3 (s .held) (s .next) cs (start (watchOnly s)) b (opening-starts s typed ok))
 
--- "The profile is fixed at opening and no undo alters it": no call does, on every session
-pub profile-is-fixed-at-opening : (s : Session) (c : Call) → said s c .session .profile ≡ s .profile
-profile-is-fixed-at-opening = profile-stays
+-- "The profile is fixed at opening and no undo alters it": after any calls, on every session
+pub profile-is-fixed-at-opening : (s : Session) (cs : List Call) → run (start s) cs .session .profile ≡ s .profile
+unfolding start
+profile-is-fixed-at-opening s cs = profile-fixed cs (start s)
+
+-- "Undo and redo take back and put back clears only": what they report, of every watch-only session
+pub watch-only-moves-clears-only : (w : Way) (s : Session) → s .profile ≡ 1 → moveCall w s .answer ≡ 0 → moveCall w s .kind ≡ 0x01
+watch-only-moves-clears-only w s on = moves-clears s on w
 
 -- "Training rooms want a session students can't break": of a watch-only session, right or damaged, any calls and openings change the pending logs and nothing else
--- of the record; no log is made, so no id is drawn
+-- of the record; the next id stays
 pub students-cant-break-it : (s : Session) → s .profile ≡ 1 → (xs : List Act) → Unbroken s (handed s xs)
 students-cant-break-it s on xs = students-unbroken xs s on
 

@@ -5,7 +5,6 @@ use mathlib.Core.Bool.{cond}
 use mathlib.Core.Path.{_≡_}
 use mathlib.Core.List.{List, [], _∷_}
 use lib.Dec.{eqb}
-use Rattle.record.specs.Record.{workedOf}
 use Rattle.record.specs.declared.Record.{Record}
 use Rattle.change.specs.With.{withLogs}
 use Rattle.session.specs.Road.{Said}
@@ -56,9 +55,9 @@ handed s [] = s
 handed s (calls c ∷ xs) = handed (said s c .session) xs
 handed s (watch ∷ xs) = handed (watchCall s .session) xs
 
--- the record is as it was but for its pending logs, so limit, readiness and wanted format of it are too; no log was made, and it is watch-only still
+-- the record is as it was but for its pending logs; limit, readiness, wanted format and next id are as they were, and it is watch-only still
 pub record Unbroken (s t : Session) : Type 0 where
   pub record-is : t .held ≡ withLogs (s .held) (t .held .logs)
-  pub worked-is : workedOf (t .held) ≡ workedOf (s .held)
+  pub worked-is : t .worked ≡ s .worked
   pub next-is : t .next ≡ s .next
   pub profile-is : t .profile ≡ 1

@@ -1,8 +1,8 @@
 -- Document 02, k: "The profile is fixed at opening and no undo alters it": no call but an opening does. Assumes nothing.
 use Prim.Native.Nat.{ℕ}
 use mathlib.Core.Bool.{not}
-use mathlib.Core.Path.{_≡_, refl}
-use mathlib.Core.List.{List}
+use mathlib.Core.Path.{_≡_, refl, _∙_}
+use mathlib.Core.List.{List, [], _∷_}
 use native.Mathlib.Omega.{arith}
 use lib.Dec.{ltb}
 use lib.ListN.{length}
@@ -28,6 +28,7 @@ use Rattle.undo_call.specs.Undo.{moveAsks}
 use Rattle.forget_call.specs.Forget.{oldestAsks, forgetAsks}
 use Rattle.time_call.specs.Time.{timeAsks}
 use Rattle.promises.specs.Calls.{Call, occ, sbe, undo, redo, forget, time, asks, said}
+use Rattle.promises.specs.History.{Run, did, next-run, run}
 use Rattle.promises.specs.laws.UndoDemands.{Called, ill-formed, empty, barred, goes, called}
 
 -- what a call asks, if it isn't an opening
@@ -91,6 +92,12 @@ module _ (s : Session) where
   pub profile-stays : (c : Call) → said s c .session .profile ≡ s .profile
   unfolding said
   profile-stays c = settled-profile _ (asks s c) (no-opening c)
+
+-- after any calls it is the one from before them
+pub profile-fixed : (cs : List Call) (p : Run) → run p cs .session .profile ≡ p .session .profile
+unfolding run next-run did
+profile-fixed [] p = refl
+profile-fixed (c ∷ cs) p = profile-fixed cs (next-run p c) ∙ profile-stays (p .session) c
 
 -- a clear makes no log
 pub clear-makes-none : (ch : Change) → kindOf ch ≡ 0x01 → madeOf ch ≡ 0

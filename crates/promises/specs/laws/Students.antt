@@ -6,7 +6,7 @@ use mathlib.Core.Path.{_≡_, refl, sym, ap, subst, _∙_}
 use mathlib.Core.List.{List, [], _∷_}
 use native.Mathlib.Nat.{add-zero}
 use native.Mathlib.Omega.{arith}
-use borrow.Author.Tests.{eqb-true}
+use borrow.Author.Tests.{not-false, eqb-true}
 use lib.Dec.{ltb, leb, eqb}
 use lib.ListN.{length, getD}
 use Rattle.wire.specs.laws.Cases.{cond-elim, cond-cases}
@@ -39,12 +39,13 @@ use Rattle.sbe.specs.declared.Ruling.the-variants.{Decline, Grant, Done, Read}
 use Rattle.session.specs.Session.{onlyClears, wellFormed, madeOf, renewed, withTimer, withProfile, carriedTo, carriedOf}
 use Rattle.session.specs.Road.{Asks, refuses, tells, makes, moves, forgets, passes, opens, storeOf, usedOf, heldIn, sessionMoved, sessionFreed, forgotten, timePassed, watchOnly, Said, kept, done, carriedSays, settled}
 use Rattle.session.specs.laws.Road.{due-cases}
-use Rattle.session.specs.laws.Session.{formed}
+use Rattle.session.specs.laws.Session.{formed, none-due}
 use Rattle.session.specs.laws.Watch.{clears-first, entries-read}
 use Rattle.session.specs.declared.Session.{Session}
 use Rattle.occ_call.specs.Occ as occs
 use Rattle.sbe_call.specs.Sbe as sbes
-use Rattle.undo_call.specs.Undo.{moveAsks}
+use Rattle.undo_call.specs.Undo.{moveAsks, moveCall}
+use Rattle.undo_call.specs.laws.NoneLeft.{none-zero}
 use Rattle.forget_call.specs.Forget.{oldestAsks, forgetAsks}
 use Rattle.time_call.specs.Time.{timeAsks}
 use Rattle.watch_call.specs.Watch.{watchAsks, watchCall}
@@ -79,14 +80,16 @@ put-logs r t (SetTimer timer) k = absurd (omega (arith, k))
 
 -- ---- a watch-only session is asked for clears alone
 
-abbrev Clearing : Asks → Type 0
-Clearing (refuses n) = Unit {0}
-Clearing (tells bell y) = Unit {0}
-Clearing (makes e bell y) = kindOf (e .change) ≡ 0x01
-Clearing (moves w at e) = kindOf (e .change) ≡ 0x01
-Clearing (forgets n) = Unit {0}
-Clearing (passes n) = Unit {0}
-Clearing opens = Unit {0}
+-- and what alters a session more than its timer is asked of a well-formed one
+module _ (s : Session) where
+  abbrev Clearing : Asks → Type 0
+  Clearing (refuses n) = Unit {0}
+  Clearing (tells bell y) = Unit {0}
+  Clearing (makes e bell y) = (kindOf (e .change) ≡ 0x01) × (wellFormed s ≡ true)
+  Clearing (moves w at e) = (kindOf (e .change) ≡ 0x01) × (wellFormed s ≡ true)
+  Clearing (forgets n) = wellFormed s ≡ true
+  Clearing (passes n) = Unit {0}
+  Clearing opens = wellFormed s ≡ true
 
 module _ (s : Session) (on : s .profile ≡ 1) where
   not-full : s .profile ≡ 0 → ⊥
@@ -94,41 +97,41 @@ module _ (s : Session) (on : s .profile ≡ 1) where
 
   module _ (sender : ℕ) (c d : List ℕ) where
     abbrev Asked : Tables → Verdict → Type 0
-    Asked t v = Clearing (occs.verdictAsks (s .held) (s .worked) (getD c 0 0) (getD c 1 0) d t v)
+    Asked t v = Clearing s (occs.verdictAsks (s .held) (s .worked) (getD c 0 0) (getD c 1 0) d t v)
 
     abbrev j : Judged
     j = judgeOf (s .held) (s .worked) (s .next) sender (getD c 1 0) (dataOf c)
 
-    judged-clears : (v : Verdict) → byProfile (s .profile) (getD c 1 0) (j .verdict) ≡ v → Asked (j .tables) v
+    judged-clears : wellFormed s ≡ true → (v : Verdict) → byProfile (s .profile) (getD c 1 0) (j .verdict) ≡ v → Asked (j .tables) v
     unfolding occs.verdictAsks
-    judged-clears (Refuse status) e = tt
-    judged-clears Poll e = tt
-    judged-clears (Make ch) e = open-clears (s .held) (s .worked) (s .next) sender (dataOf c) (s .profile) (getD c 1 0) ch not-full e
+    judged-clears ok (Refuse status) e = tt
+    judged-clears ok Poll e = tt
+    judged-clears ok (Make ch) e = (open-clears (s .held) (s .worked) (s .next) sender (dataOf c) (s .profile) (getD c 1 0) ch not-full e, ok)
 
     refused-clears : (status : ℕ) (t : Tables) → Asked t (byProfile (s .profile) (getD c 1 0) (Refuse status))
     unfolding byProfile shut occs.verdictAsks
     refused-clears status t = cond-elim (Asked t) (openIn (s .profile) (getD c 1 0)) tt (cond-elim (Asked t) (eqb status 0x15) tt tt)
 
-    occ-clears : Clearing (occs.occAsks s sender c d)
-    unfolding occs.occAsks occs.occRead occs.askedOf occs.askedFor occs.judgedAsks plainly
+    occ-clears : Clearing s (occs.occAsks s sender c d)
+    unfolding occs.occAsks occs.occRefusal occs.refusalOf occs.occRead occs.askedOf occs.askedFor occs.judgedAsks plainly
     occ-clears =
-        due-cases Clearing (occs.occRefusal s sender (length c) (length d)) (λ n. tt)
+        due-cases (Clearing s) (occs.occRefusal s sender (length c) (length d)) (λ n. tt)
         (λ z. cond-cases (λ (x : Judged). Asked (x .tables) (byProfile (s .profile) (getD c 1 0) (x .verdict))) (not (eqb (packetStatus c) 0)) (λ f. refused-clears _ _)
-        (λ f. judged-clears _ refl))
+        (λ f. judged-clears (none-due (wellFormed s) _ z) _ refl))
 
   module _ (r d : List ℕ) where
-    denied-clears : (v : Ruling) → Clearing (sbes.rulingAsks r d (sbes.denied v))
+    denied-clears : (v : Ruling) → Clearing s (sbes.rulingAsks r d (sbes.denied v))
     unfolding sbes.rulingAsks sbes.denied
     denied-clears (Decline primary secondary) = tt
     denied-clears (Grant ch) = tt
     denied-clears Done = tt
     denied-clears (Read offset size) = tt
 
-    sbe-clears : (m x : List ℕ) → Clearing (sbes.sbeAsks s r d m x)
+    sbe-clears : (m x : List ℕ) → Clearing s (sbes.sbeAsks s r d m x)
     unfolding sbes.sbeAsks sbes.sbeRead sbes.byProfile
     sbe-clears m x =
-        due-cases Clearing (sbes.sbeRefusal s (length r) (length d)) (λ n. tt)
-        (λ z. cond-cases (λ (v : Ruling). Clearing (sbes.rulingAsks r d v)) (eqb (s .profile) 0) (λ t. absurd (not-full (eqb-true (s .profile) 0 t))) (λ t. denied-clears _))
+        due-cases (Clearing s) (sbes.sbeRefusal s (length r) (length d)) (λ n. tt)
+        (λ z. cond-cases (λ (v : Ruling). Clearing s (sbes.rulingAsks r d v)) (eqb (s .profile) 0) (λ t. absurd (not-full (eqb-true (s .profile) 0 t))) (λ t. denied-clears _))
 
   module _ (w : Way) where
     newest-clears : wellFormed s ≡ true → (e : Edit) (n : Newest w s e) → kindOf (e .change) ≡ 0x01
@@ -140,20 +143,35 @@ module _ (s : Session) (on : s .profile ≡ 1) where
         says ∙ clears-first (n .entry) (n .older) (sym (ap onlyClears (entries-read (usedOf w s) (storeOf w s) (n .entry ∷ n .older) (n .read))) ∙ all) .0)
         (formed s ok .profile-is)
 
-    called-clears : (a : Asks) → Called w s a → Clearing a
+    called-clears : (a : Asks) → Called w s a → Clearing s a
     called-clears a (ill-formed h) = tt
     called-clears a (empty x z) = tt
     called-clears a (barred x e n bar) = tt
-    called-clears a (goes x e n u) = newest-clears x e n
+    called-clears a (goes x e n u) = (newest-clears x e n, x)
 
-  asked-clears : (c : Call) → Clearing (asks s c)
+    abbrev OfAClear : Said → Type 0
+    OfAClear q = q .answer ≡ 0 → q .kind ≡ 0x01
+
+    called-kind : (a : Asks) → Called w s a → OfAClear (settled s [] a)
+    unfolding settled kept done
+    called-kind a (ill-formed h) z = absurd (omega (arith, z))
+    called-kind a (empty x h) z = absurd (none-zero w z)
+    called-kind a (barred x e n bar) z = absurd (omega (arith, z))
+    called-kind a (goes x e n u) z = newest-clears x e n
+
+    -- undo and redo take back and put back clears only
+    pub moves-clears : moveCall w s .answer ≡ 0 → moveCall w s .kind ≡ 0x01
+    unfolding moveCall
+    moves-clears = called-kind (moveAsks w s) (called w s)
+
+  asked-clears : (c : Call) → Clearing s (asks s c)
   unfolding asks forgetAsks oldestAsks timeAsks
   asked-clears (occ sender c d) = occ-clears sender c d
   asked-clears (sbe r d m x) = sbe-clears r d m x
   asked-clears undo = called-clears Before (moveAsks Before s) (called Before s)
   asked-clears redo = called-clears After (moveAsks After s) (called After s)
-  asked-clears (forget n) = cond-elim Clearing (not (wellFormed s)) tt (cond-elim Clearing (ltb (heldIn s) n) tt tt)
-  asked-clears (time n) = cond-elim Clearing (not (wellFormed s)) tt tt
+  asked-clears (forget n) = cond-cases (Clearing s) (not (wellFormed s)) (λ f. tt) (λ f. cond-elim (Clearing s) (ltb (heldIn s) n) tt (not-false _ f))
+  asked-clears (time n) = cond-elim (Clearing s) (not (wellFormed s)) tt tt
 
   -- ---- what comes of it
 
@@ -165,35 +183,45 @@ module _ (s : Session) (on : s .profile ≡ 1) where
   unfolding workedOf withLogs
   worked-logs r x e = ap workedOf e
 
+  -- what is worked out of a record whose logs alone moved, where the session is well formed
+  worked-again : wellFormed s ≡ true → (x : Record) → x ≡ withLogs (s .held) (x .logs) → workedOf x ≡ s .worked
+  worked-again ok x e = worked-logs (s .held) x e ∙ sym (formed s ok .worked-is)
+
   -- with another record, if its logs alone moved, and the same next id
-  unbroken : (t : Session) → t .held ≡ withLogs (s .held) (t .held .logs) → t .next ≡ s .next → t .profile ≡ 1 → Unbroken s t
-  unbroken t h n p = record { record-is = h; worked-is = worked-logs (s .held) (t .held) h; next-is = n; profile-is = p }
+  unbroken : (t : Session) → t .held ≡ withLogs (s .held) (t .held .logs) → t .worked ≡ s .worked → t .next ≡ s .next → t .profile ≡ 1 → Unbroken s t
+  unbroken t h w n p = record { record-is = h; worked-is = w; next-is = n; profile-is = p }
 
-  carried-at : (e : Edit) → kindOf (e .change) ≡ 0x01 → (used : ℕ) → Unbroken s (carriedTo s e (At used) .session)
+  pub as-it-was : Unbroken s s
+  as-it-was = unbroken s (same-logs (s .held)) refl refl on
+
+  carried-at : (e : Edit) → kindOf (e .change) ≡ 0x01 → wellFormed s ≡ true → (used : ℕ) → Unbroken s (carriedTo s e (At used) .session)
   unfolding carriedTo renewed withTimer putOf
-  carried-at e k used =
-      unbroken _ (put-logs (s .held) (e .tables) (e .change) k) (ap (λ (n : ℕ). s .next + n) (clear-makes-none (e .change) k) ∙ add-zero (s .next)) on
+  carried-at e k ok used =
+      let logs = put-logs (s .held) (e .tables) (e .change) k in
+      unbroken _ logs (worked-again ok (putWith (s .held) (e .tables) (e .change) .after) logs) (ap (λ (n : ℕ). s .next + n) (clear-makes-none (e .change) k) ∙ add-zero (s .next)) on
 
-  carried-unbroken : (e : Edit) → kindOf (e .change) ≡ 0x01 → Unbroken s (carriedOf s e .session)
+  carried-unbroken : (e : Edit) → kindOf (e .change) ≡ 0x01 → wellFormed s ≡ true → Unbroken s (carriedOf s e .session)
   unfolding carriedOf carriedTo
-  carried-unbroken e k = go (endOf (length (s .journal)) (s .used) (takesBack (s .held) (s .timer) e))
+  carried-unbroken e k ok = go (endOf (length (s .journal)) (s .used) (takesBack (s .held) (s .timer) e))
     where
       go : (x : End) → Unbroken s (carriedTo s e x .session)
-      go (At used) = carried-at e k used
-      go Full = unbroken s (same-logs (s .held)) refl on
+      go (At used) = carried-at e k ok used
+      go Full = as-it-was
 
   abbrev Safe : Said → Type 0
   Safe q = Unbroken s (q .session)
 
-  settled-unbroken : (d : List ℕ) (a : Asks) → Clearing a → Safe (settled s d a)
+  settled-unbroken : (d : List ℕ) (a : Asks) → Clearing s a → Safe (settled s d a)
   unfolding settled carriedSays kept done sessionMoved forgotten sessionFreed timePassed watchOnly renewed withTimer withProfile putOf
-  settled-unbroken d (refuses n) h = unbroken s (same-logs (s .held)) refl on
-  settled-unbroken d (tells bell y) h = unbroken s (same-logs (s .held)) refl on
-  settled-unbroken d (makes e bell y) h = cond-elim Safe (carriedOf s e .full) (unbroken s (same-logs (s .held)) refl on) (carried-unbroken e h)
-  settled-unbroken d (moves w at e) h = unbroken _ (put-logs (s .held) (e .tables) (e .change) h) refl on
-  settled-unbroken d (forgets n) h = unbroken _ (same-logs (s .held)) refl on
-  settled-unbroken d (passes n) h = unbroken _ (same-logs (s .held)) refl on
-  settled-unbroken d opens h = unbroken _ (same-logs (s .held)) refl refl
+  settled-unbroken d (refuses n) h = as-it-was
+  settled-unbroken d (tells bell y) h = as-it-was
+  settled-unbroken d (makes e bell y) h = cond-elim Safe (carriedOf s e .full) as-it-was (carried-unbroken e (h .0) (h .1))
+  settled-unbroken d (moves w at e) h =
+      let logs = put-logs (s .held) (e .tables) (e .change) (h .0) in
+      unbroken _ logs (worked-again (h .1) (putWith (s .held) (e .tables) (e .change) .after) logs) refl on
+  settled-unbroken d (forgets n) h = unbroken _ (same-logs (s .held)) (worked-again h (s .held) (same-logs (s .held))) refl on
+  settled-unbroken d (passes n) h = unbroken _ (same-logs (s .held)) refl refl on
+  settled-unbroken d opens h = unbroken _ (same-logs (s .held)) (worked-again h (s .held) (same-logs (s .held))) refl refl
 
   call-unbroken : (c : Call) → Unbroken s (said s c .session)
   unfolding said
@@ -201,7 +229,7 @@ module _ (s : Session) (on : s .profile ≡ 1) where
 
   watch-unbroken : Unbroken s (watchCall s .session)
   unfolding watchCall watchAsks
-  watch-unbroken = settled-unbroken [] (watchAsks s) (cond-elim Clearing (not (wellFormed s)) tt tt)
+  watch-unbroken = settled-unbroken [] (watchAsks s) (cond-cases (Clearing s) (not (wellFormed s)) (λ f. tt) (λ f. not-false _ f))
 
 -- one after the other
 then-unbroken : (s t u : Session) → Unbroken s t → Unbroken t u → Unbroken s u
@@ -215,7 +243,7 @@ then-unbroken s t u a b = record {
 
 pub students-unbroken : (xs : List Act) (s : Session) → s .profile ≡ 1 → Unbroken s (handed s xs)
 unfolding handed
-students-unbroken [] s on = unbroken s on s (same-logs s on (s .held)) refl on
+students-unbroken [] s on = as-it-was s on
 students-unbroken (calls c ∷ xs) s on =
     let here = call-unbroken s on c in
     then-unbroken s (said s c .session) (handed (said s c .session) xs) here (students-unbroken xs (said s c .session) (here .profile-is))

@@ -17,10 +17,7 @@ use Rattle.image.specs.laws.Image.{image-session}
 use Rattle.layout.specs.Layout.{imageLength}
 use Rattle.inplace.specs.InPlace.{Left, rungLeft, noImage, onImage}
 use Rattle.watch_call.specs.Watch.{watchAsks, watchCall, watchOn}
-
--- an answer, and the session's image
-abbrev pub watchedOn : Session → Left
-watchedOn s = record { told = record { answer = watchCall s .answer; small = 0; beside = 0 }; image = imageOf (watchCall s .session); reply = [] }
+use Rattle.promises.specs.Lent.{watchedOn}
 
 -- nothing is rung, and no reply buffer is lent
 module _ (s : Session) where
@@ -43,9 +40,9 @@ pub watch-no-image : (b : List ℕ) → (length b ≡ imageLength → ⊥) → w
 unfolding watchOn onImage
 watch-no-image b z = sym (if-ne _ _ z refl)
 
-pub watch-refused : (s : Session) → (watchCall s .answer ≡ 0 → ⊥) → watchCall s .session ≡ s
+pub watch-refused : (s : Session) → (watchCall s .answer ≡ 0 → ⊥) → (watchCall s .session ≡ s) × (watchCall s .bell ≡ 0) × (watchCall s .kind ≡ 0)
 unfolding watchCall
-watch-refused s h = refusal-keeps s [] (watchAsks s) h .0
+watch-refused s h = let k = refusal-keeps s [] (watchAsks s) h in (k .0, k .2, k .3)
 
 -- a refusal keeps every byte
 pub watch-keeps-bytes : (b : List ℕ) → Bytes b → (watchOn b .told .answer ≡ 0 → ⊥) → watchOn b .image ≡ b
@@ -56,6 +53,6 @@ watch-keeps-bytes b bytes h = go (eqb (length b) imageLength) refl
         let long = eqb-true (length b) imageLength t in
         let is = watch-lent b long in
         ap (λ (l : Left). l .image) is
-        ∙ ap imageOf (watch-refused (sessionOf b) (λ z. h (ap (λ (l : Left). l .told .answer) is ∙ z)))
+        ∙ ap imageOf (watch-refused (sessionOf b) (λ z. h (ap (λ (l : Left). l .told .answer) is ∙ z)) .0)
         ∙ image-session b bytes long
     go false t = ap (λ (l : Left). l .image) (watch-no-image b (eqb-false (length b) imageLength t))

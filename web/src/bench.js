@@ -1,5 +1,5 @@
 // The bench: a session, what was called on it so far, and what is lent. No part of the page is touched here.
-import { hexOf, fromHex, number16 } from './bytes.js';
+import { hexOf, fromHex, number16, same } from './bytes.js';
 import { call, freshImage, isCall, SESSION, SEEPROM_MOST } from './library.js';
 import { lineOf, heardLine, readLine, framed } from './lines.js';
 import { replayLine, traceOf } from './trace.js';
@@ -66,6 +66,9 @@ export function benchOf(library, text) {
 }
 
 export const hasSomething = (bench) => bench.items.length > 0 || bench.start !== null;
+
+// Opening watch-only takes the full profile and both stores. It is tried on a copy: a session that would stay as it is loses nothing.
+export const losesByWatch = (bench) => hasSomething(bench) && !same(heardOf(bench, bench.image, { name: 'watch' }).image, bench.image);
 
 // ---- the calls for somebody else: lines of `standin`
 

@@ -1,8 +1,8 @@
 // What was sent, and what came back: bytes, and field by field.
 import { hexOf, hex, counted } from './bytes.js';
 import { el, fill } from './dom.js';
-import { ANSWERS, OCC_STATUSES, REASONS, SENDERS, bellWords, sbeStatus } from './words.js';
-import { sentFields, replyFields, orderTitle, statusName, sbeStatusName } from './fields.js';
+import { ANSWERS, REASONS, SENDERS, bellWords, sbeStatus } from './words.js';
+import { sentFields, replyFields, orderTitle, statusName, sbeStatusName, whyWords } from './fields.js';
 import { faultOf, bellOf } from './bench.js';
 import { kindWords } from './entries.js';
 
@@ -28,6 +28,7 @@ function statusWords(order, heard) {
   if (order.name === 'undo') return `taken back: ${kindWords(heard.high)}`;
   if (order.name === 'redo') return `put in again: ${kindWords(heard.high)}`;
   if (order.name === 'time') return heard.high ? 'the timer has expired' : 'no bell';
+  if (order.name === 'watch') return 'opened, both stores empty';
   return 'forgotten';
 }
 
@@ -82,8 +83,8 @@ function faultView(fault, fields) {
 
 // Why, where no byte tells it better.
 function whyView(order, heard) {
-  const why = order.name === 'occ' && heard.answer === 0 && heard.small === 0 ? OCC_STATUSES[heard.reply[2]]?.[1] : '';
-  return why ? [el('p', {}, `${why[0].toUpperCase()}${why.slice(1)}.`)] : [];
+  const why = faultOf(order, heard) ? '' : whyWords(order, heard);
+  return why ? [el('p', { id: 'why' }, `${why[0].toUpperCase()}${why.slice(1)}.`)] : [];
 }
 
 function bellView(order, heard) {

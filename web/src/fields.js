@@ -1,9 +1,9 @@
 // What is sent and what comes back, cut into fields: { at, length, name, words }. A field that has too few bytes ends the cutting.
 import { hex, number16, number32, number64, counted } from './bytes.js';
 import {
-  OCC_STATUSES, SBE_STATUSES, STATES, ROLES, FRUS, FORMATS, SENDERS, LOG_REASONS, named, sbeStatus,
+  OCC_STATUSES, SBE_STATUSES, WATCH_ONLY_REFUSES, STATES, ROLES, FRUS, FORMATS, SENDERS, LOG_REASONS, named, sbeStatus,
 } from './words.js';
-import { userWords, degrees, coresWords } from './session.js';
+import { userWords, degrees, coresWords, readSession, isWatchOnly } from './session.js';
 
 const plain = (bytes) => (bytes.length <= 4 ? `${bytes.reduce((sum, byte) => sum * 256 + byte, 0)}` : '');
 const watt = (bytes) => `${counted(number16(bytes, 0))} W`;
@@ -128,6 +128,16 @@ function sbeReplyFields(reply) {
 
 export const replyFields = (order, reply) => (order.name === 'occ' ? occReplyFields(reply) : sbeReplyFields(reply));
 
+// No command or request alters the profile, so the session after it tells by which one it was judged.
+const byProfile = (order, heard, status) => (isWatchOnly(readSession(heard.image)) ? WATCH_ONLY_REFUSES[order.name][status] : undefined);
+
+// Why a command or request got its status; '' where the status says enough.
+export function whyWords(order, heard) {
+  if (!heard.reply) return '';
+  if (order.name === 'sbe') return byProfile(order, heard, sbeStatus(heard.reply)) ?? '';
+  return byProfile(order, heard, heard.reply[2]) ?? OCC_STATUSES[heard.reply[2]]?.[1] ?? '';
+}
+
 // ---- an order as a title
 
 const DETAILS = { 0x12: [4, 'log id'], 0x20: [5, 'state'], 0x22: [4, 'user cap'], 0x25: [5, 'reason'] };
@@ -157,6 +167,7 @@ const TITLES = {
   redo: () => 'redo',
   forget: ({ number }) => `forget the ${counted(number)} oldest`,
   time: ({ number }) => `${counted(number)} µs pass`,
+  watch: () => 'open watch-only',
   seeprom: ({ bytes }) => `SEEPROM lent, ${counted(bytes.length)} bytes`,
 };
 

@@ -1,8 +1,8 @@
 // The proved library. Everything that answers on this page answers through here; the rest of the page sends, shows and keeps.
 import { number16, number32 } from './bytes.js';
 
-export const VERSION = 4; // BJARGOLSK_VERSION of include/bjargolsk.h
-export const SESSION = 4410;
+export const VERSION = 5; // BJARGOLSK_VERSION of include/bjargolsk.h
+export const SESSION = 4411;
 const OCC_REPLY = 4096;
 const SBE_REPLY = 32;
 export const COMMAND_MOST = 8192;
@@ -61,6 +61,7 @@ const made = {
   redo: (library, session, length) => library.calls.bjargolsk_redo(session, length),
   forget: (library, session, length, order) => library.calls.bjargolsk_forget(session, length, Number(order.number)),
   time: (library, session, length, order) => library.calls.bjargolsk_time(session, length, BigInt.asIntN(64, order.number)),
+  watch: (library, session, length) => library.calls.bjargolsk_watch(session, length),
 };
 
 export const isCall = (order) => order.name in made;

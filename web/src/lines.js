@@ -1,9 +1,9 @@
 // The lines of `standin` (docs/PROTOCOL.md): read into orders, and written of calls, so that a bug report can go both ways.
 import { hex, hexOf, readBytes, asBytes, joined } from './bytes.js';
-import { COMMAND_MOST } from './library.js';
+import { COMMAND_MOST, SESSION } from './library.js';
 
 const LONGEST = 32768;
-const ALONE = ['undo', 'redo', 'fresh', 'image', 'why', 'show', 'journal', 'help'];
+const ALONE = ['undo', 'redo', 'watch', 'fresh', 'image', 'why', 'show', 'journal', 'help'];
 const NUMBER_MOST = { forget: 4294967295n, time: 18446744073709551615n, buffer: 8192n };
 
 const complaint = (words, at) => ({ wrong: words, at });
@@ -65,10 +65,10 @@ function sendLine(line, at) {
   return { name: 'send', sender: sender.byte, type: type.byte, data: read.bytes };
 }
 
-function loadLine(line, at, length) {
-  const read = readBytes(line, at, length, BLANKS);
+function loadLine(line, at) {
+  const read = readBytes(line, at, SESSION, BLANKS);
   if (read.wrong === 'digit') return complaint('hex digit expected', read.at);
-  if (read.wrong || read.bytes.length !== length) return { wrong: `image must be ${length} bytes` };
+  if (read.wrong || read.bytes.length !== SESSION) return { wrong: `image must be ${SESSION} bytes` };
   return { name: 'load', bytes: read.bytes };
 }
 
@@ -89,7 +89,7 @@ function aloneLine(line, at, name) {
 }
 
 // A line as an order; null where it has no answer; `wrong` and `at`, from 0, where it isn't understood.
-export function readLine(line, { session = 4410, seepromMost = 8192 } = {}) {
+export function readLine(line, { seepromMost = 8192 } = {}) {
   const begin = afterBlanks(line, 0);
   if (line.length > LONGEST) return complaint(`line over ${LONGEST} bytes`, LONGEST);
   if (begin === line.length || line[begin] === '#') return null;
@@ -98,7 +98,7 @@ export function readLine(line, { session = 4410, seepromMost = 8192 } = {}) {
   if (word === 'occ') return occLine(line, end);
   if (word === 'sbe') return sbeLine(line, end);
   if (word === 'send') return sendLine(line, end);
-  if (word === 'load') return loadLine(line, end, session);
+  if (word === 'load') return loadLine(line, end);
   if (word === 'seeprom') return seepromLine(line, end, seepromMost);
   if (Object.hasOwn(NUMBER_MOST, word)) return numberLine(line, end, word);
   if (ALONE.includes(word)) return aloneLine(line, end, word);
@@ -143,6 +143,7 @@ const HEARD = {
   redo: (heard) => ` ${hex(heard.high)}`,
   forget: () => '',
   time: bellText,
+  watch: () => '',
 };
 
 // The answer line that `standin` gives.

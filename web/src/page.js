@@ -3,8 +3,8 @@ import { byId, el, fill, saveFile, copyText, bytesOfFile, chosen, sayWrong } fro
 import { hexOf, counted } from './bytes.js';
 import { openLibrary, isWellFormed, SEEPROM_MOST } from './library.js';
 import {
-  newBench, carryOut, benchOf, keptText, hasSomething, imagesAround, numbersOf, pointOf, reportLines, reportTrace, playTrace, traceLines, readImage,
-  imageLine, occOrder,
+  newBench, carryOut, benchOf, keptText, hasSomething, losesByWatch, imagesAround, numbersOf, pointOf, reportLines, reportTrace, playTrace, traceLines,
+  readImage, imageLine, occOrder,
 } from './bench.js';
 import { heardLine } from './lines.js';
 import { readTrace } from './trace.js';
@@ -159,9 +159,10 @@ function begin(bench) {
   done();
 }
 
-function ask(words) {
+function ask(words, yes) {
   const dialog = byId('ask');
   byId('ask-words').textContent = words;
+  byId('ask-yes').textContent = yes;
   dialog.returnValue = 'no';
   dialog.showModal();
   return new Promise((settle) => {
@@ -172,11 +173,22 @@ function ask(words) {
 async function mayBegin(what) {
   const count = app.bench.items.length;
   if (!hasSomething(app.bench)) return true;
-  return ask(`${what} The session here${count ? `, with ${counted(count)} ${count === 1 ? 'call' : 'calls'},` : ''} is lost then, unless you saved it.`);
+  const calls = count ? `, with ${counted(count)} ${count === 1 ? 'call' : 'calls'},` : '';
+  return ask(`${what} The session here${calls} is lost then, unless you saved it.`, 'Begin anew');
+}
+
+async function mayWatch() {
+  if (!losesByWatch(app.bench)) return true;
+  const lost = 'What could be undone and redone is lost then, and no undo leads back; an image that you save first does.';
+  return ask(`A watch-only session opens over this one. ${lost}`, 'Open watch-only');
 }
 
 async function fresh() {
   if (await mayBegin('A fresh session begins.')) begin(newBench(app.library));
+}
+
+async function watch() {
+  if (await mayWatch()) carry({ name: 'watch' });
 }
 
 function bringUp() {
@@ -212,11 +224,17 @@ function carryLine(order) {
 
 const answerText = (item) => (item?.heard ? heardLine(item.order, item.heard) : 'ok');
 
+// Lines ask for what they would lose of the session that is here.
+async function mayRun(orders) {
+  const names = orders.map(({ name }) => name);
+  if (names.includes('fresh') || names.includes('load')) return mayBegin('The lines begin anew.');
+  return names.includes('watch') ? mayWatch() : true;
+}
+
 async function sendLines(event) {
   event.preventDefault();
   const orders = lineOrders();
-  const anew = orders?.some(({ name }) => name === 'fresh' || name === 'load');
-  if (!orders?.length || (anew && !(await mayBegin('The lines begin anew.')))) return;
+  if (!orders?.length || !(await mayRun(orders))) return;
   const answers = orders.map((order) => answerText(carryLine(order)));
   app.around = null;
   byId('line-answers').hidden = false;
@@ -308,6 +326,7 @@ function wireBench() {
   onClick('undo', () => carry({ name: 'undo' }));
   onClick('redo', () => carry({ name: 'redo' }));
   onClick('fresh', fresh);
+  onClick('watch', watch);
   onClick('bring-up', bringUp);
   onClick('edit-bytes', () => {
     const order = formOrder(app.bench);

@@ -1,6 +1,6 @@
 // The session's fields, with what changed; the journal and the redo store as two stacks.
 import { el, fill, byId } from './dom.js';
-import { readSession, sessionParts } from './session.js';
+import { readSession, sessionParts, isWatchOnly } from './session.js';
 import { readStore, kindWords, wouldRestore } from './entries.js';
 import { counted } from './bytes.js';
 
@@ -32,12 +32,19 @@ function partView([title, rows], before) {
   return [el('h3', {}, title), el('dl', { class: 'part' }, cells)];
 }
 
+const WATCH_ONLY = 'Watch-only: commands and requests change nothing but the pending logs. “Fresh session” begins a full one.';
+
+function profileView(session) {
+  return isWatchOnly(session) ? el('p', { class: 'quiet', id: 'watch-only' }, WATCH_ONLY) : null;
+}
+
 // `before` is the image before the call that is shown; null where there is none.
 export function showSession(place, image, before, wellFormed, ...notes) {
-  const parts = sessionParts(readSession(image));
+  const session = readSession(image);
+  const parts = sessionParts(session);
   const old = before && wordsByName(before);
   const damaged = wellFormed ? null : el('p', { class: 'wrong' }, 'This session isn’t well formed: every call answers 1.');
-  fill(place, notes, damaged, bigView(parts, old), parts.map((part) => partView(part, old)));
+  fill(place, notes, damaged ?? profileView(session), bigView(parts, old), parts.map((part) => partView(part, old)));
 }
 
 // ---- the stacks, newest on top

@@ -1,6 +1,6 @@
 // A session's bytes (docs/IMAGE.md) read into fields and said in words. Limit, readiness and wanted format are read too, never worked out.
 import { hex, number16, number32, number64, counted } from './bytes.js';
-import { STATES, ROLES, FRUS, FORMATS, LOG_REASONS, named } from './words.js';
+import { STATES, ROLES, PROFILES, FRUS, FORMATS, LOG_REASONS, named } from './words.js';
 
 const JOURNAL = 239;
 const REDO = 2289;
@@ -41,8 +41,11 @@ export function readSession(image) {
     journal: storeAt(image, 237, JOURNAL),
     redo: storeAt(image, 2287, REDO),
     timer: { running: image[4401], left: number64(image, 4402) },
+    profile: image[4410],
   };
 }
+
+export const isWatchOnly = (session) => session.profile === 1;
 
 // ---- in words
 
@@ -109,7 +112,8 @@ export function sessionParts(session) {
       ['FFDC area', areaWords(session.ffdc)],
       ['Pass-through area', areaWords(session.pass)],
     ]],
-    ['Room', [
+    ['Profile and room', [
+      ['Profile', named(PROFILES, session.profile)],
       ['Journal', `${counted(session.journal.used)} of 2,048 bytes used`],
       ['Redo store', `${counted(session.redo.used)} bytes used`],
     ]],

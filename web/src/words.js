@@ -33,6 +33,13 @@ export const SBE_STATUSES = {
   '02/05': 'invalid chiplet id',
   '02/18': 'input buffer overflow',
   '02/19': 'invalid parameters',
+  '05/20': 'denied chip-op access',
+};
+
+// Why a watch-only session refuses: these two statuses and no others come by the profile.
+export const WATCH_ONLY_REFUSES = {
+  occ: { 0x16: 'the session is watch-only: poll and clear log alone are open' },
+  sbe: { '05/20': 'the session is watch-only, and the request would make an entry' },
 };
 
 export const REASONS = { 1: 'bad version', 2: 'bad count', 3: 'out of range', 4: 'repeated', 5: 'clash', 6: 'not pending' };
@@ -54,6 +61,7 @@ export const KINDS = {
 
 export const STATES = { 1: 'standby', 2: 'observation', 3: 'active' };
 export const ROLES = { 0: 'slave', 1: 'master' };
+export const PROFILES = { 0: 'full', 1: 'watch-only' };
 export const SENDERS = { 0x10: 'HTMGT', 0x20: 'BMC' };
 export const FRUS = ['processor', 'Centaur', 'DIMM'];
 export const FORMATS = { 0x00: 'none', 0x03: 'role', 0x07: 'caps', 0x12: 'throttles', 0x13: 'thermal thresholds' };

@@ -1,11 +1,11 @@
 // The line protocol over the WebAssembly: what the page uses, put together as `standin` puts it, so that the stored cases can be run.
 import { hex, hexOf } from '../src/bytes.js';
-import { call, freshImage, isCall, SESSION } from '../src/library.js';
+import { call, freshImage, isCall } from '../src/library.js';
 import { readLine, complaintLine, heardLine, framed } from '../src/lines.js';
 import { readSession, sessionParts, pairsOf, pairName, coresOf } from '../src/session.js';
 import { readStore, entryLine, kindWords, wouldRestore } from '../src/entries.js';
-import { sentFields, replyFields, orderTitle } from '../src/fields.js';
-import { STATES, ROLES, REASONS, named } from '../src/words.js';
+import { sentFields, replyFields, orderTitle, statusName, sbeStatusName, whyWords } from '../src/fields.js';
+import { STATES, ROLES, PROFILES, REASONS, named } from '../src/words.js';
 
 const mark = (received) => (received ? 'received' : 'not received');
 const yesNo = (value) => (value ? 'yes' : 'no');
@@ -41,6 +41,7 @@ function showLines(image) {
     `area pass ${areaText(s.pass)}`,
     storeText(s.redo, 'redo', 'redo damaged at', 'redo too long'),
     s.timer.running ? `timer on ${s.timer.left}` : 'timer off',
+    `profile ${named(PROFILES, s.profile)}`,
     `next id ${s.nextId}`,
     journalHead(s),
     `room ${s.journal.tooLong ? 0 : 2048 - s.journal.used}`,
@@ -90,10 +91,21 @@ function holdShown(order, heard, line) {
   if (bad !== undefined) throw new Error(`shown of ${line}: ${bad}`);
 }
 
+// A status has its name; the profile is the reason of 05/20 always, of 16 in a watch-only session and in no other.
+function holdStatus(order, heard, line) {
+  if (!heard.reply) return;
+  const name = order.name === 'occ' ? statusName(heard.reply[2]) : sbeStatusName(heard.reply);
+  if (name === 'unknown') throw new Error(`a status without a name: ${line}`);
+  const watched = readSession(heard.image).profile === 1;
+  const denied = order.name === 'sbe' ? name === 'denied chip-op access' : heard.reply[2] === 0x16 && watched;
+  if (whyWords(order, heard).includes('watch-only') !== denied) throw new Error(`the profile is told wrongly as the reason: ${line}`);
+}
+
 function called(standin, order, line) {
   const heard = call(standin.library, standin.image, order, { seeprom: standin.seeprom, room: standin.room });
   holdKept(standin.image, heard, line);
   holdShown(order, heard, line);
+  holdStatus(order, heard, line);
   standin.image = heard.image;
   standin.counts[order.name] = (standin.counts[order.name] ?? 0) + 1;
   if (order.name === 'occ') standin.why = heard.small ? `${heard.high} ${REASONS[heard.small]}` : '0';
@@ -126,7 +138,7 @@ const said = {
 
 // The answer lines of one line.
 export function answerTo(standin, line) {
-  const order = readLine(line, { session: SESSION });
+  const order = readLine(line);
   if (order === null) return [];
   if (order.wrong) return [complaintLine(order)];
   const framedOne = framedOrder(standin, order);

@@ -16,9 +16,15 @@ function hold(right, words) {
   steps++;
 }
 
+// A question that was answered is acted on a moment later, so the text gets a while to come.
 async function holdText(selector, wanted) {
-  const text = await textOf(browser, selector);
-  hold(text !== null && text.includes(wanted), `${selector} says “${text}”, wanted is “${wanted}”`);
+  const right = (text) => text !== null && text.includes(wanted);
+  let text = await textOf(browser, selector);
+  for (let tries = 0; tries < 40 && !right(text); tries++) {
+    await soon();
+    text = await textOf(browser, selector);
+  }
+  hold(right(text), `${selector} says “${text}”, wanted is “${wanted}”`);
 }
 
 const ready = async () => {
@@ -134,29 +140,36 @@ async function mailbox() {
   await holdText('#verdict', 'answer 9: fewer changes');
 }
 
+const runLines = async (text) => {
+  await run(browser, 'document.getElementById("line-text").value = arguments[0]', text);
+  await click(browser, '#send-lines');
+};
+
 // The report runs as lines, and gives the same session.
 async function lines() {
   const report = await run(browser, 'return document.getElementById("report").textContent');
-  const image = await run(browser, 'return localStorage.getItem("bjargolsk-4-calls")');
+  const image = await run(browser, 'return localStorage.getItem("bjargolsk-5-calls")');
   await click(browser, 'input[name=way][value=lines]');
-  await run(browser, 'document.getElementById("line-text").value = arguments[0]', `fresh\n${report}`);
-  await click(browser, '#send-lines');
+  await runLines(`fresh\n${report}`);
   await holdText('#ask-words', 'is lost then');
   await click(browser, '#ask-yes');
-  const again = await run(browser, 'return JSON.parse(localStorage.getItem("bjargolsk-4-calls")).items.join()');
+  const again = await run(browser, 'return JSON.parse(localStorage.getItem("bjargolsk-5-calls")).items.join()');
   hold(again === JSON.parse(image).items.join(), 'the lines of the report give the same calls');
-  await run(browser, 'document.getElementById("line-text").value = "undo\\nocc 10 0"; ');
-  await click(browser, '#send-lines');
+  await runLines('undo\nocc 10 0');
   await holdText('#lines-wrong', 'Line 2, column 9: hex digit expected.');
 }
 
-async function reload() {
+async function holdSameAfterReload() {
   const before = await run(browser, 'return [document.getElementById("session-body").innerText, document.getElementById("call-list").innerText]');
   await browser.at('POST', '/refresh', {});
   await ready();
   await watchErrors();
   const after = await run(browser, 'return [document.getElementById("session-body").innerText, document.getElementById("call-list").innerText]');
   hold(before.join() === after.join(), 'a reload keeps the session, what changed and the calls');
+}
+
+async function reload() {
+  await holdSameAfterReload();
   hold(!(await run(browser, 'return document.getElementById("lines").hidden')), 'a reload keeps the way to send');
 }
 
@@ -178,12 +191,99 @@ async function freshAsks() {
   await holdText('#call-list', 'none');
 }
 
+const isAsking = () => run(browser, 'return document.getElementById("ask").open');
+
+// Nothing is asked of a fresh session, and nothing of a watch-only one with empty stores: neither loses anything.
+async function watchOnlyAtOnce() {
+  for (const number of [1, 2]) {
+    await click(browser, '#watch');
+    hold(!(await isAsking()), 'watch-only opens without asking');
+    await holdText('#heard', `Call ${number}, Open watch-only: opened, both stores empty`);
+    await holdText('#is-profile', 'watch-only');
+  }
+  await click(browser, '#fresh');
+  await holdText('#ask-yes', 'Begin anew');
+  await click(browser, '#ask-yes');
+  await holdText('#is-profile', 'full');
+}
+
+async function watchOnlyAsks() {
+  await click(browser, '#bring-up');
+  await click(browser, '#watch');
+  await holdText('#ask-words', 'no undo leads back');
+  await holdText('#ask-yes', 'Open watch-only');
+  await press(browser, 'escape');
+  await holdText('#is-profile', 'full');
+  await holdText('#undo-next', '6 held');
+  await click(browser, '#watch');
+  await click(browser, '#ask-yes');
+  await holdText('#is-profile', 'watch-only');
+  await holdText('#is-profile', 'changed; was full');
+  await holdText('#watch-only', 'nothing but the pending logs');
+  await holdText('#journal', 'nothing to undo');
+  await holdText('#is-limit', '1,500 W');
+  await holdText('#call-list li', 'Open watch-only');
+  await holdText('#trace-said', 'Only the first 6 of 7 can stand in a trace: a trace has no kind for watch.');
+}
+
+async function watchOnlyRefuses() {
+  await click(browser, 'input[name=way][value=prepared]');
+  await choosePrepared('user');
+  await click(browser, '#send-prepared');
+  await holdText('#verdict', 'status 16 present state prohibits');
+  await holdText('#why', 'The session is watch-only: poll and clear log alone are open.');
+  await holdText('#is-limit', '1,500 W');
+  await shot('watch-light');
+  await choosePrepared('cores');
+  await click(browser, '#send-prepared');
+  await holdText('#verdict', 'status 05/20 denied chip-op access');
+  await holdText('#why', 'The session is watch-only, and the request would make an entry.');
+  await holdText('#bell', '8000: response');
+  await choosePrepared('poll');
+  await click(browser, '#send-prepared');
+  await holdText('#verdict', 'status 00 success');
+  await click(browser, '#undo');
+  await holdText('#verdict', 'answer 6: nothing to undo');
+}
+
+// A reload, looking back, and the report's lines, which open it again.
+async function watchOnlyKept() {
+  await holdSameAfterReload();
+  await holdText('#is-profile', 'watch-only');
+  await click(browser, '#call-list li:last-child button');
+  await holdText('#is-profile', 'full');
+  await click(browser, '#to-now');
+  await holdText('#is-profile', 'watch-only');
+  const report = await run(browser, 'return document.getElementById("report").textContent');
+  hold(report.split('\n').includes('watch'), 'the report has a line watch');
+  const shown = await textOf(browser, '#session-body');
+  await click(browser, 'input[name=way][value=lines]');
+  await runLines(`fresh\n${report}`);
+  await click(browser, '#ask-yes');
+  await holdText('#line-answers', '0 07 22 16');
+  hold((await textOf(browser, '#session-body')) === shown, 'the lines of the report give the same watch-only session');
+}
+
+// A line asks as the button does.
+async function watchLineAsks() {
+  await runLines('fresh\nsend 10 21 03 01');
+  await click(browser, '#ask-yes');
+  await runLines('watch\nsend 10 21 03 00');
+  await holdText('#ask-yes', 'Open watch-only');
+  await click(browser, '#ask-no');
+  await holdText('#is-profile', 'full');
+  await click(browser, '#send-lines');
+  await click(browser, '#ask-yes');
+  await holdText('#line-answers', '0\n0 02 21 16 00 01 00 00 3A');
+  await holdText('#is-profile', 'watch-only');
+}
+
 async function trace(name, folder) {
   await choose(browser, '#trace-file', path.join(top, folder, `${name}.trace`));
   const lines = fs.readFileSync(path.join(top, folder, `${name}.lines`), 'latin1').trimEnd();
-  if (await run(browser, 'return document.getElementById("ask").open')) await click(browser, '#ask-yes');
+  if (await isAsking()) await click(browser, '#ask-yes');
   for (let tries = 0; tries < 80 && (await textOf(browser, '#trace-lines')).trimEnd() !== lines; tries++) {
-    if (await run(browser, 'return document.getElementById("ask").open')) await click(browser, '#ask-yes');
+    if (await isAsking()) await click(browser, '#ask-yes');
     await soon();
   }
   hold((await textOf(browser, '#trace-lines')).trimEnd() === lines, `the lines of ${name}.trace are those of replay`);
@@ -200,7 +300,7 @@ async function saveAndLoad() {
   const file = path.join(folder, 'bjargolsk.image');
   await click(browser, '#save-image');
   for (let tries = 0; tries < 80 && !fs.existsSync(file); tries++) await soon();
-  hold(fs.readFileSync(file).length === 4410, 'the image that was saved has 4,410 bytes');
+  hold(fs.readFileSync(file).length === 4411, 'the image that was saved has 4,411 bytes');
   await click(browser, '#fresh');
   await click(browser, '#ask-yes');
   hold((await shown()) !== before, 'the fresh session is another one');
@@ -216,7 +316,7 @@ async function saveAndLoad() {
 
 async function imageAndSeeprom() {
   const damaged = path.join(fs.mkdtempSync(path.join(os.tmpdir(), 'web-tour-')), 'damaged.image');
-  fs.writeFileSync(damaged, new Uint8Array(4410));
+  fs.writeFileSync(damaged, new Uint8Array(4411));
   await choose(browser, '#image-file', damaged);
   await click(browser, '#ask-yes');
   await holdText('#session-body', 'isn’t well formed');
@@ -224,7 +324,7 @@ async function imageAndSeeprom() {
   await holdText('#verdict', 'answer 1: the session isn’t well formed');
   fs.writeFileSync(damaged, 'too short');
   await choose(browser, '#image-file', damaged);
-  await holdText('#notice', 'An image has 4410 bytes');
+  await holdText('#notice', 'An image has 4411 bytes');
   await click(browser, '#fresh');
   await click(browser, '#ask-yes');
   fs.writeFileSync(damaged, Uint8Array.from({ length: 20 }, (_, at) => at));
@@ -238,7 +338,7 @@ async function imageAndSeeprom() {
   fs.rmSync(path.dirname(damaged), { recursive: true });
 }
 
-// Nothing but keys: a role from the top of the page on, then undo.
+// Nothing but keys: a role from the top of the page on, then undo, redo, and watch-only with its question.
 async function keysAlone() {
   await click(browser, '#fresh');
   await click(browser, '#ask-yes');
@@ -261,6 +361,14 @@ async function keysAlone() {
   await reach('redo');
   await press(browser, 'enter');
   await holdText('#is-role', 'master');
+  await run(browser, 'document.getElementById("bring-up").focus()');
+  await reach('watch');
+  await press(browser, 'enter');
+  hold((await focused(browser)) === 'ask-no', 'the question has the focus, at what loses nothing');
+  await reach('ask-yes');
+  await press(browser, 'enter');
+  await holdText('#is-profile', 'watch-only');
+  hold((await focused(browser)) === 'watch', 'the focus is back at the button');
 }
 
 // What a screen reader needs: each control has a name, no id twice, one first heading.
@@ -281,7 +389,7 @@ const LOOKS = [
 
 async function noneSticksOut(name) {
   const out = await run(browser, `const wide = document.documentElement.clientWidth;
-    return [...document.querySelectorAll('main *')].filter((one) => one.getBoundingClientRect().right > wide + 1 && !one.closest('pre, .unseen, svg'))
+    return [...document.querySelectorAll('header *, main *')].filter((one) => one.getBoundingClientRect().right > wide + 1 && !one.closest('pre, .unseen, svg'))
       .map((one) => one.tagName + '#' + one.id).slice(0, 5)`);
   hold(out.length === 0, `${name}: sticks out to the right: ${out}`);
 }
@@ -321,6 +429,7 @@ async function pictures() {
 try {
   await look(browser, LOOKS[0][1]);
   for (const part of [bringUp, capAndPoll, undoAndRedo, wrongPacket, wrongTyped, mailbox, lines, reload, lookBack, freshAsks]) await part();
+  for (const part of [watchOnlyAtOnce, watchOnlyAsks, watchOnlyRefuses, watchOnlyKept, watchLineAsks]) await part();
   await trace('bring-up', 'examples');
   await trace('kind-ff-third', 'second/cases/traces');
   await trace('undo-300-times', 'second/cases/traces');

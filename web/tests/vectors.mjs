@@ -5,7 +5,9 @@ import { call, freshImage, openLibrary, SESSION } from '../src/library.js';
 import { readTrace, replayLine, traceOf } from '../src/trace.js';
 import { readLine, framed } from '../src/lines.js';
 import { same, hexOf } from '../src/bytes.js';
-import { newBench, carryOut, occOrder } from '../src/bench.js';
+import {
+  newBench, carryOut, occOrder, benchOf, keptText, losesByWatch, imagesAround, reportLines, reportTrace,
+} from '../src/bench.js';
 import { PREPARED, BRING_UP, preparedBy, mailboxed, readField } from '../src/commands.js';
 import { readSession } from '../src/session.js';
 import { readStore } from '../src/entries.js';
@@ -103,10 +105,15 @@ const kindsIn = (bench, store) => {
   return read.entries.map((entry) => entry.kind);
 };
 
-// Each prepared command is accepted as it stands, on an active master; together they make an entry of every kind, and all of them can be taken back.
-function holdPrepared() {
+function activeMaster() {
   const bench = newBench(library);
   for (const [id, values] of BRING_UP) carryOut(bench, occOrder(bench, 0x10, preparedBy(id).type, preparedBy(id).data(values)));
+  return bench;
+}
+
+// Each prepared command is accepted as it stands, on an active master; together they make an entry of every kind, and all of them can be taken back.
+function holdPrepared() {
+  const bench = activeMaster();
   carryOut(bench, { name: 'seeprom', bytes: new Uint8Array(8) });
   // A log that can be cleared, and standby, where the role is open.
   const order = ['reset', ...PREPARED.map((one) => one.id).filter((id) => id !== 'reset' && id !== 'state'), 'state'];
@@ -119,6 +126,61 @@ function holdPrepared() {
   for (const kind of [...kinds].reverse()) if (carryOut(bench, { name: 'undo' }).heard.high !== kind) fail('undo takes another kind than the stack shows');
   if (kindsIn(bench, 'redo').join() !== [...kinds].reverse().join()) fail('the redo store shows other kinds than were taken back');
   console.log(`web/test: ${PREPARED.length} prepared commands are accepted; ${kinds.length} entries of 12 kinds, taken back as the stacks show them`);
+}
+
+// ---- watch-only
+
+const OPEN_TO_WATCH = ['poll', 'clear', 'exit', 'ring', 'read'];
+
+function watchedStatus({ id, request }) {
+  if (OPEN_TO_WATCH.includes(id)) return request ? '00 00 00 00' : '00';
+  return request ? '00 05 00 20' : '16';
+}
+
+// A master with a log, an entry in each store, and a watch-only session opened over it.
+function watchedBench() {
+  const bench = activeMaster();
+  if (losesByWatch(newBench(library)) || !losesByWatch(bench)) fail('what opening watch-only loses is told wrongly, of a fresh session or a master');
+  for (const id of ['reset', 'cores']) carryOut(bench, preparedAlone(bench, preparedBy(id)));
+  carryOut(bench, { name: 'undo' });
+  carryOut(bench, { name: 'watch' });
+  if (losesByWatch(bench)) fail('a watch-only session with empty stores is told to lose something');
+  return bench;
+}
+
+// The record and what is worked out of it, the next id and the timer; not the stores, nor the profile.
+const KEPT_BY_WATCH = [[0, 237], [4401, 4410]];
+
+function holdOpened(bench, at) {
+  const { before, after } = imagesAround(bench, at);
+  if (!KEPT_BY_WATCH.every(([from, end]) => same(before.slice(from, end), after.slice(from, end)))) fail('opening watch-only alters more than stores and profile');
+  if (!after.slice(237, 4401).every((byte) => byte === 0)) fail('opening watch-only leaves something in the stores');
+  if (readSession(before).profile !== 0 || readSession(after).profile !== 1) fail('the profile isn’t read as full, then watch-only');
+}
+
+// What was kept, and what is reported, lead to the same session.
+function holdCarriedOn(bench, at) {
+  if (!same(benchOf(library, keptText(bench)).image, bench.image)) fail('a reload gives another watch-only session');
+  const standin = newStandin(library, helpLines);
+  for (const line of reportLines(bench, true)) answerTo(standin, line);
+  if (!same(standin.image, bench.image)) fail('the lines of the report give another watch-only session');
+  const { entries, bar } = reportTrace(bench);
+  if (entries !== at || bar !== 'a trace has no kind for watch') fail(`the trace ends after ${entries} entries: ${bar}`);
+}
+
+function holdWatch() {
+  const bench = watchedBench();
+  const at = bench.items.length - 1;
+  holdOpened(bench, at);
+  carryOut(bench, { name: 'seeprom', bytes: new Uint8Array(8) });
+  for (const prepared of PREPARED) {
+    const status = statusOf(carryOut(bench, preparedAlone(bench, prepared)));
+    if (status !== watchedStatus(prepared)) fail(`watch-only: the prepared ${prepared.id} is answered by status ${status}`);
+  }
+  if (kindsIn(bench, 'journal').join() !== '1' || !losesByWatch(bench)) fail('watch-only: the clear isn’t held alone');
+  for (const name of ['undo', 'redo']) if (carryOut(bench, { name }).heard.high !== 1) fail(`watch-only: ${name} doesn’t move the clear`);
+  holdCarriedOn(bench, at);
+  console.log(`web/test: watch-only: ${OPEN_TO_WATCH.length} of ${PREPARED.length} prepared commands are open, the others refused by 16 and 05/20; kept, reported, traced up to it`);
 }
 
 // Cases that were stored for another length of the image say nothing about this library.
@@ -139,3 +201,4 @@ holdStored(process.env.WEB_STDIN ?? 'crates/standin/stdin', process.env.WEB_STDO
 holdTraces();
 holdMadeTrace();
 holdPrepared();
+holdWatch();

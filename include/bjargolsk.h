@@ -117,7 +117,7 @@ uint32_t bjargolsk_undo(uint8_t *session, size_t session_length);
 uint32_t bjargolsk_redo(uint8_t *session, size_t session_length);
 
 /* Forgets the n oldest changes, which can't be taken back any more, and moves the rest down: their room in the journal is used again. The record, the
- * timer, the next id and what can be redone stay; n = 0 changes nothing. Answers 0, 1 and 9; nothing stands beside the answer. */
+ * timer, the profile, the next id and what can be redone stay; n = 0 changes nothing. Answers 0, 1 and 9; nothing stands beside the answer. */
 uint32_t bjargolsk_forget(uint8_t *session, size_t session_length, uint32_t n);
 
 /* Opens a watch-only session over this one and in its place: the record, the timer and the next id stay, and the journal and what can be redone are empty.

@@ -92,7 +92,7 @@ recordRows r =
     ++ (logsRows (r .received) (r .logs)
     ++ mailboxRows (r .mask) (r .deadman) (r .areas))))
 
--- and the profile
+-- the timer's rows, and the profile's behind them
 unfoldable pub timerRows : Timer → ℕ → List (List ℕ)
 timerRows t profile =
     byte (t .running)  -- 4401
@@ -188,10 +188,6 @@ headRenewed h held next used ahead = record { held = held; worked = workedOf hel
 -- and one with another timer
 unfoldable pub headTimed : Head → Timer → Head
 headTimed h timer = record { held = h .held; worked = h .worked; next = h .next; used = h .used; ahead = h .ahead; timer = timer; profile = h .profile }
-
--- and one with another profile
-unfoldable pub headProfiled : Head → ℕ → Head
-headProfiled h profile = record { held = h .held; worked = h .worked; next = h .next; used = h .used; ahead = h .ahead; timer = h .timer; profile = profile }
 
 -- where each store stands: the journal, which holds what was before, and the redo store, which holds what was after
 unfoldable pub storeAt : Way → ℕ

@@ -3,7 +3,7 @@ ghost use mathlib.Core.Path.{_≡_};
 ghost use Prim.Native.Nat.{_≤_, _+_};
 ghost use lib.ListN.{length};
 ghost use Rattle.wire.specs.Wire.{pasted, Bytes, joined};
-ghost use Rattle.image.specs.Image.{headRows, throttlesRows, thermalRows, logsRows, mailboxRows, workedRows, recordRows, imageOf, writtenTo, partAt, capsIn, throttlesIn, receivedIn, logAt, logsIn, deadmanIn, areasIn, recordIn, workedIn, timerRows, timerIn, headIn, headRenewed, headTimed, headProfiled, storeAt, journalIn, redoIn, marksIn, sessionIn};
+ghost use Rattle.image.specs.Image.{headRows, throttlesRows, thermalRows, logsRows, mailboxRows, workedRows, recordRows, imageOf, writtenTo, partAt, capsIn, throttlesIn, receivedIn, logAt, logsIn, deadmanIn, areasIn, recordIn, workedIn, timerRows, timerIn, headIn, headRenewed, headTimed, storeAt, journalIn, redoIn, marksIn, sessionIn};
 ghost use Rattle.layout.specs.Layout.{journalAt, timerAt, imageLength};
 use journal::Way;
 use record::Area;
@@ -49,15 +49,6 @@ pub fn with_timer(h: Head, timer: Timer) -> Head
 {
     let mut after = h;
     after.timer = timer;
-    after
-}
-
-// And one with another profile.
-pub fn with_profile(h: Head, profile: u8) -> Head
-    ensures { λ x. ⌜ x ≡ headProfiled h profile ⌝ }
-{
-    let mut after = h;
-    after.profile = profile;
     after
 }
 

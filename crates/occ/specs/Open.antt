@@ -1,5 +1,5 @@
--- Document 02, k: "Write the table of what is open once, for both profiles". HTMGT may send every type, and every type is open in a full session; a row says
--- whether the BMC may send it, and whether it is open in a watch-only session.
+-- Document 02, k: "Write the table of what is open once, for both profiles". HTMGT may send every type that there is, and each is open in a full session; a row says
+-- whether the BMC may send it, and whether it is open in a watch-only session. An unknown type is 0x11, whoever sends it (Judge.antt).
 use Prim.Native.Nat.{ℕ}
 use mathlib.Core.Bool.{Bool, true, false, cond, not}
 use lib.Dec.{eqb}

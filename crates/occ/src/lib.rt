@@ -345,7 +345,7 @@ fn opens(bmc: bool, watch: bool) -> Row
     }
 }
 
-// The table of what is open, to the BMC and in a watch-only session: HTMGT may send every type, and every type is open in a full session.
+// The table of what is open, to the BMC and in a watch-only session: HTMGT may send every known type, and each is open in a full session.
 fn row_of(kind: u8) -> Row
     ensures { λ x. ⌜ x ≡ rowOf kind ⌝ }
 {

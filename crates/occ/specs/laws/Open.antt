@@ -150,8 +150,3 @@ module _ (r : Record) (w : Worked) (next sender : ℕ) (d : List ℕ) where
   open-clears profile kind ch full e =
       let made = made-open profile kind _ ch e in
       ⊎-elim (λ z. absurd (full z)) (λ k. subst Clears (made .1) (clears-at kind k)) (open-in-exactly profile kind .0 (made .0))
-
--- in a full session it does nothing
-pub full-stays : (kind : ℕ) (v : Verdict) → byProfile 0 kind v ≡ v
-unfolding byProfile openIn
-full-stays kind v = refl

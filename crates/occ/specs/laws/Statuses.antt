@@ -187,8 +187,8 @@ configure-rows state role d =
     (by-rows Declines (eq-holds _ _) (throttles-rows d)
     (by-rows Declines (eq-holds _ _) (thermal-rows d) (plain (refuses 0x13))))))
 
-shut-exactly : (sender kind : ℕ) → (not (openTo sender kind) ≡ true) ↔ ((sender ≡ 0x20) and (kind ≡ 0x00 → ⊥) and (kind ≡ 0x22 → ⊥))
-shut-exactly sender kind =
+barred-exactly : (sender kind : ℕ) → (not (openTo sender kind) ≡ true) ↔ ((sender ≡ 0x20) and (kind ≡ 0x00 → ⊥) and (kind ≡ 0x22 → ⊥))
+barred-exactly sender kind =
     subst (λ (b : Bool). (not b ≡ true) ↔ ((sender ≡ 0x20) and (kind ≡ 0x00 → ⊥) and (kind ≡ 0x22 → ⊥))) (sym (open-to-is sender kind))
     (unless not refl (not-passes (eq-holds _ _)) (unless not refl (eq-passes _ _) (differs _ _)))
 
@@ -196,7 +196,7 @@ pub judge-rows : (r : Record) (w : Worked) (next sender kind : ℕ) (d : List �
     → ByTable Declines (judgeOf r w next sender kind d) (CommandStatus r w next sender kind d)
 unfolding judgeOf typeJudged CommandStatus
 judge-rows r w next sender kind d four =
-    by-rows Declines (shut-exactly sender kind) (plain (refuses 0x11))
+    by-rows Declines (barred-exactly sender kind) (plain (refuses 0x11))
     (by-rows Declines (eq-holds _ _) (plain (poll-rows d))
     (by-rows Declines (eq-holds _ _) (plain (clear-rows (r .logs) d four))
     (by-rows Declines (eq-holds _ _) (plain (state-rows w d))

@@ -7,6 +7,7 @@ pub mod Demand2
 pub mod Effects
 pub mod History
 pub mod Sittings
+pub mod Isolation
 pub mod NoTrace
 pub mod Ids
 pub mod Marks

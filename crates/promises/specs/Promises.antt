@@ -100,6 +100,8 @@ use Rattle.promises.specs.Passed.{MarksStand, PassedAsHeld}
 use Rattle.promises.specs.laws.Passed.{session-marks, passed-as-held, none-passed, few-passed}
 use Rattle.promises.specs.Replays.{callsIn, wholePart, linesBy, PlaysUpTo}
 use Rattle.promises.specs.laws.Replays.{trace-bytes, plays-up-to, replay-run, replay-lines, play-leaves, broken-lines, broken-image}
+use Rattle.promises.specs.Isolation.{AllShare, occsIn, occsHeard, OccsFit, postsIn, postsHeard, SbesFit}
+use Rattle.promises.specs.laws.Isolation.{occ-isolated, sbe-isolated}
 use Rattle.promises.specs.Partings.{firstEntries, PlaysAsFirst}
 use Rattle.promises.specs.laws.Partings.{same-first, part-plays-as-first, part-plays-as-second}
 use Rattle.promises.specs.Examples.{All, holds, table}
@@ -556,6 +558,20 @@ redo-after-undo cs b = redo-undone freshRecord 1 (after cs) (invariant freshReco
 
 pub no-id-twice : (cs : List Call) → AllOfBytes cs → idsMade (run (start freshSession) cs .marks) ≡ countdown 1 (logsMade (run (start freshSession) cs .marks))
 no-id-twice cs b = ids-in-order freshRecord 1 cs (start freshSession) b fresh-start
+
+-- ---- document 02, g: "The thermal people share a session with the SBE people and want to know that they can" (Isolation.antt; what is left out, and why: docs/ISOLATION.md)
+
+-- "Take two fresh sessions given the same OCC exchanges in the same order, with any different SBE exchanges mixed in, no undo or redo in either, and no answer 5 to an OCC
+-- command in either. Then all OCC answers and reply bytes are the same in both", and the data bytes told beside the answers
+pub sbe-work-doesnt-leak : (cs ds : List Call) → AllShare cs → AllShare ds → AllOfBytes cs → AllOfBytes ds
+    → occsIn cs ≡ occsIn ds → OccsFit freshSession cs → OccsFit freshSession ds → occsHeard freshSession cs ≡ occsHeard freshSession ds
+sbe-work-doesnt-leak = occ-isolated
+
+-- "also the other way round, with answer 5 to an SBE request excluded", and h: "with equal images and equal time reports at the same places": all answers, doorbells, reply
+-- buffers and second buffers, the reports' doorbells among them
+pub occ-work-doesnt-leak : (cs ds : List Call) → AllShare cs → AllShare ds → AllOfBytes cs → AllOfBytes ds
+    → postsIn cs ≡ postsIn ds → SbesFit freshSession cs → SbesFit freshSession ds → postsHeard freshSession cs ≡ postsHeard freshSession ds
+occ-work-doesnt-leak = sbe-isolated
 
 -- ---- every session handed in, right or damaged, at the bytes that are lent: b is any bytes, and those of an image's length are one of a session. So what is
 -- promised above of every session s with `TypedSession s` holds of every image, at `sessionOf b`

@@ -54,3 +54,4 @@ pub mod Moved
 pub mod Moves
 pub mod Effects
 pub mod Answers
+pub mod Isolation

@@ -20,6 +20,7 @@ use Rattle.record.specs.declared.Record.{Record}
 use Rattle.record.specs.declared.Worked.{Worked}
 use Rattle.change.specs.Change.{noTables}
 use Rattle.change.specs.Logs.{pendingOf, findOf}
+use Rattle.change.specs.laws.Timed.{NoTimer, by-timer}
 use Rattle.change.specs.declared.Change.{Change}
 use Rattle.change.specs.declared.Change.the-variants.{Clear, Unclear, SetState, SetRole, SetCaps, SetUser, SetThermal, SetThrottles, Reset, Unreset, SetMask, SetDeadman, SetAreas, SetTimer}
 use Rattle.change.specs.declared.Tables.{Tables}
@@ -233,6 +234,10 @@ module _ (r : Record) (w : Worked) (next sender kind : ℕ) (d : List ℕ) (byte
   occ-made (SetDeadman deadman) e = absurd (shape _ e)
   occ-made (SetAreas areas) e = absurd (shape _ e)
   occ-made (SetTimer timer) e = absurd (shape _ e)
+
+  -- none of them sets the timer
+  pub occ-no-timer : (ch : Change) → j .verdict ≡ Make ch → NoTimer ch
+  occ-no-timer = by-timer (λ (ch : Change). j .verdict ≡ Make ch → NoTimer ch) (λ x e. absurd (shape _ e)) (λ ch n e. n)
 
 -- ---- SBE
 

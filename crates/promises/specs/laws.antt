@@ -7,6 +7,7 @@ pub mod Ids
 pub mod Timed
 pub mod Struck
 pub mod Marks
+pub mod OccWalk
 pub mod Sound
 pub mod Profiles
 pub mod Settled

@@ -1,20 +1,19 @@
 -- Document 02, g: what each side hears is what it would hear alone. Assumes nothing.
 use Prim.Native.Nat.{ℕ, _+_}
 use mathlib.Core.Bool.{Bool, true, false, cond, not, true≢false}
-use mathlib.Core.Logic.{_⊎_, inl, inr, ⊎-elim}
-use mathlib.Core.Path.{_≡_, refl, sym, ap, ap₂, subst, _∙_}
+use mathlib.Core.Logic.{⊎-elim}
+use mathlib.Core.Path.{_≡_, refl, sym, ap, subst, _∙_}
 use mathlib.Core.List.{List, [], _∷_}
-use native.Mathlib.Omega.{arith}
-use borrow.Author.Tests.{not-true, eqb-true, eqb-false}
+use borrow.Author.Tests.{eqb-true, eqb-false}
 use lib.Dec.{ltb, leb, eqb}
 use lib.ListN.{length, getD}
-use Rattle.wire.specs.Wire.{Bytes, pasted}
-use Rattle.wire.specs.laws.Cases.{cond-elim, cond-cases, by-both, else-b, if-b}
-use Rattle.record.specs.Record.{freshRecord, limitOf, observationReady, activeReady, capsMissing, wantedOf, workedOf}
+use Rattle.wire.specs.Wire.{Bytes}
+use Rattle.wire.specs.laws.Cases.{cond-elim, cond-cases, by-both, else-b}
+use Rattle.record.specs.Record.{freshRecord, workedOf}
 use Rattle.record.specs.declared.Record.{Record}
 use Rattle.record.specs.declared.Timer.{Timer}
 use Rattle.record.specs.declared.Worked.{Worked}
-use Rattle.change.specs.Change.{noTables, accepted, refused, clearOf, unclearOf, resetOf, unresetOf, putWith, putOf, takesBack, timerAfter}
+use Rattle.change.specs.Change.{noTables, accepted, refused, clearOf, unclearOf, resetOf, unresetOf, putWith, putOf, takesBack}
 use Rattle.change.specs.Logs.{pendingOf, pendsAt}
 use Rattle.change.specs.With.{withState, withRole, withCaps, withThrottles, withUser, withThermal, withLogs, withMask, withDeadman, withAreas}
 use Rattle.change.specs.declared.Change.{Change}
@@ -23,13 +22,13 @@ use Rattle.change.specs.declared.Changed.{Changed}
 use Rattle.change.specs.declared.Edit.{Edit}
 use Rattle.change.specs.declared.Tables.{Tables}
 use Rattle.change.specs.laws.Timed.{NoTimer, timer-kept}
-use Rattle.packet.specs.Packet.{packetStatus, dataOf, noLogId, replied}
+use Rattle.packet.specs.Packet.{dataOf, replied}
 use Rattle.poll.specs.Poll.{pollData}
 use Rattle.journal.specs.Add.{endOf}
 use Rattle.journal.specs.declared.End.{End}
 use Rattle.journal.specs.declared.End.the-variants.{At, Full}
-use Rattle.occ.specs.Judge.{plainly, configureJudged, typeJudged, judgeOf}
-use Rattle.occ.specs.Open.{openIn, shut, byProfile}
+use Rattle.occ.specs.Judge.{typeJudged, judgeOf}
+use Rattle.occ.specs.Open.{openIn, byProfile}
 use Rattle.occ.specs.laws.Open.{made-open}
 use Rattle.occ.specs.declared.Judged.{Judged}
 use Rattle.occ.specs.declared.Verdict.{Verdict}
@@ -41,8 +40,8 @@ use Rattle.places.specs.Places.{faultOf}
 use Rattle.places.specs.declared.Blame.{Blame}
 use Rattle.places.specs.declared.Blame.the-variants.{Nothing}
 use Rattle.session.specs.Session.{freshSession, wellFormed, madeOf, renewed, withTimer, carriedTo, carriedOf}
-use Rattle.session.specs.Road.{Asks, refuses, tells, makes, moves, forgets, passes, opens, due, timePassed, Said, kept, done, carriedSays, settled}
-use Rattle.session.specs.laws.Road.{due-cases, refusal-keeps, error-keeps}
+use Rattle.session.specs.Road.{Asks, refuses, makes, passes, due, timePassed, Said, kept, done, carriedSays, settled}
+use Rattle.session.specs.laws.Road.{refusal-keeps, error-keeps}
 use Rattle.session.specs.laws.Session.{formed}
 use Rattle.session.specs.laws.Timer.{carried-timer}
 use Rattle.session.specs.declared.Session.{Session}
@@ -63,6 +62,7 @@ use Rattle.promises.specs.laws.Demand3.{Inv, formed as formed-so, next-i
 use Rattle.promises.specs.laws.Fresh.{fresh-start}
 use Rattle.promises.specs.laws.Lent.{run-typed}
 use Rattle.promises.specs.laws.Profiles.{profile-stays}
+use Rattle.promises.specs.laws.OccWalk.{judged, final, askedBy, occ-walk}
 use Rattle.promises.specs.laws.Replies.{front-is}
 
 -- ---- what OCC exchanges read and write of a record isn't the mailbox's part
@@ -209,32 +209,21 @@ module _ (s : Session) (ok : wellFormed s ≡ true) (full : s .profile ≡ 0) (s
     abbrev Keeps : Asks → Type 0
     Keeps a = settled s d a .session .timer ≡ s .timer
 
-    abbrev judged : Judged
-    judged = judgeOf (s .held) (s .worked) (s .next) sender (getD c 1 0) (dataOf c)
-
     carried-keeps : (e : Edit) → NoTimer (e .change) → (y : List ℕ) → Keeps (makes e 0 y)
     unfolding settled carriedSays kept done
     carried-keeps e other y = cond-cases (λ (q : Said). q .session .timer ≡ s .timer) (carriedOf s e .full) (λ f. refl) (λ f. carried-timer s e f ∙ timer-kept (s .timer) (e .change) other)
 
-    verdict-keeps : (v : Verdict) → byProfile (s .profile) (getD c 1 0) (judged .verdict) ≡ v → Keeps (asked-by (judged .tables) v)
+    verdict-keeps : (v : Verdict) → final s sender c d (judged s sender c d .verdict) ≡ v → Keeps (askedBy s sender c d (judged s sender c d .tables) v)
     unfolding occs.verdictAsks settled done
     verdict-keeps (Refuse status) e = refl
     verdict-keeps Poll e = refl
     verdict-keeps (Make ch) e =
-        carried-keeps (record { change = ch; tables = judged .tables })
-        (occ-no-timer (s .held) (s .worked) (s .next) sender (getD c 1 0) (dataOf c) (data-bytes c bytes) (formed s ok .record-ok) typed ch (made-open (s .profile) (getD c 1 0) (judged .verdict) ch e .1)) _
-
-    refused-keeps : (status : ℕ) (t : Tables) → Keeps (asked-by t (byProfile (s .profile) (getD c 1 0) (Refuse status)))
-    unfolding byProfile shut occs.verdictAsks settled done
-    refused-keeps status t =
-        cond-elim (λ (v : Verdict). Keeps (asked-by t v)) (openIn (s .profile) (getD c 1 0)) refl (cond-elim (λ (v : Verdict). Keeps (asked-by t v)) (eqb status 0x15) refl refl)
+        carried-keeps (record { change = ch; tables = judged s sender c d .tables })
+        (occ-no-timer (s .held) (s .worked) (s .next) sender (getD c 1 0) (dataOf c) (data-bytes c bytes) (formed s ok .record-ok) typed ch (made-open (s .profile) (getD c 1 0) (judged s sender c d .verdict) ch e .1)) _
 
     pub occ-timer : occs.occCall s sender c d .session .timer ≡ s .timer
-    unfolding occs.occCall occs.occAsks occs.occRead occs.askedOf occs.askedFor occs.judgedAsks plainly settled kept
-    occ-timer =
-        due-cases Keeps (occs.occRefusal s sender (length c) (length d)) (λ z. refl)
-        (λ z. cond-cases (λ (x : Judged). Keeps (occs.judgedAsks (s .profile) (s .held) (s .worked) (getD c 0 0) (getD c 1 0) d x)) (not (eqb (packetStatus c) 0))
-        (λ f. refused-keeps (packetStatus c) noTables) (λ f. verdict-keeps _ refl))
+    unfolding occs.occCall occs.verdictAsks settled kept done
+    occ-timer = occ-walk s sender c d Keeps (λ n. refl) (λ status t. refl) (λ w. verdict-keeps)
 
 -- ---- mailbox requests and time reports leave the bench alone
 

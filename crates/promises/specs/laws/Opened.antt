@@ -1,8 +1,8 @@
 -- A well-formed session whose stores are empty starts a history; a fresh one does. Assumes nothing.
-use Prim.Native.Nat.{ℕ, _+_, _≤_}
+use Prim.Native.Nat.{ℕ}
 use mathlib.Core.Bool.{true}
 use mathlib.Core.Logic.{inl, inr, ⊎-elim}
-use mathlib.Core.Path.{_≡_, refl, sym, ap, ap₂, subst, _∙_}
+use mathlib.Core.Path.{_≡_, refl, sym, ap, subst, _∙_}
 use mathlib.Core.List.{List, []}
 use native.Mathlib.Nat.{add-zero}
 use native.Mathlib.Omega.{arith}
@@ -10,7 +10,6 @@ use lib.ListN.{length, drop}
 use lib.Seq.{take-all}
 use Rattle.wire.specs.Wire.{allAre}
 use Rattle.wire.specs.laws.Wire.{take-all-are}
-use Rattle.formed.specs.Formed.{recordOk}
 use Rattle.journal.specs.Ways.{byWay}
 use Rattle.journal.specs.declared.Way.{Way}
 use Rattle.journal.specs.declared.Way.the-variants.{Before, After}

@@ -80,7 +80,7 @@ module _ (s : Session) where
   moved w a (barred x e n bar) = tt
   moved w a (goes x e n u) = tt
 
-  no-opening : (c : Call) → NoOpening (asks s c)
+  pub no-opening : (c : Call) → NoOpening (asks s c)
   unfolding asks forgetAsks oldestAsks timeAsks
   no-opening (occ sender c d) = spoken d _ _ (occAsks s sender c d) (occ-speaks s sender c d)
   no-opening (sbe r d m x) = spoken d _ _ (sbeAsks s r d m x) (sbe-speaks s r d m x)

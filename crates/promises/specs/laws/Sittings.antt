@@ -1,15 +1,14 @@
 -- Document 02, k: demand 3 through any calls and openings. Assumes nothing.
 use Prim.Native.Nat.{ℕ}
 use mathlib.Core.Bool.{true, not}
-use mathlib.Core.Path.{_≡_, refl, sym, ap, subst, _∙_}
+use mathlib.Core.Path.{_≡_, refl, sym, ap, subst}
 use mathlib.Core.List.{List, [], _∷_}
 use native.Mathlib.Omega.{arith}
-use lib.Dec.{eqb}
 use lib.ListN.{length-replicate}
-use Rattle.wire.specs.laws.Cases.{cond-cases, else-b}
+use Rattle.wire.specs.laws.Cases.{else-b}
 use Rattle.marks.specs.laws.Marks.{length-marks}
 use Rattle.session.specs.Session.{wellFormed, renewed, withProfile}
-use Rattle.session.specs.Road.{Asks, refuses, opens, watchOnly, Said, done, settled}
+use Rattle.session.specs.Road.{refuses, opens, watchOnly, Said, done, settled}
 use Rattle.session.specs.laws.Watch.{watch-formed}
 use Rattle.session.specs.declared.Session.{Session}
 use Rattle.links.specs.Typed.{TypedSession}

@@ -10,15 +10,12 @@ use lib.Dec.{eqb, ltb}
 use lib.ListN.{length, getD}
 use Rattle.wire.specs.Wire.{Bytes}
 use Rattle.wire.specs.laws.Cases.{cond-elim, cond-cases}
-use Rattle.change.specs.Change.{kindOf, noTables}
+use Rattle.change.specs.Change.{kindOf}
 use Rattle.change.specs.declared.Change.{Change}
-use Rattle.change.specs.declared.Tables.{Tables}
-use Rattle.packet.specs.Packet.{packetStatus, dataOf}
+use Rattle.packet.specs.Packet.{dataOf}
 use Rattle.formed.specs.Formed.{recordOk}
 use Rattle.entries.specs.Entries.{written}
 use Rattle.journal.specs.declared.Way.{Way}
-use Rattle.occ.specs.Judge.{plainly, judgeOf}
-use Rattle.occ.specs.Open.{openIn, shut, byProfile}
 use Rattle.occ.specs.laws.Open.{made-open, open-clears}
 use Rattle.occ.specs.declared.Judged.{Judged}
 use Rattle.occ.specs.declared.Verdict.{Verdict}
@@ -32,7 +29,7 @@ use Rattle.session.specs.Session.{wellFormed}
 use Rattle.session.specs.Road.{heldIn}
 use Rattle.session.specs.declared.Session.{Session}
 use Rattle.forget_call.specs.Forget.{oldestAsks, forgetAsks}
-use Rattle.occ_call.specs.Occ.{occRefusal, verdictAsks, judgedAsks, askedFor, askedOf, occRead, occAsks}
+use Rattle.occ_call.specs.Occ.{verdictAsks, occAsks}
 use Rattle.sbe_call.specs.Sbe as sbes
 use Rattle.sbe_call.specs.Sbe.{sbeRefusal, readStatus, readAt, judgedFor, denied, rulingAsks, sbeRuling, sbeRead, sbeAsks}
 use Rattle.undo_call.specs.Undo.{moveAsks}
@@ -41,6 +38,7 @@ use Rattle.links.specs.Typed.{TypedRecord}
 use Rattle.links.specs.laws.Made.{Made}
 use Rattle.promises.specs.Demand2.{Newest, Movable}
 use Rattle.promises.specs.laws.Asked.{data-bytes, occ-made, sbe-made}
+use Rattle.promises.specs.laws.OccWalk.{judged, final, askedBy, occ-walk}
 use Rattle.promises.specs.laws.UndoDemands.{Called, ill-formed, empty, barred, goes, called}
 
 -- document 02, k: a full session, or a clear
@@ -59,23 +57,16 @@ module _ (s : Session) where
 
   module _ (ok : recordOk (s .held) (s .next) ≡ true) (typed : TypedRecord (s .held)) (sender : ℕ) (c d : List ℕ) (bytes : Bytes c) where
     abbrev j : Judged
-    j = judgeOf (s .held) (s .worked) (s .next) sender (getD c 1 0) (dataOf c)
+    j = judged s sender c d
 
-    abbrev asked : Judged → Asks
-    asked x = judgedAsks (s .profile) (s .held) (s .worked) (getD c 0 0) (getD c 1 0) d x
-
-    -- what the profile lets through
-    abbrev final : Verdict → Verdict
-    final v = byProfile (s .profile) (getD c 1 0) v
-
-    made-lets : (ch : Change) → final (j .verdict) ≡ Make ch → Lets (s .profile) ch
+    made-lets : (ch : Change) → final s sender c d (j .verdict) ≡ Make ch → Lets (s .profile) ch
     made-lets ch e = go (eqb (s .profile) 0) refl
       where
         go : (b : Bool) → eqb (s .profile) 0 ≡ b → Lets (s .profile) ch
         go true t = inl (eqb-true (s .profile) 0 t)
         go false t = inr (open-clears (s .held) (s .worked) (s .next) sender (dataOf c) (s .profile) (getD c 1 0) ch (eqb-false (s .profile) 0 t) e)
 
-    verdict-sound : (v : Verdict) → final (j .verdict) ≡ v → Sound (verdictAsks (s .held) (s .worked) (getD c 0 0) (getD c 1 0) d (j .tables) v)
+    verdict-sound : (v : Verdict) → final s sender c d (j .verdict) ≡ v → Sound (askedBy s sender c d (j .tables) v)
     unfolding verdictAsks
     verdict-sound (Refuse status) e = tt
     verdict-sound Poll e = tt
@@ -84,17 +75,9 @@ module _ (s : Session) where
       made-lets ch e,
     )
 
-    refused-sound : (status : ℕ) (t : Tables) → Sound (verdictAsks (s .held) (s .worked) (getD c 0 0) (getD c 1 0) d t (final (Refuse status)))
-    unfolding byProfile shut verdictAsks
-    refused-sound status t =
-        let Asked : Verdict → Type 0 = λ (v : Verdict). Sound (verdictAsks (s .held) (s .worked) (getD c 0 0) (getD c 1 0) d t v) in
-        cond-elim Asked (openIn (s .profile) (getD c 1 0)) tt (cond-elim Asked (eqb status 0x15) tt tt)
-
     pub occ-sound : Sound (occAsks s sender c d)
-    unfolding occAsks occRead askedOf askedFor judgedAsks plainly
-    occ-sound =
-        due-cases Sound (occRefusal s sender (length c) (length d)) (λ n. tt)
-        (λ z. cond-cases (λ (x : Judged). Sound (asked x)) (not (eqb (packetStatus c) 0)) (λ f. refused-sound (packetStatus c) noTables) (λ f. verdict-sound (final (j .verdict)) refl))
+    unfolding verdictAsks
+    occ-sound = occ-walk s sender c d Sound (λ n. tt) (λ status t. tt) (λ w. verdict-sound)
 
   module _ (r d : List ℕ) (bytes : Bytes r) where
     abbrev Ruled : Ruling → Type 0

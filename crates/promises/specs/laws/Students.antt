@@ -20,7 +20,7 @@ use Rattle.change.specs.declared.Change.the-variants.{Clear, Unclear, SetState,
 use Rattle.change.specs.declared.Changed.{Changed}
 use Rattle.change.specs.declared.Tables.{Tables}
 use Rattle.change.specs.declared.Edit.{Edit}
-use Rattle.packet.specs.Packet.{packetStatus, dataOf}
+use Rattle.packet.specs.Packet.{dataOf}
 use Rattle.journal.specs.Add.{endOf}
 use Rattle.journal.specs.declared.End.{End}
 use Rattle.journal.specs.declared.End.the-variants.{At, Full}
@@ -28,18 +28,15 @@ use Rattle.journal.specs.declared.Found.{Found}
 use Rattle.journal.specs.declared.Way.{Way}
 use Rattle.journal.specs.declared.Way.the-variants.{Before, After}
 use Rattle.journal.specs.laws.Says.{Says, found-says}
-use Rattle.occ.specs.Judge.{plainly, judgeOf}
-use Rattle.occ.specs.Open.{openIn, shut, byProfile}
 use Rattle.occ.specs.laws.Open.{open-clears}
-use Rattle.occ.specs.declared.Judged.{Judged}
 use Rattle.occ.specs.declared.Verdict.{Verdict}
 use Rattle.occ.specs.declared.Verdict.the-variants.{Refuse, Poll, Make}
 use Rattle.sbe.specs.declared.Ruling.{Ruling}
 use Rattle.sbe.specs.declared.Ruling.the-variants.{Decline, Grant, Done, Read}
-use Rattle.session.specs.Session.{onlyClears, wellFormed, madeOf, renewed, withTimer, withProfile, carriedTo, carriedOf}
+use Rattle.session.specs.Session.{onlyClears, wellFormed, renewed, withTimer, withProfile, carriedTo, carriedOf}
 use Rattle.session.specs.Road.{Asks, refuses, tells, makes, moves, forgets, passes, opens, storeOf, usedOf, heldIn, sessionMoved, sessionFreed, forgotten, timePassed, watchOnly, Said, kept, done, carriedSays, settled}
 use Rattle.session.specs.laws.Road.{due-cases}
-use Rattle.session.specs.laws.Session.{formed, none-due}
+use Rattle.session.specs.laws.Session.{formed}
 use Rattle.session.specs.laws.Watch.{clears-first, entries-read}
 use Rattle.session.specs.declared.Session.{Session}
 use Rattle.occ_call.specs.Occ as occs
@@ -53,6 +50,7 @@ use Rattle.promises.specs.Calls.{Call, occ, sbe, undo, redo, forget, tim
 use Rattle.promises.specs.Demand2.{Newest}
 use Rattle.promises.specs.Sittings.{Act, calls, watch, handed, Unbroken}
 use Rattle.promises.specs.laws.Moves.{clear-of}
+use Rattle.promises.specs.laws.OccWalk.{judged, final, askedBy, occ-walk}
 use Rattle.promises.specs.laws.Profiles.{clear-makes-none}
 use Rattle.promises.specs.laws.UndoDemands.{Called, ill-formed, empty, barred, goes, called}
 
@@ -96,28 +94,15 @@ module _ (s : Session) (on : s .profile ≡ 1) where
   not-full z = omega (arith, z, on)
 
   module _ (sender : ℕ) (c d : List ℕ) where
-    abbrev Asked : Tables → Verdict → Type 0
-    Asked t v = Clearing s (occs.verdictAsks (s .held) (s .worked) (getD c 0 0) (getD c 1 0) d t v)
-
-    abbrev j : Judged
-    j = judgeOf (s .held) (s .worked) (s .next) sender (getD c 1 0) (dataOf c)
-
-    judged-clears : wellFormed s ≡ true → (v : Verdict) → byProfile (s .profile) (getD c 1 0) (j .verdict) ≡ v → Asked (j .tables) v
+    judged-clears : wellFormed s ≡ true → (v : Verdict) → final s sender c d (judged s sender c d .verdict) ≡ v → Clearing s (askedBy s sender c d (judged s sender c d .tables) v)
     unfolding occs.verdictAsks
     judged-clears ok (Refuse status) e = tt
     judged-clears ok Poll e = tt
     judged-clears ok (Make ch) e = (open-clears (s .held) (s .worked) (s .next) sender (dataOf c) (s .profile) (getD c 1 0) ch not-full e, ok)
 
-    refused-clears : (status : ℕ) (t : Tables) → Asked t (byProfile (s .profile) (getD c 1 0) (Refuse status))
-    unfolding byProfile shut occs.verdictAsks
-    refused-clears status t = cond-elim (Asked t) (openIn (s .profile) (getD c 1 0)) tt (cond-elim (Asked t) (eqb status 0x15) tt tt)
-
     occ-clears : Clearing s (occs.occAsks s sender c d)
-    unfolding occs.occAsks occs.occRefusal occs.refusalOf occs.occRead occs.askedOf occs.askedFor occs.judgedAsks plainly
-    occ-clears =
-        due-cases (Clearing s) (occs.occRefusal s sender (length c) (length d)) (λ n. tt)
-        (λ z. cond-cases (λ (x : Judged). Asked (x .tables) (byProfile (s .profile) (getD c 1 0) (x .verdict))) (not (eqb (packetStatus c) 0)) (λ f. refused-clears _ _)
-        (λ f. judged-clears (none-due (wellFormed s) _ z) _ refl))
+    unfolding occs.verdictAsks
+    occ-clears = occ-walk s sender c d (Clearing s) (λ n. tt) (λ status t. tt) judged-clears
 
   module _ (r d : List ℕ) where
     denied-clears : (v : Ruling) → Clearing s (sbes.rulingAsks r d (sbes.denied v))

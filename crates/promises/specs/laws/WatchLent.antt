@@ -9,7 +9,7 @@ use lib.ListN.{length}
 use Rattle.wire.specs.Wire.{Bytes}
 use Rattle.wire.specs.laws.Cases.{cond-elim, if-ne, else-ne}
 use Rattle.session.specs.Session.{wellFormed}
-use Rattle.session.specs.Road.{Asks, Said, kept, done, settled}
+use Rattle.session.specs.Road.{Asks, kept, done, settled}
 use Rattle.session.specs.laws.Road.{refusal-keeps}
 use Rattle.session.specs.declared.Session.{Session}
 use Rattle.image.specs.Image.{imageOf, sessionOf}

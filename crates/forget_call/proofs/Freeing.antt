@@ -3,11 +3,10 @@ use Prim.Native.Nat.{ℕ, suc, _+_, _-_, _≤_, _<_}
 use mathlib.Core.Bool.{Bool, true, false, not}
 use mathlib.Core.Path.{_≡_, refl, sym, ap, subst, _∙_}
 use mathlib.Core.List.{List, [], _∷_, _++_, append-assoc, append-nil}
-use native.Mathlib.Nat.{add-sub-cancel-left}
 use native.Mathlib.Numerals.{add-one}
 use native.Mathlib.Omega.{arith}
 use lib.ListN.{length, getD, set, take, drop, replicate, length-drop, length-append, drop-of-length-le}
-use lib.Seq.{take-all, take-at, drop-at, take-take, take-suc, drop-cons, set-at, getD-drop, length-take-le}
+use lib.Seq.{take-all, take-at, drop-at, take-suc, drop-cons, set-at, getD-drop, length-take-le}
 use Rattle.wire.specs.Wire.{Bytes, pasted}
 use Rattle.wire.specs.laws.Cases.{if-lt, else-lt}
 use Rattle.wire.specs.laws.Wire.{tail-part}
@@ -24,6 +23,7 @@ use Rattle.image.specs.declared.Head.{Head}
 use Rattle.image.specs.Image.{headRenewed, imageOf, headIn, storeAt, withPart, withStore, journalIn, redoIn, marksIn, sessionIn}
 use Rattle.image.specs.laws.Stores.{store-long, store-back, store-above, marks-long, marks-back, marks-store, part-pasted}
 use Rattle.layout.specs.Layout.{journalAt, marksSize, marksAt, imageLength}
+use Rattle.inplace.proofs.Watching.{used-part}
 use Rattle.inplace.specs.declared.Told.{Told}
 use Rattle.inplace.specs.InPlace.{HeadStands, Marked}
 use Rattle.inplace.specs.laws.Silent as silent
@@ -97,14 +97,11 @@ module _ (at n : ℕ) (d x z : List ℕ) (low : at ≤ length d) (e : x ≡ drop
 pub journal-long : (b : List ℕ) → length b ≡ imageLength → length (journalIn b) ≡ 2048
 journal-long b long = length-take-le 2048 (drop journalAt b) (omega (arith, long, length-drop journalAt b))
 
-pub used-part : (b : List ℕ) (used : ℕ) → used ≤ 2048 → take (journalAt + used - journalAt) (drop journalAt b) ≡ take used (journalIn b)
-used-part b used fits = ap (λ (n : ℕ). take n (drop journalAt b)) (add-sub-cancel-left journalAt used) ∙ sym (take-take used 2048 (drop journalAt b) fits)
-
 pub used-long : (b : List ℕ) → length b ≡ imageLength → (used : ℕ) → used ≤ 2048 → length (take (journalAt + used - journalAt) (drop journalAt b)) ≤ 2048
-used-long b long used fits = omega (arith, ap length (used-part b used fits), length-take-le used (journalIn b) (omega (arith, fits, journal-long b long)), fits)
+used-long b long used fits = omega (arith, ap length (used-part journalAt used b fits), length-take-le used (journalIn b) (omega (arith, fits, journal-long b long)), fits)
 
 pub reads-part : (b : List ℕ) (used : ℕ) → used ≤ 2048 → ReadsWhole (take used (journalIn b)) → ReadsWhole (take (journalAt + used - journalAt) (drop journalAt b))
-reads-part b used fits r = subst ReadsWhole (sym (used-part b used fits)) r
+reads-part b used fits r = subst ReadsWhole (sym (used-part journalAt used b fits)) r
 
 pub journal-moved : (b x : List ℕ) (at : ℕ) → x ≡ movedDown at (take (2287 - 239) (drop journalAt b)) → take journalAt b ++ (x ++ drop (2287 - 239) (drop journalAt b)) ≡ withStore journalAt (movedDown at (journalIn b)) b
 journal-moved b x at e = ap (λ (l : List ℕ). withStore journalAt l b) e
@@ -115,7 +112,7 @@ pub marks-put : (b : List ℕ) → length b ≡ imageLength → (used : ℕ) →
     → y ≡ withPart marksSize marksAt (marksOf (entriesIn used (journalIn b))) b
 unfolding entriesIn
 marks-put b long used fits m y mp yp =
-    let is = mp ∙ ap (λ (l : List ℕ). marksOf (entriesOf (scan l))) (used-part b used fits) in
+    let is = mp ∙ ap (λ (l : List ℕ). marksOf (entriesOf (scan l))) (used-part journalAt used b fits) in
     let wide = ap length mp ∙ length-marks (entriesOf (scan (take (journalAt + used - journalAt) (drop journalAt b)))) in
     yp ∙ part-pasted 64 b m long wide marksAt (omega arith) ∙ ap (λ (l : List ℕ). withPart marksSize marksAt l b) is
 
@@ -217,7 +214,7 @@ module _ (h : Head) (b : List ℕ) (here : HeadStands h b) (whole : wellFormed (
 
   held-is : length (entriesOf (scan j)) ≡ heldIn s
   unfolding heldIn entriesIn sessionIn
-  held-is = ap (λ (l : List ℕ). length (entriesOf (scan l))) (used-part b (h .used) used-low)
+  held-is = ap (λ (l : List ℕ). length (entriesOf (scan l))) (used-part journalAt (h .used) b used-low)
 
   module _ (n : ℕ) (found : Oldest) (is : OldestEnd j n found) where
     pub fewer-held : (t : Told) → t ≡ record { answer = 9; small = 0; beside = 0 } → found ≡ Fewer → Tells s t b (oldestAsks n s)
@@ -234,13 +231,13 @@ module _ (h : Head) (b : List ℕ) (here : HeadStands h b) (whole : wellFormed (
       unfolding freedBy entriesIn sessionIn
       at-is =
           ends-at j at (ended .0) (ended .1) n (ended .2)
-          ∙ ap (λ (l : List ℕ). length (written (oldest n (entriesOf (scan l))))) (used-part b (h .used) used-low)
+          ∙ ap (λ (l : List ℕ). length (written (oldest n (entriesOf (scan l))))) (used-part journalAt (h .used) b used-low)
 
       at-place : at ≡ length (written (oldest n (m .entries)))
       unfolding entriesOf
       at-place =
           ends-at j at (ended .0) (ended .1) n (ended .2)
-          ∙ ap (λ (l : List ℕ). length (written (oldest n (entriesOf (scan l))))) (used-part b (h .used) used-low)
+          ∙ ap (λ (l : List ℕ). length (written (oldest n (entriesOf (scan l))))) (used-part journalAt (h .used) b used-low)
           ∙ ap (λ (x : _). length (written (oldest n (entriesOf x)))) (m .reads)
 
       journal-fits : h .used ≤ length (journalIn b)

@@ -5,10 +5,9 @@ use mathlib.Core.Path.{_≡_, sym, ap, subst, _∙_}
 use mathlib.Core.List.{List}
 use native.Mathlib.Nat.{add-sub-cancel-left}
 use native.Mathlib.Omega.{arith}
-use lib.ListN.{length, take, drop}
+use lib.ListN.{take, drop}
 use lib.Seq.{take-take}
 use Rattle.entries.specs.Entries.{entriesOf, scan, ReadsWhole}
-use Rattle.journal.specs.Read.{entriesOk}
 use Rattle.journal.specs.declared.Way.{Way}
 use Rattle.journal.specs.declared.Way.the-variants.{Before, After}
 use Rattle.session.specs.Session.{storesOk, entriesIn, onlyClears}
@@ -18,7 +17,7 @@ use Rattle.image.specs.declared.Head.{Head}
 use Rattle.image.specs.Image.{partAt, journalIn, redoIn, sessionIn}
 use Rattle.layout.specs.Layout.{storeSize, journalAt, redoAt}
 
-used-part : (at used : ℕ) (b : List ℕ) → used ≤ storeSize → take (at + used - at) (drop at b) ≡ take used (partAt storeSize at b)
+pub used-part : (at used : ℕ) (b : List ℕ) → used ≤ storeSize → take (at + used - at) (drop at b) ≡ take used (partAt storeSize at b)
 used-part at used b fits = ap (λ (n : ℕ). take n (drop at b)) (add-sub-cancel-left at used) ∙ sym (take-take used storeSize (drop at b) fits)
 
 reads-whole : (w : Way) (at used : ℕ) (b : List ℕ) → used ≤ storeSize → Store w (partAt storeSize at b) used → ReadsWhole (take (at + used - at) (drop at b))

@@ -11,7 +11,7 @@ use Rattle.wire.specs.Wire.{Bytes}
 use Rattle.wire.specs.laws.Cases.{else-eq}
 use Rattle.record.specs.declared.Timer.{Timer}
 use Rattle.session.specs.Session.{wellFormed, withTimer}
-use Rattle.session.specs.Road.{passes, expires, ticked, timerBell, timePassed, kept, done, settled}
+use Rattle.session.specs.Road.{passes, expires, ticked, timerBell, timePassed, done, settled}
 use Rattle.session.specs.declared.Session.{Session}
 use Rattle.image.specs.declared.Head.{Head}
 use Rattle.image.specs.Image.{imageOf, headIn, headTimed, sessionIn}
@@ -27,10 +27,6 @@ unfolding expires
 enough-left n t x e f on = let over = leb-false (t .left) n (else-eq false (leb (t .left) n) on refl ∙ sym e ∙ f) in omega (arith, over)
 
 -- ---- on the head h that stands in the lent bytes b
-
-refused : (n : ℕ) (s : Session) → rungLeft (kept n s []) ≡ record { told = record { answer = n; small = 0; beside = 0 }; image = imageOf s; reply = [] }
-unfolding rungLeft kept
-refused n s = refl
 
 abbrev pub Tells : Session → Told → List ℕ → ℕ → Type 0
 Tells s t y n = (t ≡ timedBy s (passes n) .told) × (y ≡ timedBy s (passes n) .image)
@@ -52,13 +48,13 @@ module _ (h : Head) (b : List ℕ) (here : HeadStands h b) (n : ℕ) where
 module _ (n : ℕ) where
   pub no-image : (b : List ℕ) → (length b ≡ imageLength → ⊥) → (t : Told) → t ≡ record { answer = 1; small = 0; beside = 0 } → (t ≡ timeOn n b .told) × (b ≡ timeOn n b .image)
   unfolding timeOn timeCall timeAsks
-  no-image = silent.other-length (λ (x : Session). passes n) rungLeft refused
+  no-image = silent.other-length (λ (x : Session). passes n) rungLeft silent.rung-refused
 
   module _ (b : List ℕ) (long : length b ≡ imageLength) (h : Head) (read : h ≡ headIn b) (g : Bool) (formed : g ≡ wellFormed (sessionIn h b)) where
     pub ill-formed : Bytes b → (t : Told) → t ≡ record { answer = 1; small = 0; beside = 0 } → not g ≡ true → (t ≡ timeOn n b .told) × (b ≡ timeOn n b .image)
     unfolding timeOn timeCall timeAsks
-    ill-formed = silent.ill-formed (λ (x : Session). passes n) rungLeft refused b long h read g formed
+    ill-formed = silent.ill-formed (λ (x : Session). passes n) rungLeft silent.rung-refused b long h read g formed
 
     pub passed-in : (t : Told) (y : List ℕ) → not g ≡ false → Tells (sessionIn h b) t y n → (t ≡ timeOn n b .told) × (y ≡ timeOn n b .image)
     unfolding timeOn timeCall timeAsks timedBy
-    passed-in = silent.formed-told (λ (x : Session). passes n) rungLeft refused b long h read g formed
+    passed-in = silent.formed-told (λ (x : Session). passes n) rungLeft silent.rung-refused b long h read g formed

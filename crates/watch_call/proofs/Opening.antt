@@ -3,7 +3,7 @@ use Prim.Native.Nat.{ℕ}
 use mathlib.Core.Bool.{Bool, true, false, not}
 use mathlib.Core.Path.{_≡_, refl, sym, ap, _∙_}
 use mathlib.Core.List.{List, []}
-use lib.ListN.{length, take, replicate}
+use lib.ListN.{length, replicate}
 use Rattle.wire.specs.Wire.{Bytes}
 use Rattle.wire.specs.laws.Cases.{else-ne}
 use Rattle.record.specs.Record.{workedOf}
@@ -11,7 +11,7 @@ use Rattle.record.specs.declared.Worked.{Worked}
 use Rattle.entries.specs.Entries.{scanFrom, scanBy, entriesOf}
 use Rattle.marks.specs.Marks.{milestones, spelled, marksOf}
 use Rattle.session.specs.Session.{entriesIn, wellFormed, renewed, withProfile}
-use Rattle.session.specs.Road.{opens, watchOnly, kept, done, settled}
+use Rattle.session.specs.Road.{opens, watchOnly, done, settled}
 use Rattle.session.specs.declared.Session.{Session}
 use Rattle.image.specs.declared.Head.{Head}
 use Rattle.image.specs.Image.{imageOf, headIn, sessionIn, writtenTo}
@@ -20,10 +20,6 @@ use Rattle.inplace.specs.declared.Told.{Told}
 use Rattle.inplace.specs.InPlace.{rungLeft}
 use Rattle.inplace.specs.laws.Silent as silent
 use Rattle.watch_call.specs.Watch.{watchAsks, watchCall, openedBy, watchOn}
-
-refused : (n : ℕ) (s : Session) → rungLeft (kept n s []) ≡ record { told = record { answer = n; small = 0; beside = 0 }; image = imageOf s; reply = [] }
-unfolding rungLeft kept
-refused n s = refl
 
 abbrev pub Tells : Session → Told → List ℕ → Type 0
 Tells s t y = (t ≡ openedBy s opens .told) × (y ≡ openedBy s opens .image)
@@ -46,13 +42,13 @@ module _ (h : Head) (b : List ℕ) (long : length b ≡ imageLength) (w : Worked
 
 pub no-image : (b : List ℕ) → (length b ≡ imageLength → ⊥) → (t : Told) → t ≡ record { answer = 1; small = 0; beside = 0 } → (t ≡ watchOn b .told) × (b ≡ watchOn b .image)
 unfolding watchOn watchCall watchAsks
-no-image = silent.other-length (λ (x : Session). opens) rungLeft refused
+no-image = silent.other-length (λ (x : Session). opens) rungLeft silent.rung-refused
 
 module _ (b : List ℕ) (long : length b ≡ imageLength) (h : Head) (read : h ≡ headIn b) (g : Bool) (formed : g ≡ wellFormed (sessionIn h b)) where
   pub ill-formed : Bytes b → (t : Told) → t ≡ record { answer = 1; small = 0; beside = 0 } → not g ≡ true → (t ≡ watchOn b .told) × (b ≡ watchOn b .image)
   unfolding watchOn watchCall watchAsks
-  ill-formed = silent.ill-formed (λ (x : Session). opens) rungLeft refused b long h read g formed
+  ill-formed = silent.ill-formed (λ (x : Session). opens) rungLeft silent.rung-refused b long h read g formed
 
   pub opened-in : (t : Told) (y : List ℕ) → not g ≡ false → Tells (sessionIn h b) t y → (t ≡ watchOn b .told) × (y ≡ watchOn b .image)
   unfolding watchOn watchCall watchAsks openedBy
-  opened-in = silent.formed-told (λ (x : Session). opens) rungLeft refused b long h read g formed
+  opened-in = silent.formed-told (λ (x : Session). opens) rungLeft silent.rung-refused b long h read g formed

@@ -14,8 +14,13 @@ use Rattle.image.specs.declared.Head.{Head}
 use Rattle.image.specs.Image.{imageOf, headIn, sessionIn}
 use Rattle.layout.specs.Layout.{imageLength}
 use Rattle.inplace.specs.declared.Told.{Told}
-use Rattle.inplace.specs.InPlace.{Left, onImage}
+use Rattle.inplace.specs.InPlace.{Left, rungLeft, onImage}
 use Rattle.inplace.specs.laws.InPlace.{stands, no-image, on-read}
+
+-- a refusal of a call that rings
+pub rung-refused : (n : ℕ) (s : Session) → rungLeft (kept n s []) ≡ record { told = record { answer = n; small = 0; beside = 0 }; image = imageOf s; reply = [] }
+unfolding rungLeft kept
+rung-refused n s = refl
 
 -- what it asks of a well-formed session, and what is left of what is said then; a refusal tells its number alone
 module _ (more : Session → Asks) (left : Said → Left) (refused : (n : ℕ) (s : Session) → left (kept n s []) ≡ record { told = record { answer = n; small = 0; beside = 0 }; image = imageOf s; reply = [] }) where

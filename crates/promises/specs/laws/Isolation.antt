@@ -142,23 +142,20 @@ module _ (s : Session) (ok : wellFormed s ≡ true) (full : s .profile ≡ 0) (s
       go (At used) f = carried-at e used
       go Full f = absurd (true≢false f)
 
-  abbrev asked-by : Tables → Verdict → Asks
-  asked-by t v = occs.verdictAsks (s .held) (s .worked) (getD c 0 0) (getD c 1 0) d t v
-
   abbrev why-by : Verdict → Blame
   why-by v = occs.faultFor v (s .held) (getD c 1 0) (dataOf c)
 
   abbrev Same : Said → Blame → Alone → Type 0
   Same q why x = (q .answer ≡ 5 → ⊥) → AsAlone q why x
 
-  made-alone : (x : Judged) (ch : Change) → Same (settled s d (asked-by (x .tables) (Make ch))) (why-by (Make ch)) (aloneBy b c d x (Make ch))
+  made-alone : (x : Judged) (ch : Change) → Same (settled s d (askedBy s sender c d (x .tables) (Make ch))) (why-by (Make ch)) (aloneBy b c d x (Make ch))
   unfolding aloneBy settled carriedSays kept done occs.verdictAsks occs.faultFor
   made-alone x ch =
       let e : Edit = record { change = ch; tables = x .tables } in
       cond-cases (λ (q : Said). Same q Nothing (aloneBy b c d x (Make ch))) (carriedOf s e .full) (λ f h. absurd (h refl))
       (λ f h. record { answer-is = refl; why-is = refl; reply-is = refl; bench-is = carried-bench e f })
 
-  by-verdict : (x : Judged) (v : Verdict) → Same (settled s d (asked-by (x .tables) v)) (why-by v) (aloneBy b c d x v)
+  by-verdict : (x : Judged) (v : Verdict) → Same (settled s d (askedBy s sender c d (x .tables) v)) (why-by v) (aloneBy b c d x v)
   unfolding aloneBy settled done occs.verdictAsks occs.toldOf occs.faultFor benchOf
   by-verdict x (Refuse status) = λ h. record { answer-is = refl; why-is = fault-dry (Refuse status) (s .held) (getD c 1 0) (dataOf c); reply-is = refl; bench-is = refl }
   by-verdict x Poll = λ h. record {
@@ -171,7 +168,7 @@ module _ (s : Session) (ok : wellFormed s ≡ true) (full : s .profile ≡ 0) (s
   by-verdict x (Make ch) = made-alone x ch
 
   -- the profile leaves the verdict as it is
-  read-is : occs.occRead s sender c d ≡ asked-by (j .tables) (j .verdict)
+  read-is : occs.occRead s sender c d ≡ askedBy s sender c d (j .tables) (j .verdict)
   unfolding occs.occRead occs.judgedAsks byProfile openIn
   read-is = ap (λ (p : ℕ). occs.judgedAsks p (s .held) (s .worked) (getD c 0 0) (getD c 1 0) d j) full
 

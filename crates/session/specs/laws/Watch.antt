@@ -1,16 +1,16 @@
 -- Document 02, k: clears only, over the entries of a store; a session opened watch-only is well formed. Assumes nothing.
 use Prim.Native.Nat.{ℕ, zero, suc}
 use mathlib.Core.Bool.{Bool, true, false, cond, not}
-use mathlib.Core.Logic.{_⊎_, inl, inr}
-use mathlib.Core.Path.{_≡_, refl, sym, ap, subst, _∙_}
+use mathlib.Core.Logic.{inl, inr}
+use mathlib.Core.Path.{_≡_, refl, ap, _∙_}
 use mathlib.Core.List.{List, [], _∷_, _++_}
 use native.Mathlib.Omega.{arith}
 use borrow.Author.Tests.{eqb-true, eq-eqb, ne-eqb}
 use lib.Dec.{eqb}
-use lib.ListN.{length, take, replicate}
+use lib.ListN.{take, replicate}
 use Rattle.wire.specs.laws.Wire.{all-replicate}
 use Rattle.formed.specs.laws.Formed.{both-hold, hold-both}
-use Rattle.entries.specs.Entries.{Entry, Scan, between, scanFrom, scanBy, scan, entriesOf}
+use Rattle.entries.specs.Entries.{Entry, between, scanFrom, scanBy, scan, entriesOf}
 use Rattle.journal.specs.Read.{allOk, scanOk, entriesOk}
 use Rattle.journal.specs.declared.Way.{Way}
 use Rattle.journal.specs.declared.Way.the-variants.{Before, After}

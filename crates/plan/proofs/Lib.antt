@@ -1,0 +1,5 @@
+pub mod Calling
+pub mod Orders
+pub mod Packets
+pub mod Searching
+pub mod Trials

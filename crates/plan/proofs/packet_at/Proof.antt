@@ -1,0 +1,61 @@
+use Rattle.plan.proofs.Packets.{none-there, last-there, whole-there}
+use borrow.Author.Needs.{needs}
+use Rattle.plan.proofs.packet_at.Statement.{statement}
+use Rattle.plan.proofs.packet_at.Tie as tie
+
+mul-at : tie.Need-mul-at
+mul-at c = search needs
+
+slice-aggregate-result : tie.Need-slice-aggregate-result
+slice-aggregate-result c = search needs
+
+returns : tie.Need-returns
+returns c = none-there _ _ (c .before .if1 .taken)
+
+sub-if2 : tie.Need-sub-if2
+sub-if2 c = search needs
+
+sub-result : tie.Need-sub-result
+sub-result c = search needs
+
+part-result-start : tie.Need-part-result-start
+part-result-start c = search needs
+
+part-result-end : tie.Need-part-result-end
+part-result-end c = search needs
+
+returns-2 : tie.Need-returns-2
+returns-2 c = last-there _ _ (c .before .if2 .taken)
+
+add-end : tie.Need-add-end
+add-end c = search needs
+
+sub-result-2 : tie.Need-sub-result-2
+sub-result-2 c = search needs
+
+part-result-start-2 : tie.Need-part-result-start-2
+part-result-start-2 c = search needs
+
+part-result-end-2 : tie.Need-part-result-end-2
+part-result-end-2 c = search needs
+
+returns-3 : tie.Need-returns-3
+returns-3 c = whole-there _ _
+
+pub packet-at-spec : {M : Type 1} → statement M
+packet-at-spec =
+    tie.close
+    (tie.spec
+    mul-at
+    slice-aggregate-result
+    returns
+    sub-if2
+    sub-result
+    part-result-start
+    part-result-end
+    returns-2
+    add-end
+    sub-result-2
+    part-result-start-2
+    part-result-end-2
+    returns-3)

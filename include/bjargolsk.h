@@ -8,9 +8,9 @@
  * result nor of the bytes in them.
  *
  * A call that changes nothing writes nothing to the session: polls, SBE requests that make no entry (D1 02, D3 01, D7 03), error replies, every answer
- * but 0; nor does a plan, nor the check of one, whatever it answers. That its bytes stay is proved; that nothing is stored at all is tried, on memory
- * that can't be written (examples/c/edges.c). Polls and plans may so share a session; a call that changes it needs it alone, and so do forgetting no changes, which stores the bytes that stand there, every time
- * report, and opening a watch-only session again over one.
+ * but 0, plans and their checks. That its bytes stay is proved; that nothing is stored at all is tried, on memory that can't be written
+ * (examples/c/edges.c). Polls and plans may so share a session; a call that changes it needs it alone, and so do forgetting no changes, which stores the
+ * bytes that stand there, every time report, and opening a watch-only session again over one.
  *
  * The archive takes memcpy and memset from the C library, or from you, and nothing else. A call takes under 4 KB of stack.
  *
@@ -138,7 +138,7 @@ uint32_t bjargolsk_watch(uint8_t *session, size_t session_length);
  * the first byte, 2 at BJARGOLSK_SLOT, and so on, five at most; the last slot may be shorter, and bytes after a packet are ignored, as in a command.
  * Length 0: no packets. A plan uses each packet once at most, some perhaps not at all. Sent one by one to a session with this one's record and next id, an
  * empty journal and the full profile, every packet in it gets answer 0 and success, and the state is then the wanted one. Of all plans the one with the
- * fewest packets is given, and of these the least, number by number: none, if the state is the wanted one already.
+ * fewest packets is given, and of these the least, number by number; it is empty if the state is the wanted one already.
  * The numbers, from 1, are written to the order, whose bytes past them are kept; without a plan all are. Answers 0, 1, 10 and 3, tested in the order 1, 10, 3.
  * Bits 8 to 15 are 1 if there is a plan, and 0 exactly if no such order exists; the high 16 bits are the number of packets in it. Nothing is sent. */
 uint32_t bjargolsk_plan(const uint8_t *session, size_t session_length, const uint8_t *packets, size_t packets_length, uint8_t wanted,

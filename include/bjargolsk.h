@@ -8,9 +8,9 @@
  * result nor of the bytes in them.
  *
  * A call that changes nothing writes nothing to the session: polls, SBE requests that make no entry (D1 02, D3 01, D7 03), error replies, every answer
- * but 0. That its bytes stay is proved; that nothing is stored at all is tried, on memory that can't be written (examples/c/edges.c). Polls may so
- * share a session; a call that changes it needs it alone, and so do forgetting no changes, which stores the bytes that stand there, every time
- * report, and opening a watch-only session again over one.
+ * but 0, plans and their checks. That its bytes stay is proved; that nothing is stored at all is tried, on memory that can't be written
+ * (examples/c/edges.c). Polls and plans may so share a session; a call that changes it needs it alone, and so do forgetting no changes, which stores the
+ * bytes that stand there, every time report, and opening a watch-only session again over one.
  *
  * The archive takes memcpy and memset from the C library, or from you, and nothing else. A call takes under 4 KB of stack.
  *
@@ -22,7 +22,8 @@
  *   0  done; an OCC or SBE reply is written, good or error
  *   1  the session isn't BJARGOLSK_SESSION bytes long, or isn't well formed
  *   2  the OCC sender is neither BJARGOLSK_HTMGT nor BJARGOLSK_BMC
- *   3  the reply buffer is too short: under BJARGOLSK_OCC_REPLY or BJARGOLSK_SBE_REPLY bytes
+ *   3  the reply buffer is too short: under BJARGOLSK_OCC_REPLY or BJARGOLSK_SBE_REPLY bytes; or a plan's buffer for the order is under
+ *      BJARGOLSK_ORDER bytes
  *   4  the command is too short: under 4 bytes for the OCC, under 32 for the SBE
  *   5  the journal has no room for the change
  *   6  nothing to undo
@@ -31,7 +32,8 @@
  *      with its id and reason; or a reset's log is to come back, and 4 pend. Never on a session that began fresh
  *   8  nothing to redo
  *   9  fewer changes are held than are to be forgotten
- * After any answer but 0 the session, the reply buffer and the buffer for data hold the bytes that they held before.
+ *  10  more than five packets for a plan, or a wanted state other than 2 and 3
+ * After any answer but 0 the session, the reply buffer, the buffer for data and the one for an order hold the bytes that they held before.
  *
  * The doorbell is a number of 16 bits, bit 0 the most significant: 0x8000 response (bit 0), 0x4000 acknowledge (bit 1), 0x0002 the timer has expired
  * (bit 14). The first two are rung by SBE calls as the request's flags ask, with every answer 0, whatever the status; the third by a time report.
@@ -47,12 +49,14 @@ extern "C" {
 #endif
 
 /* Goes up with every change of a function, a constant or the image's bytes. */
-#define BJARGOLSK_VERSION 5
+#define BJARGOLSK_VERSION 6
 
 enum {
     BJARGOLSK_SESSION = 4411, /* the image's length */
     BJARGOLSK_OCC_REPLY = 4096,
     BJARGOLSK_SBE_REPLY = 32,
+    BJARGOLSK_SLOT = 4096, /* the place of a packet among those for a plan */
+    BJARGOLSK_ORDER = 5, /* the longest plan */
     BJARGOLSK_HTMGT = 0x10,
     BJARGOLSK_BMC = 0x20
 };
@@ -75,6 +79,9 @@ enum {
 
 /* Of an undo: how many entries of the journal were passed to find the newest, 0 to 31; 0 if none was taken back. */
 #define BJARGOLSK_PASSED(result) (((result) >> 8) & 0xFFu)
+
+/* Of a plan: 1 if there is one. Of the check of a proposal: 1 if it is accepted. Else 0, and with every answer but 0. */
+#define BJARGOLSK_PLANNED(result) (((result) >> 8) & 0xFFu)
 
 /* Makes the session the fresh one. Answers 0 and 1; the bytes need not be a session before. */
 uint32_t bjargolsk_fresh(uint8_t *session, size_t session_length);
@@ -126,6 +133,21 @@ uint32_t bjargolsk_forget(uint8_t *session, size_t session_length, uint32_t n);
  * reports and opening again. No call but bjargolsk_fresh, and no undo, makes a watch-only session a full one again; the profile is the image's last byte.
  * Answers 0 and 1; nothing stands beside the answer. */
 uint32_t bjargolsk_watch(uint8_t *session, size_t session_length);
+
+/* Looks for an order of prepared packets from BJARGOLSK_HTMGT that leads to the wanted state, 2 (observation) or 3 (active): a plan. Packet 1 stands at
+ * the first byte, 2 at BJARGOLSK_SLOT, and so on, five at most; the last slot may be shorter, and bytes after a packet are ignored, as in a command.
+ * Length 0: no packets. A plan uses each packet once at most, some perhaps not at all. Sent one by one to a session with this one's record and next id, an
+ * empty journal and the full profile, every packet in it gets answer 0 and success, and the state is then the wanted one. Of all plans the one with the
+ * fewest packets is given, and of these the least, number by number; it is empty if the state is the wanted one already.
+ * The numbers, from 1, are written to the order, whose bytes past them are kept; without a plan all are. Answers 0, 1, 10 and 3, tested in the order 1, 10, 3.
+ * Bits 8 to 15 are 1 if there is a plan, and 0 exactly if no such order exists; the high 16 bits are the number of packets in it. Nothing is sent. */
+uint32_t bjargolsk_plan(const uint8_t *session, size_t session_length, const uint8_t *packets, size_t packets_length, uint8_t wanted,
+                        uint8_t *order, size_t order_length);
+
+/* Checks a proposal, whoever made it: bits 8 to 15 are 1 exactly if it is a plan as above, not only the least. It is as long as the order's length says; a
+ * number that names no packet, or comes twice, makes it none. Answers 0, 1 and 10. */
+uint32_t bjargolsk_plan_ok(const uint8_t *session, size_t session_length, const uint8_t *packets, size_t packets_length, uint8_t wanted,
+                           const uint8_t *order, size_t order_length);
 
 #ifdef __cplusplus
 }

@@ -2,7 +2,7 @@
 
 /// As in bjargolsk.h: goes up with every change of a function, a constant or the image's bytes.
 #[allow(dead_code)]
-pub const BJARGOLSK_VERSION: u32 = 5;
+pub const BJARGOLSK_VERSION: u32 = 6;
 /// The image's length.
 #[allow(dead_code)]
 pub const BJARGOLSK_SESSION: usize = 4411;
@@ -43,4 +43,22 @@ extern "C" {
     pub fn bjargolsk_redo(session: *mut u8, session_length: usize) -> u32;
     pub fn bjargolsk_forget(session: *mut u8, session_length: usize, n: u32) -> u32;
     pub fn bjargolsk_watch(session: *mut u8, session_length: usize) -> u32;
+    pub fn bjargolsk_plan(
+        session: *const u8,
+        session_length: usize,
+        packets: *const u8,
+        packets_length: usize,
+        wanted: u8,
+        order: *mut u8,
+        order_length: usize,
+    ) -> u32;
+    pub fn bjargolsk_plan_ok(
+        session: *const u8,
+        session_length: usize,
+        packets: *const u8,
+        packets_length: usize,
+        wanted: u8,
+        order: *const u8,
+        order_length: usize,
+    ) -> u32;
 }

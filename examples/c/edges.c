@@ -1,5 +1,5 @@
 /* What bjargolsk.h says of its callers' buffers, tried: any alignment, NULL with length 0, sessions that calls which change nothing leave unwritten, watch-only ones too, data that a
- * read of the SEEPROM gives and what it keeps. */
+ * read of the SEEPROM gives and what it keeps, orders that plans write, proposals. */
 #define _DEFAULT_SOURCE /* mmap's MAP_ANONYMOUS */
 #include <stdio.h>
 #include <sys/mman.h>
@@ -14,6 +14,7 @@ static const uint8_t refused_packet[] = {2, 0x22, 0, 2, 0xFF, 0xFF, 0x02, 0x24};
 static const uint8_t read_request[BJARGOLSK_SBE_REPLY] = {0, 0, 1, 0, 0, 1, 0xD7, 0x03, 0, 0, 0, 8, 0, 0, 0, 16};
 static uint8_t reply[BJARGOLSK_OCC_REPLY + 64];
 static uint8_t image[24 + 64], data[17 + 64];
+static uint8_t packets[6 * BJARGOLSK_SLOT + 64], order[6 + 64];
 static int failures;
 
 static void expect(const char *what, uint32_t result, uint32_t answer)
@@ -67,6 +68,79 @@ static void reads(uint8_t *session, size_t shift)
     }
 }
 
+static void expect_plan(const char *what, uint32_t result, uint32_t due)
+{
+    if (result != due) {
+        printf("%s: result %X, not %X\n", what, (unsigned)result, (unsigned)due);
+        failures++;
+    }
+}
+
+static uint32_t plan(const uint8_t *session, size_t shift, size_t length, unsigned wanted, size_t room)
+{
+    return bjargolsk_plan(session, BJARGOLSK_SESSION, packets + shift, length, (uint8_t)wanted, order + shift, room);
+}
+
+static uint32_t check(const uint8_t *session, const uint8_t *proposal, size_t length)
+{
+    return bjargolsk_plan_ok(session, BJARGOLSK_SESSION, packets, 3 * BJARGOLSK_SLOT, 2, proposal, length);
+}
+
+/* State 2, thermal thresholds, and the role of a slave, each in its slot. */
+static void prepare(size_t shift)
+{
+    static const uint8_t prepared[3][13] = {{1, 0x20, 0, 3, 0, 2, 0, 0, 0x26},
+                                            {2, 0x21, 0, 7, 0x13, 0x10, 1, 0, 85, 95, 5, 1, 7},
+                                            {3, 0x21, 0, 2, 3, 0, 0, 0x29}};
+    for (size_t i = 0; i < sizeof packets; i++)
+        packets[i] = 0xEE;
+    for (size_t i = 0; i < 3; i++)
+        for (size_t j = 0; j < sizeof prepared[i]; j++)
+            packets[shift + i * BJARGOLSK_SLOT + j] = prepared[i][j];
+}
+
+/* The plan is 2 3 1; it stands at the front of the order, and the byte past it is kept. With a byte too few (answer 3), and where there is no plan, all is kept. */
+static void plans(const uint8_t *session, size_t shift)
+{
+    static const uint8_t due[] = {2, 3, 1};
+    prepare(shift);
+    for (size_t room = 4; room <= 6; room++)
+        for (unsigned wanted = 2; wanted <= 3; wanted++) {
+            for (size_t i = 0; i < sizeof order; i++)
+                order[i] = 0xEE;
+            expect_plan("plan, any alignment", plan(session, shift, 3 * BJARGOLSK_SLOT, wanted, room), room < 5 ? 3 : wanted == 2 ? 0x30100 : 0);
+            for (size_t i = 0; i < sizeof order; i++)
+                if (order[i] != (room >= 5 && wanted == 2 && i >= shift && i < shift + 3 ? due[i - shift] : 0xEE)) {
+                    printf("plan for %u, order of %u at %u: byte %u is %02X\n", wanted, (unsigned)room, (unsigned)shift, (unsigned)i, order[i]);
+                    failures++;
+                }
+        }
+}
+
+/* On a page that can't be written: answer 10 before 3, proposals right and wrong. */
+static void planned(const uint8_t *session)
+{
+    static const uint8_t least[] = {2, 3, 1}, other[] = {3, 2, 1}, zero[] = {0, 2, 3, 1}, six[] = {2, 3, 1, 6}, twice[] = {2, 3, 3, 1}, early[] = {1, 2, 3};
+    static const uint8_t longer[] = {2, 3, 1, 2, 3, 1};
+    prepare(0);
+    expect_plan("plan, read-only", plan(session, 0, 3 * BJARGOLSK_SLOT, 2, 5), 0x30100);
+    expect_plan("no plan, read-only", plan(session, 0, 3 * BJARGOLSK_SLOT, 3, 5), 0);
+    expect_plan("plan with the state cut", plan(session, 0, 8, 2, 5), 0);
+    expect_plan("five packets", plan(session, 0, 5 * BJARGOLSK_SLOT, 2, 5), 0x30100);
+    expect_plan("a sixth of one byte", plan(session, 0, 5 * BJARGOLSK_SLOT + 1, 2, 5), 10);
+    expect_plan("six packets, short order", plan(session, 0, 6 * BJARGOLSK_SLOT, 2, 4), 10);
+    expect_plan("state 1, short order", plan(session, 0, 0, 1, 4), 10);
+    expect_plan("state 255", plan(session, 0, 0, 255, 5), 10);
+    expect_plan("proposal", check(session, least, sizeof least), 0x100);
+    expect_plan("another proposal", check(session, other, sizeof other), 0x100);
+    expect_plan("proposal with 0", check(session, zero, sizeof zero), 0);
+    expect_plan("proposal with 6", check(session, six, sizeof six), 0);
+    expect_plan("proposal with 3 twice", check(session, twice, sizeof twice), 0);
+    expect_plan("proposal with the state first", check(session, early, sizeof early), 0);
+    expect_plan("proposal of six", check(session, longer, sizeof longer), 0);
+    expect_plan("empty proposal", check(session, NULL, 0), 0);
+}
+
 static void nulls(uint8_t *session)
 {
     expect("fresh, no session", bjargolsk_fresh(NULL, 0), 1);
@@ -84,6 +158,12 @@ static void nulls(uint8_t *session)
     expect("redo, no session", bjargolsk_redo(NULL, 0), 1);
     expect("forget, no session", bjargolsk_forget(NULL, 0, 0), 1);
     expect("watch, no session", bjargolsk_watch(NULL, 0), 1);
+    expect("plan, no session", bjargolsk_plan(NULL, 0, packets, 1, 2, order, BJARGOLSK_ORDER), 1);
+    expect("plan, no session, nothing right", bjargolsk_plan(NULL, 0, packets, sizeof packets, 1, NULL, 0), 1);
+    expect("plan, no packets", bjargolsk_plan(session, BJARGOLSK_SESSION, NULL, 0, 2, order, BJARGOLSK_ORDER), 0);
+    expect("plan, no order", bjargolsk_plan(session, BJARGOLSK_SESSION, NULL, 0, 2, NULL, 0), 3);
+    expect("check, no session", bjargolsk_plan_ok(NULL, 0, NULL, 0, 2, NULL, 0), 1);
+    expect("check, no packets, no order", bjargolsk_plan_ok(session, BJARGOLSK_SESSION, NULL, 0, 2, NULL, 0), 0);
 }
 
 /* On a page that can't be written: a call that wrote would end the program. */
@@ -161,6 +241,7 @@ int main(void)
         expect("poll, any alignment", occ(pages + shift, poll_packet, sizeof poll_packet, shift), 0);
         expect("time, any alignment", bjargolsk_time(pages + shift, BJARGOLSK_SESSION, 1), 0);
         reads(pages + shift, shift);
+        plans(pages + shift, shift);
         expect("watch, any alignment", bjargolsk_watch(pages + shift, BJARGOLSK_SESSION), 0);
     }
     bjargolsk_fresh(pages, BJARGOLSK_SESSION);
@@ -171,5 +252,6 @@ int main(void)
     bjargolsk_fresh(pages, BJARGOLSK_SESSION);
     mprotect(pages, ROOM, PROT_READ);
     unwritten(pages);
+    planned(pages);
     return failures != 0;
 }

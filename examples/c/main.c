@@ -1,5 +1,5 @@
 /* A master OCC brought up and capped; changes taken back, one step too far, and one put in again; a cap that is too high; the oldest changes forgotten; the
- * SBE's timer; a part of its SEEPROM read; a session that can only be watched. */
+ * SBE's timer; a part of its SEEPROM read; a session that can only be watched; a plan for a bring-up. */
 #include <stdio.h>
 
 #include "bjargolsk.h"
@@ -14,23 +14,37 @@ static void show(size_t length)
     printf("\n");
 }
 
-/* A packet is sequence, type, two bytes of data length, data, and the two-byte sum of all that. */
-static void occ(const char *name, uint8_t sender, uint8_t type, const uint8_t *data, uint8_t length)
+/* A packet is sequence, type, two bytes of data length, data, and the two-byte sum of all that. Its length is returned. */
+static size_t frame(uint8_t *packet, uint8_t type, const uint8_t *data, uint8_t length)
 {
     static uint8_t sequence = 0;
-    uint8_t packet[64] = {++sequence, type, 0, length};
     unsigned sum = 0;
+    packet[0] = ++sequence;
+    packet[1] = type;
+    packet[2] = 0;
+    packet[3] = length;
     for (size_t i = 0; i < length; i++)
         packet[4 + i] = data[i];
     for (size_t i = 0; i < 4u + length; i++)
         sum += packet[i];
     packet[4 + length] = (uint8_t)(sum >> 8);
     packet[5 + length] = (uint8_t)sum;
-    uint32_t result = bjargolsk_occ(session, sizeof session, sender, packet, 6u + length, reply, sizeof reply);
+    return 6u + length;
+}
+
+static void sent(const char *name, uint8_t sender, const uint8_t *packet, size_t length)
+{
+    uint32_t result = bjargolsk_occ(session, sizeof session, sender, packet, length, reply, sizeof reply);
     printf("%s: answer %u", name, (unsigned)BJARGOLSK_ANSWER(result));
     if (BJARGOLSK_REASON(result) != 0)
         printf(" reason %u byte %u", (unsigned)BJARGOLSK_REASON(result), (unsigned)BJARGOLSK_PLACE(result));
     show(BJARGOLSK_ANSWER(result) == 0 ? 7u + reply[3] * 256u + reply[4] : 0);
+}
+
+static void occ(const char *name, uint8_t sender, uint8_t type, const uint8_t *data, uint8_t length)
+{
+    uint8_t packet[64];
+    sent(name, sender, packet, frame(packet, type, data, length));
 }
 
 static void sbe(const char *name, const uint8_t *request, size_t length)
@@ -84,6 +98,31 @@ static void watch(void)
     printf("watch: answer %u\n", (unsigned)BJARGOLSK_ANSWER(result));
 }
 
+/* Packets for a plan, each at its slot's front. */
+static uint8_t packets[5 * BJARGOLSK_SLOT];
+static uint8_t order[BJARGOLSK_ORDER];
+
+static size_t plan(unsigned wanted)
+{
+    uint32_t result = bjargolsk_plan(session, sizeof session, packets, sizeof packets, (uint8_t)wanted, order, sizeof order);
+    printf("plan %u: answer %u", wanted, (unsigned)BJARGOLSK_ANSWER(result));
+    if (BJARGOLSK_ANSWER(result) == 0)
+        printf(BJARGOLSK_PLANNED(result) ? " plan" : " no plan");
+    for (size_t i = 0; i < BJARGOLSK_HIGH(result); i++)
+        printf(" %u", order[i]);
+    printf("\n");
+    return BJARGOLSK_HIGH(result);
+}
+
+static void check(unsigned wanted, const uint8_t *proposal, size_t length)
+{
+    uint32_t result = bjargolsk_plan_ok(session, sizeof session, packets, sizeof packets, (uint8_t)wanted, proposal, length);
+    printf("proposal");
+    for (size_t i = 0; i < length; i++)
+        printf(" %u", proposal[i]);
+    printf(": answer %u %s\n", (unsigned)BJARGOLSK_ANSWER(result), BJARGOLSK_PLANNED(result) ? "accepted" : "not accepted");
+}
+
 int main(void)
 {
     static const uint8_t poll[] = {0x10};
@@ -99,6 +138,8 @@ int main(void)
     static const uint8_t deadman[32] = {0, 0, 0x01, 0x01, 0, 7, 0xD1, 0x01, 0, 0, 0, 0, 0, 0, 0x03, 0xE8};
     static const uint8_t timer[32] = {0, 0, 0x00, 0x01, 0, 8, 0xD4, 0x01, 0, 0, 0, 0, 0, 0, 0x03, 0xE8};
     static const uint8_t read[32] = {0, 0, 0x01, 0x00, 0, 9, 0xD7, 0x03, 0, 0, 0, 8, 0, 0, 0, 8};
+    static const uint8_t mine[] = {5, 4, 3, 2, 1};
+    static const uint8_t early[] = {1, 2, 3, 4, 5};
     static const uint8_t image[] = {0, 1, 2, 3, 4, 5, 6, 7, 8, 9, 10, 11, 12, 13, 14, 15};
 
     printf("fresh: answer %u\n", (unsigned)bjargolsk_fresh(session, sizeof session));
@@ -146,5 +187,21 @@ int main(void)
     undo();
     undo();
     occ("poll", BJARGOLSK_BMC, 0x00, poll, sizeof poll);
+    /* Five packets in the wrong order, for a fresh session: the plan for active, and none for observation, which no packet asks for. Another order that leads
+     * there is accepted too. The plan is sent; a command's bytes past its packet are ignored. Then active is there, and the plan for it is empty. */
+    printf("fresh: answer %u\n", (unsigned)bjargolsk_fresh(session, sizeof session));
+    frame(packets, 0x20, active, sizeof active);
+    frame(packets + BJARGOLSK_SLOT, 0x21, throttles, sizeof throttles);
+    frame(packets + 2 * BJARGOLSK_SLOT, 0x21, caps, sizeof caps);
+    frame(packets + 3 * BJARGOLSK_SLOT, 0x21, thermal, sizeof thermal);
+    frame(packets + 4 * BJARGOLSK_SLOT, 0x21, master, sizeof master);
+    plan(2);
+    size_t count = plan(3);
+    check(3, mine, sizeof mine);
+    check(3, early, sizeof early);
+    for (size_t i = 0; i < count; i++)
+        sent("planned", BJARGOLSK_HTMGT, packets + (order[i] - 1) * BJARGOLSK_SLOT, BJARGOLSK_SLOT);
+    plan(3);
+    plan(4);
     return 0;
 }

@@ -1,5 +1,5 @@
 """A master OCC brought up and capped; changes taken back, one step too far, and one put in again; a cap that is too high; the oldest changes forgotten; the
-SBE's timer; a part of its SEEPROM read; a session that can only be watched.
+SBE's timer; a part of its SEEPROM read; a session that can only be watched; a plan for a bring-up.
 
 usage: python3 main.py LIBRARY, the shared object that is made from the archive
 """
@@ -8,6 +8,7 @@ import sys
 
 HTMGT, BMC = 0x10, 0x20
 SESSION = 4411  # BJARGOLSK_SESSION of bjargolsk.h
+SLOT, ORDER = 4096, 5  # BJARGOLSK_SLOT, BJARGOLSK_ORDER
 
 
 def load(path):
@@ -23,7 +24,9 @@ def load(path):
     lib.bjargolsk_redo.argtypes = buffer
     lib.bjargolsk_forget.argtypes = buffer + [ctypes.c_uint32]
     lib.bjargolsk_watch.argtypes = buffer
-    for name in ("fresh", "occ", "sbe", "sbe_seeprom", "time", "undo", "redo", "forget", "watch"):
+    lib.bjargolsk_plan.argtypes = buffer + buffer + [ctypes.c_uint8] + buffer
+    lib.bjargolsk_plan_ok.argtypes = buffer + buffer + [ctypes.c_uint8] + buffer
+    for name in ("fresh", "occ", "sbe", "sbe_seeprom", "time", "undo", "redo", "forget", "watch", "plan", "plan_ok"):
         getattr(lib, "bjargolsk_" + name).restype = ctypes.c_uint32
     return lib
 
@@ -36,16 +39,24 @@ class Bench:
         self.session = ctypes.create_string_buffer(SESSION)
         self.reply = ctypes.create_string_buffer(4096)
         self.sequence = 0
-        print("fresh: answer %d" % lib.bjargolsk_fresh(self.session, SESSION))
+        self.fresh()
+
+    def fresh(self):
+        print("fresh: answer %d" % self.lib.bjargolsk_fresh(self.session, SESSION))
 
     def shown(self, answer, length):
         return "".join(" %02X" % b for b in self.reply.raw[:length]) if answer == 0 else ""
 
-    def occ(self, name, sender, kind, data):
+    def framed(self, kind, data):
         """A packet is sequence, type, two bytes of data length, data, and the two-byte sum of all that."""
         self.sequence += 1
         packet = bytes([self.sequence, kind]) + len(data).to_bytes(2, "big") + bytes(data)
-        packet += (sum(packet) % 65536).to_bytes(2, "big")
+        return packet + (sum(packet) % 65536).to_bytes(2, "big")
+
+    def occ(self, name, sender, kind, data):
+        self.sent(name, sender, self.framed(kind, data))
+
+    def sent(self, name, sender, packet):
         result = self.lib.bjargolsk_occ(self.session, SESSION, sender, packet, len(packet), self.reply, 4096)
         answer = result & 0xFF
         reason = result >> 8 & 0xFF
@@ -85,6 +96,21 @@ class Bench:
     def watch(self):
         result = self.lib.bjargolsk_watch(self.session, SESSION)
         print("watch: answer %d" % (result & 0xFF))
+
+    def plan(self, packets, wanted):
+        """Packets stand in slots; the numbers of the plan are returned, from 1."""
+        order = ctypes.create_string_buffer(ORDER)
+        result = self.lib.bjargolsk_plan(self.session, SESSION, packets, len(packets), wanted, order, ORDER)
+        numbers = list(order.raw[:result >> 16])
+        answer = result & 0xFF
+        told = "" if answer != 0 else " plan" if result >> 8 & 0xFF else " no plan"
+        print("plan %d: answer %d%s%s" % (wanted, answer, told, "".join(" %d" % n for n in numbers)))
+        return numbers
+
+    def check(self, packets, wanted, proposal):
+        result = self.lib.bjargolsk_plan_ok(self.session, SESSION, packets, len(packets), wanted, bytes(proposal), len(proposal))
+        told = "accepted" if result >> 8 & 0xFF else "not accepted"
+        print("proposal%s: answer %d %s" % ("".join(" %d" % n for n in proposal), result & 0xFF, told))
 
 
 def main():
@@ -136,6 +162,25 @@ def main():
     bench.undo()
     bench.undo()
     bench.occ("poll", BMC, 0x00, [0x10])
+    # Five packets in the wrong order, for a fresh session: the plan for active, and none for observation, which no packet asks for. Another order that leads
+    # there is accepted too. The plan is sent; a command's bytes past its packet are ignored. Then active is there, and the plan for it is empty.
+    bench.fresh()
+    prepared = [
+        bench.framed(0x20, [0, 3, 0]),
+        bench.framed(0x21, [0x12, 0x10, 1, 0, 0, 0, 1, 0, 2, 0, 3, 0, 4, 0, 5]),
+        bench.framed(0x21, [0x07, 0x10, 0x01, 0xF4, 0x05, 0xDC, 0x07, 0xD0]),
+        bench.framed(0x21, [0x13, 0x10, 1, 0, 80, 90, 10]),
+        bench.framed(0x21, [0x03, 0x01]),
+    ]
+    packets = b"".join(packet.ljust(SLOT, b"\0") for packet in prepared)
+    bench.plan(packets, 2)
+    order = bench.plan(packets, 3)
+    bench.check(packets, 3, [5, 4, 3, 2, 1])
+    bench.check(packets, 3, [1, 2, 3, 4, 5])
+    for number in order:
+        bench.sent("planned", HTMGT, packets[(number - 1) * SLOT:number * SLOT])
+    bench.plan(packets, 3)
+    bench.plan(packets, 4)
 
 
 main()

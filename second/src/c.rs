@@ -2,6 +2,7 @@
 
 use crate::calls::{OccAnswer, Undone, DONE, NOT_WELL_FORMED};
 use crate::image;
+use crate::plan::Order;
 use crate::session::Session;
 
 /// The answer in bits 0 to 7, a small number in bits 8 to 15, one of 16 bits above.
@@ -28,6 +29,18 @@ pub fn with_passed(told: Undone) -> u32 {
 
 pub fn with_kind((answer, kind): (u8, u8)) -> u32 {
     packed(answer, 0, u16::from(kind))
+}
+
+/// Whether there is a plan, and how many packets it has.
+pub fn with_plan((answer, order): (u8, Option<Order>)) -> u32 {
+    match order {
+        Some(order) => packed(answer, 1, order.len() as u16),
+        None => packed(answer, 0, 0),
+    }
+}
+
+pub fn with_verdict((answer, accepted): (u8, bool)) -> u32 {
+    packed(answer, u8::from(accepted), 0)
 }
 
 /// An image of another length isn't well formed.
@@ -75,6 +88,14 @@ pub fn undo(image: &mut [u8]) -> u32 {
 
 pub fn redo(image: &mut [u8]) -> u32 {
     on(image, |session| with_kind(session.redo()))
+}
+
+pub fn plan(image: &mut [u8], packets: &[u8], wanted: u8, order: &mut [u8]) -> u32 {
+    on(image, |session| with_plan(session.plan(packets, wanted, order)))
+}
+
+pub fn plan_ok(image: &mut [u8], packets: &[u8], wanted: u8, order: &[u8]) -> u32 {
+    on(image, |session| with_verdict(session.plan_ok(packets, wanted, order)))
 }
 
 pub fn watch(image: &mut [u8]) -> u32 {

@@ -22,6 +22,8 @@ pub const CANNOT_UNDO: u8 = 7;
 pub const NOTHING_TO_REDO: u8 = 8;
 /// To forget.
 pub const NOT_SO_MANY: u8 = 9;
+/// More than five packets, or a wanted state other than 2 and 3.
+pub const NOTHING_TO_PLAN: u8 = 10;
 
 /// What an OCC call gives beside the reply.
 #[derive(Clone, Copy, PartialEq, Eq, Debug)]

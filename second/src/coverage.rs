@@ -59,7 +59,7 @@ fn count_line(counts: &mut Counts, program: &mut Program, line: &[u8]) {
 
 fn count_order(counts: &mut Counts, program: &mut Program, order: Order) {
     let before = program.session.clone();
-    let described = describe(&order, &before);
+    let described = describe(&order, &before, program.packets.len());
     let loaded = matches!(order, Order::Load(_));
     let asked_why = order == Order::Why;
     let named = match &described {
@@ -69,7 +69,8 @@ fn count_order(counts: &mut Counts, program: &mut Program, order: Order) {
         | Described::Redo(what)
         | Described::Forget(what)
         | Described::Time(what)
-        | Described::Watch(what) => what.clone(),
+        | Described::Watch(what)
+        | Described::Plan(what) => what.clone(),
         Described::Other => String::new(),
     };
     let answer = program.obey(order);
@@ -123,6 +124,15 @@ fn count_order(counts: &mut Counts, program: &mut Program, order: Order) {
             add(counts, "call watch".to_string());
             add(counts, format!("watch {what} answer {number}"));
         }
+        Described::Plan(what) => {
+            add(counts, "call plan".to_string());
+            let found = match words.get(1..) {
+                Some(["plan", order @ ..]) => format!(" plan of {}", order.len()),
+                Some(["no", ..]) => " no plan".to_string(),
+                _ => String::new(),
+            };
+            add(counts, format!("plan {what} answer {number}{found}"));
+        }
         Described::Other if asked_why => add(counts, "line why".to_string()),
         Described::Other => add(counts, "line not a call".to_string()),
     }
@@ -144,10 +154,11 @@ enum Described {
     Forget(String),
     Time(String),
     Watch(String),
+    Plan(String),
     Other,
 }
 
-fn describe(order: &Order, session: &Session) -> Described {
+fn describe(order: &Order, session: &Session, packets: usize) -> Described {
     match order {
         Order::Occ { sender, command } => Described::Occ(occ_sort(*sender, command)),
         Order::Send { sender, command_type, data } => {
@@ -164,6 +175,7 @@ fn describe(order: &Order, session: &Session) -> Described {
         }),
         Order::Undo => Described::Undo(undo_sort(session)),
         Order::Redo => Described::Redo(redo_sort(session)),
+        Order::Plan(wanted) => Described::Plan(plan_sort(session, *wanted, packets)),
         Order::Watch => Described::Watch(watch_sort(session)),
         Order::Time(microseconds) => Described::Time(time_sort(session, *microseconds)),
         Order::Forget(count) => Described::Forget(forget_sort(session, *count as usize)),
@@ -264,6 +276,18 @@ fn ring_sort(request: &[u8]) -> String {
 
 fn watched(session: &Session) -> bool {
     session.profile == WATCH_ONLY
+}
+
+/// For which state, and of how many packets.
+fn plan_sort(session: &Session, wanted: u8, packets: usize) -> String {
+    let state = match wanted {
+        _ if !session.well_formed() => return "of a damaged session".to_string(),
+        2 | 3 if session.record.state == wanted => "for the state at hand",
+        2 => "for state 2",
+        3 => "for state 3",
+        _ => "for another state",
+    };
+    format!("{state}, of {packets}{}", if watched(session) { ", watched" } else { "" })
 }
 
 /// What is lost by opening.

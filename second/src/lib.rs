@@ -10,6 +10,7 @@ pub mod image;
 pub mod journal;
 pub mod occ;
 pub mod part;
+pub mod plan;
 pub mod protocol;
 pub mod record;
 pub mod sbe;

@@ -4,6 +4,7 @@ use crate::bytes::{hex, hex_spaced};
 use crate::calls::{OccAnswer, Undone, DONE, OCC_REPLY_LENGTH, SBE_REPLY_LENGTH};
 use crate::image::{self, IMAGE_LENGTH};
 use crate::occ::{command_packet, Fault};
+use crate::plan::{slots, MOST_PACKETS, SLOT};
 use crate::sbe::SEEPROM_LENGTH;
 use crate::session::Session;
 use crate::show::{journal_listing, show};
@@ -14,6 +15,8 @@ pub const LONGEST_COMMAND: usize = 8192;
 /// A packet adds six bytes to the data.
 pub const LONGEST_SENT: usize = LONGEST_COMMAND - 6;
 pub const LONGEST_BUFFER: u64 = 8192;
+/// One more than a plan takes, so that a line can ask for too many.
+pub const MOST_PREPARED: usize = 6;
 /// Of a line; a file may lend more.
 pub const LONGEST_SEEPROM: usize = 8192;
 
@@ -33,6 +36,8 @@ load BYTES        go on with the session of such an image
 send SS TT DATA   as occ: a packet of type TT, framed for you
 buffer N          reply buffers of N bytes; alone: whole ones again
 seeprom BYTES     lend these bytes as the SEEPROM's image
+packet BYTES      prepare a packet for a plan; alone: drop all
+plan N            in which order prepared packets lead to state N
 why               which data byte the last packet had wrong
 show              the session for a person
 journal           the journal's entries
@@ -67,6 +72,9 @@ pub enum Order {
     Buffer(Option<usize>),
     /// The image of the SEEPROM that is lent from now on.
     Seeprom(Vec<u8>),
+    /// Prepared as the next one; without bytes all are dropped.
+    Packet(Vec<u8>),
+    Plan(u8),
     Why,
     Show,
     Journal,
@@ -173,6 +181,10 @@ fn seeprom_over(column: usize) -> Complaint {
     format!("? seeprom over {LONGEST_SEEPROM} bytes at column {column}")
 }
 
+fn packet_over(column: usize) -> Complaint {
+    format!("? packet over {SLOT} bytes at column {column}")
+}
+
 fn wrong_image(_column: usize) -> Complaint {
     format!("? image must be {IMAGE_LENGTH} bytes")
 }
@@ -214,6 +226,11 @@ fn parse_words(rest: &mut Scanner) -> Result<Order, Complaint> {
             let microseconds = rest.number(u64::MAX)?;
             rest.nothing_more(Order::Time(microseconds))
         }
+        b"packet" => Ok(Order::Packet(rest.bytes(SLOT, packet_over)?)),
+        b"plan" => {
+            let wanted = rest.number(u8::MAX.into())?;
+            rest.nothing_more(Order::Plan(wanted as u8))
+        }
         b"watch" => rest.nothing_more(Order::Watch),
         b"seeprom" => Ok(Order::Seeprom(rest.bytes(LONGEST_SEEPROM, seeprom_over)?)),
         b"fresh" => rest.nothing_more(Order::Fresh),
@@ -245,13 +262,14 @@ fn parse_buffer(rest: &mut Scanner) -> Result<Order, Complaint> {
 }
 
 /// The session, the sequence number of the last `send`, the length of reply buffers if they aren't whole, the SEEPROM's image, the
-/// buffer for what is read from it, and what the last OCC call had wrong.
+/// buffer for what is read from it, the packets that are prepared for a plan, and what the last OCC call had wrong.
 pub struct Program {
     pub session: Session,
     sequence: u8,
     buffer: Option<usize>,
     pub seeprom: Vec<u8>,
     data: Vec<u8>,
+    pub packets: Vec<Vec<u8>>,
     pub fault: Option<Fault>,
 }
 
@@ -265,7 +283,15 @@ impl Program {
     /// At the start, with that image lent.
     pub fn with_seeprom(seeprom: Vec<u8>) -> Self {
         let data = vec![0; SEEPROM_LENGTH];
-        Program { session: Session::fresh(), sequence: 0, buffer: None, seeprom, data, fault: None }
+        Program {
+            session: Session::fresh(),
+            sequence: 0,
+            buffer: None,
+            seeprom,
+            data,
+            packets: Vec::new(),
+            fault: None,
+        }
     }
 
     /// What is written for a line, empty for one that is skipped.
@@ -292,6 +318,8 @@ impl Program {
                 (DONE, bell) => format!("{DONE} bell {bell:04X}\n"),
                 (answer, _) => format!("{answer}\n"),
             },
+            Order::Packet(packet) => self.prepare(packet),
+            Order::Plan(wanted) => self.plan(wanted),
             Order::Watch => format!("{}\n", self.session.watch()),
             Order::Seeprom(bytes) => {
                 self.seeprom = bytes;
@@ -343,6 +371,28 @@ impl Program {
                 format!("{DONE} {written} bell {:04X}{data}\n", told.bell)
             }
             _ => format!("{}\n", told.answer),
+        }
+    }
+
+    fn prepare(&mut self, packet: Vec<u8>) -> String {
+        if packet.is_empty() {
+            self.packets.clear();
+        } else if self.packets.len() == MOST_PREPARED {
+            return "? six packets at most\n".to_string();
+        } else {
+            self.packets.push(packet);
+        }
+        "ok\n".to_string()
+    }
+
+    fn plan(&self, wanted: u8) -> String {
+        match self.session.plan(&slots(&self.packets), wanted, &mut [0; MOST_PACKETS]) {
+            (DONE, Some(order)) => {
+                let numbers: String = order.iter().map(|number| format!(" {number}")).collect();
+                format!("{DONE} plan{numbers}\n")
+            }
+            (DONE, None) => format!("{DONE} no plan\n"),
+            (answer, _) => format!("{answer}\n"),
         }
     }
 

@@ -63,6 +63,18 @@ pub fn time(image: &mut [u8], microseconds: u64) -> u32 {
     unsafe { ffi::bjargolsk_time(image.as_mut_ptr(), image.len(), microseconds) }
 }
 
+pub fn plan(image: &mut [u8], packets: &[u8], wanted: u8, order: &mut [u8]) -> u32 {
+    let (session, length) = (image.as_ptr(), image.len());
+    let (to, room) = (order.as_mut_ptr(), order.len());
+    unsafe { ffi::bjargolsk_plan(session, length, packets.as_ptr(), packets.len(), wanted, to, room) }
+}
+
+pub fn plan_ok(image: &mut [u8], packets: &[u8], wanted: u8, order: &[u8]) -> u32 {
+    let (session, length) = (image.as_ptr(), image.len());
+    let (from, count) = (order.as_ptr(), order.len());
+    unsafe { ffi::bjargolsk_plan_ok(session, length, packets.as_ptr(), packets.len(), wanted, from, count) }
+}
+
 pub fn watch(image: &mut [u8]) -> u32 {
     unsafe { ffi::bjargolsk_watch(image.as_mut_ptr(), image.len()) }
 }

@@ -1,11 +1,12 @@
 //! A master OCC brought up and capped; changes taken back, one step too far, and one put in again; a cap that is too high; the oldest changes forgotten; the
-//! SBE's timer; a part of its SEEPROM read; a session that can only be watched.
+//! SBE's timer; a part of its SEEPROM read; a session that can only be watched; a plan for a bring-up.
 
 #[path = "../../../include/bjargolsk.rs"]
 mod ffi;
 
 const HTMGT: u8 = 0x10;
 const BMC: u8 = 0x20;
+const SLOT: usize = 4096;
 
 /// A session's image, and the buffer for replies.
 struct Bench {
@@ -22,10 +23,13 @@ impl Bench {
             reply: [0; 4096],
             sequence: 0,
         };
-        let result =
-            unsafe { ffi::bjargolsk_fresh(bench.session.as_mut_ptr(), bench.session.len()) };
-        println!("fresh: answer {result}");
+        bench.begin();
         bench
+    }
+
+    fn begin(&mut self) {
+        let result = unsafe { ffi::bjargolsk_fresh(self.session.as_mut_ptr(), self.session.len()) };
+        println!("fresh: answer {result}");
     }
 
     fn shown(&self, answer: u32, length: usize) -> String {
@@ -37,7 +41,7 @@ impl Bench {
     }
 
     /// A packet is sequence, type, two bytes of data length, data, and the two-byte sum of all that.
-    fn occ(&mut self, name: &str, sender: u8, kind: u8, data: &[u8]) {
+    fn framed(&mut self, kind: u8, data: &[u8]) -> Vec<u8> {
         self.sequence += 1;
         let mut packet = vec![self.sequence, kind];
         packet.extend_from_slice(&(data.len() as u16).to_be_bytes());
@@ -46,6 +50,15 @@ impl Bench {
             .iter()
             .fold(0u16, |sum, &b| sum.wrapping_add(b.into()));
         packet.extend_from_slice(&sum.to_be_bytes());
+        packet
+    }
+
+    fn occ(&mut self, name: &str, sender: u8, kind: u8, data: &[u8]) {
+        let packet = self.framed(kind, data);
+        self.sent(name, sender, &packet);
+    }
+
+    fn sent(&mut self, name: &str, sender: u8, packet: &[u8]) {
         let result = unsafe {
             ffi::bjargolsk_occ(
                 self.session.as_mut_ptr(),
@@ -141,6 +154,56 @@ impl Bench {
         let result = unsafe { ffi::bjargolsk_watch(self.session.as_mut_ptr(), self.session.len()) };
         println!("watch: answer {}", result & 0xFF);
     }
+
+    /// Packets stand in slots; the numbers of the plan are returned, from 1.
+    fn plan(&self, packets: &[u8], wanted: u8) -> Vec<u8> {
+        let mut order = [0; 5];
+        let result = unsafe {
+            ffi::bjargolsk_plan(
+                self.session.as_ptr(),
+                self.session.len(),
+                packets.as_ptr(),
+                packets.len(),
+                wanted,
+                order.as_mut_ptr(),
+                order.len(),
+            )
+        };
+        let (answer, found, count) = (result & 0xFF, result >> 8 & 0xFF, result >> 16);
+        let numbers = order[..count as usize].to_vec();
+        let told = match (answer, found) {
+            (0, 0) => " no plan",
+            (0, _) => " plan",
+            _ => "",
+        };
+        println!("plan {wanted}: answer {answer}{told}{}", listed(&numbers));
+        numbers
+    }
+
+    fn check(&self, packets: &[u8], wanted: u8, proposal: &[u8]) {
+        let result = unsafe {
+            ffi::bjargolsk_plan_ok(
+                self.session.as_ptr(),
+                self.session.len(),
+                packets.as_ptr(),
+                packets.len(),
+                wanted,
+                proposal.as_ptr(),
+                proposal.len(),
+            )
+        };
+        let (answer, accepted) = (result & 0xFF, result >> 8 & 0xFF);
+        let told = if accepted == 1 {
+            "accepted"
+        } else {
+            "not accepted"
+        };
+        println!("proposal{}: answer {answer} {told}", listed(proposal));
+    }
+}
+
+fn listed(numbers: &[u8]) -> String {
+    numbers.iter().map(|number| format!(" {number}")).collect()
 }
 
 /// A request of these bytes and zeros.
@@ -215,4 +278,29 @@ fn main() {
     bench.undo();
     bench.undo();
     bench.occ("poll", BMC, 0x00, &[0x10]);
+    // Five packets in the wrong order, for a fresh session: the plan for active, and none for observation, which no packet asks for. Another order that leads
+    // there is accepted too. The plan is sent; a command's bytes past its packet are ignored. Then active is there, and the plan for it is empty.
+    bench.begin();
+    let mut packets = Vec::new();
+    for (kind, data) in [
+        (0x20, &[0, 3, 0][..]),
+        (0x21, &[0x12, 0x10, 1, 0, 0, 0, 1, 0, 2, 0, 3, 0, 4, 0, 5]),
+        (0x21, &[0x07, 0x10, 0x01, 0xF4, 0x05, 0xDC, 0x07, 0xD0]),
+        (0x21, &[0x13, 0x10, 1, 0, 80, 90, 10]),
+        (0x21, &[0x03, 0x01]),
+    ] {
+        let mut packet = bench.framed(kind, data);
+        packet.resize(SLOT, 0);
+        packets.extend(packet);
+    }
+    bench.plan(&packets, 2);
+    let order = bench.plan(&packets, 3);
+    bench.check(&packets, 3, &[5, 4, 3, 2, 1]);
+    bench.check(&packets, 3, &[1, 2, 3, 4, 5]);
+    for number in order {
+        let slot = usize::from(number - 1) * SLOT;
+        bench.sent("planned", HTMGT, &packets[slot..slot + SLOT]);
+    }
+    bench.plan(&packets, 3);
+    bench.plan(&packets, 4);
 }

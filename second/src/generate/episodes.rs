@@ -45,6 +45,7 @@ impl<B: Bench> Generator<B> {
         self.every_forget();
         self.every_shut();
         (0..if self.small { 2 } else { 8 }).for_each(|_| self.watching());
+        (0..if self.small { 12 } else { 40 }).for_each(|_| self.plans());
         self.every_chiplet();
         self.every_seeprom();
         for _ in 0..if self.small { 2 } else { 6 } {
@@ -203,6 +204,72 @@ impl<B: Bench> Generator<B> {
         self.pass_time();
         self.redos(4);
         self.look();
+    }
+
+    /// Packets of a bring-up and others, in any order, and plans for both states, from a session of any sort.
+    fn plans(&mut self) {
+        match self.random.below(5) {
+            0 => {
+                let session = scene::session(&mut self.random);
+                self.load_session(&session);
+            }
+            1 => self.steps(1, 6),
+            2 => {
+                self.give(Order::Fresh);
+                let (role, next) = (self.random.pick(&[0, 1]), self.random.below(CHANGES));
+                self.framed(0x10, 0x21, &[FORMAT_ROLE, role]);
+                self.change(next);
+            }
+            _ => self.give(Order::Fresh),
+        }
+        if self.random.one_in(6) {
+            self.watch();
+        }
+        for _ in 0..self.random.between(1, 3) {
+            self.give(Order::Packet(vec![]));
+            let wanted = self.random.pick(&[OBSERVATION, OBSERVATION, ACTIVE]);
+            let count = self.random.pick(&[0, 1, 2, 3, 4, 4, 5, 5, 5, 5, 5, 6, 7]);
+            if self.random.one_in(2) {
+                self.bring_up_packets(wanted, count);
+            } else {
+                for _ in 0..count {
+                    let packet = self.prepared(wanted);
+                    self.give(Order::Packet(packet));
+                }
+            }
+            let any = self.random.byte();
+            let strange = self.random.pick(&[0, 1, 4, 255, any]);
+            self.plan(wanted);
+            self.plan(5 - wanted);
+            if self.random.one_in(4) {
+                self.plan(strange);
+            }
+            if self.random.one_in(3) {
+                self.step();
+                self.plan(wanted);
+            }
+        }
+    }
+
+    /// What a bring-up needs, in any order, with one thing left out or twice now and then.
+    fn bring_up_packets(&mut self, wanted: u8, count: usize) {
+        let master = u8::from(self.random.percent(60));
+        let mut packets = [
+            (0x21, vec![FORMAT_ROLE, master]),
+            (0x20, vec![0, wanted, 0]),
+            commands::right(&mut self.random, self.bench.session(), About::Thermal),
+            commands::right(&mut self.random, self.bench.session(), About::Throttles),
+            (0x21, vec![FORMAT_CAPS, 0x10, 1, 0, 2, 0, 0, 0]),
+        ];
+        if self.random.one_in(4) {
+            let (from, to) = (self.random.below(5), self.random.below(5));
+            packets[to] = packets[from].clone();
+        }
+        for place in self.random.distinct(count.min(5), 5) {
+            let (kind, data) = &packets[place];
+            let packet = crate::occ::command_packet(self.random.byte(), *kind, data);
+            self.give(Order::Packet(packet));
+        }
     }
 
     /// A watch-only session, opened over another or loaded: what is open, what is shut, and clears back and forth.
@@ -369,7 +436,7 @@ impl<B: Bench> Generator<B> {
     }
 
     pub fn episode(&mut self) {
-        let loads = if self.small { 35 } else { 172 };
+        let loads = if self.small { 36 } else { 186 };
         match self.random.below(loads) {
             0..=9 => self.bring_up(),
             10..=13 => self.walk_from_fresh(),
@@ -385,6 +452,7 @@ impl<B: Bench> Generator<B> {
             32 if self.small => self.wrong_packets(),
             33 if self.small => self.timers(),
             34 if self.small => self.watching(),
+            35 if self.small => self.plans(),
             28..=37 => self.ids_near_their_end(),
             38..=53 => self.scene(),
             54..=59 => {
@@ -416,6 +484,7 @@ impl<B: Bench> Generator<B> {
             145..=156 => self.timers(),
             157..=160 => self.lend(),
             161..=170 => self.watching(),
+            171..=184 => self.plans(),
             _ => self.bounds(),
         }
         if !self.small || self.random.one_in(4) {
@@ -799,6 +868,7 @@ impl<B: Bench> Generator<B> {
         self.forget_some();
         self.pass_time();
         if !self.session().well_formed() || self.random.one_in(8) {
+            self.plan(OBSERVATION);
             self.watch();
         }
         if self.random.one_in(12) {

@@ -2,6 +2,7 @@
 
 use super::random::Random;
 use crate::image::IMAGE_LENGTH;
+use crate::plan::SLOT;
 use crate::protocol::{LONGEST_COMMAND, LONGEST_LINE, LONGEST_SEEPROM, LONGEST_SENT};
 
 const SHORT: &[&str] = &[
@@ -75,6 +76,20 @@ const SHORT: &[&str] = &[
     "seeprom 00,",
     "Seeprom 00",
     "seeproms",
+    "packet 0",
+    "packet 0g",
+    "packet 01 0",
+    "packets",
+    "Packet 00",
+    "plan",
+    "plan \t",
+    "plan x",
+    "plan 256",
+    "plan  0000256x",
+    "plan 2 3",
+    "plan 2,",
+    "plan2",
+    "planned 2",
     "watch 1",
     "watch\twatch",
     "Watch",
@@ -169,7 +184,7 @@ pub fn odd(random: &mut Random) -> Vec<u8> {
     line
 }
 
-const LONG_COUNT: usize = 25;
+const LONG_COUNT: usize = 29;
 
 /// Numbers that a small file can do without.
 pub const MORE_OF_THE_SAME: [usize; 7] = [0, 1, 5, 6, 7, 10, 24];
@@ -219,6 +234,10 @@ pub fn long(random: &mut Random, number: usize) -> Vec<u8> {
         21 => repeated("buffer ", "0", LONGEST_LINE - 11, "4096"),
         22 => repeated("seeprom ", "5A", LONGEST_SEEPROM, " "),
         23 => repeated("seeprom ", "5A", LONGEST_SEEPROM, " zz"),
-        _ => repeated("seeprom", " 5A", LONGEST_SEEPROM, "5A"),
+        24 => repeated("seeprom", " 5A", LONGEST_SEEPROM, "5A"),
+        25 => repeated("packet ", "5A", SLOT, " "),
+        26 => repeated("packet ", "5A", SLOT, " z"),
+        27 => repeated("packet", " 5A", SLOT, "5A"),
+        _ => b"packet".to_vec(),
     }
 }

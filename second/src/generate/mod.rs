@@ -161,6 +161,49 @@ impl<B: Bench> Generator<B> {
         self.give(Order::Time(microseconds));
     }
 
+    fn plan(&mut self, wanted: u8) {
+        self.give(Order::Plan(wanted));
+    }
+
+    /// Of any sort that a plan may meet, most of them right where their turn comes.
+    fn prepared(&mut self, wanted: u8) -> Vec<u8> {
+        let (random, session) = (&mut self.random, self.bench.session());
+        let about = random.pick(&[
+            About::Role,
+            About::Role,
+            About::Caps,
+            About::Caps,
+            About::Thermal,
+            About::Thermal,
+            About::Throttles,
+            About::State,
+            About::State,
+            About::Reset,
+            About::Poll,
+            About::Clear,
+            About::UserCap,
+        ]);
+        let (kind, mut data) = match about {
+            About::State => (occ::SET_STATE, vec![0, random.pick(&[wanted, wanted, wanted, 1, 2, 3]), 0]),
+            About::Role => (occ::CONFIGURATION, vec![crate::record::FORMAT_ROLE, random.pick(&[0, 1, 1])]),
+            _ if random.one_in(8) => commands::off(random, session, about),
+            _ => commands::right(random, session, about),
+        };
+        if random.one_in(25) {
+            commands::wrong_length(random, &mut data);
+        }
+        let mut packet = command_packet(random.byte(), kind, &data);
+        if random.one_in(20) {
+            commands::wrong_frame(random, &mut packet);
+        }
+        if random.one_in(12) {
+            let more = random.pick(&[1, 8, 100]);
+            packet.extend(random.bytes(more));
+        }
+        packet.truncate(crate::plan::SLOT);
+        packet
+    }
+
     fn watch(&mut self) {
         self.give(Order::Watch);
     }

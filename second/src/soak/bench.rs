@@ -1,11 +1,12 @@
 //! The bench of the soak: each order of the generator is a call by both programs.
 
 use super::call::{Call, NAMES};
-use super::pair::{Difference, Pair, LONGEST_SEEPROM, SHIFTS};
+use super::pair::{Difference, Pair, LONGEST_PACKETS, LONGEST_SEEPROM, SHIFTS};
 use second::calls::DONE;
 use second::generate::{Bench, Random};
 use second::image::{self, IMAGE_LENGTH};
 use second::occ::command_packet;
+use second::plan::{slots, MOST_PACKETS, SLOT};
 use second::protocol::{Order, LONGEST_BUFFER, LONGEST_COMMAND};
 use second::session::Session;
 use std::collections::BTreeMap;
@@ -44,6 +45,10 @@ pub struct Reached {
     /// On images of another length.
     odd_images: u64,
     loads: u64,
+    /// Plans by how many packets they have, and none; proposals that were accepted, and that weren't.
+    plans: [u64; MOST_PACKETS + 1],
+    no_plan: u64,
+    proposals: [u64; 2],
 }
 
 /// Those that came, with their place.
@@ -58,7 +63,11 @@ impl Reached {
         if answer != u32::from(DONE) {
             return;
         }
+        let (small, high) = (result >> 8 & 0xFF, result >> 16);
         match (call, reply) {
+            (Call::Plan { .. }, _) if small == 0 => self.no_plan += 1,
+            (Call::Plan { .. }, _) => self.plans[high as usize % (MOST_PACKETS + 1)] += 1,
+            (Call::PlanOk { .. }, _) => self.proposals[small as usize & 1] += 1,
             (Call::Occ { .. }, [_, _, status, ..]) => self.occ_statuses[usize::from(status & 31)] += 1,
             (Call::Sbe { .. } | Call::SbeSeeprom { .. }, [a, b, c, d, ..]) => {
                 *self.sbe_statuses.entry(u32::from_be_bytes([*a, *b, *c, *d])).or_default() += 1
@@ -78,6 +87,10 @@ impl Reached {
         numbered(&self.occ_statuses).for_each(|(status, count)| text += &format!(" {status:02X}: {count}"));
         text += "\nsbe statuses";
         self.sbe_statuses.iter().for_each(|(status, count)| text += &format!(" {status:08X}: {count}"));
+        text += "\nplans of so many packets";
+        numbered(&self.plans).for_each(|(packets, count)| text += &format!(" {packets}: {count}"));
+        let [refused, accepted] = self.proposals;
+        text += &format!(", none: {}; proposals accepted {accepted}, not {refused}", self.no_plan);
         let (loads, odd) = (self.loads, self.odd_images);
         text + &format!("\n{loads} images loaded, {odd} calls on images of another length\n")
     }
@@ -94,6 +107,8 @@ pub struct Soak {
     buffer: Option<usize>,
     /// The image of the SEEPROM that is lent.
     seeprom: Rc<Vec<u8>>,
+    /// Prepared for plans.
+    packets: Vec<Vec<u8>>,
     start: Vec<u8>,
     calls: Vec<Call>,
     before: Vec<u8>,
@@ -121,6 +136,7 @@ impl Soak {
             sequence: 0,
             buffer: None,
             seeprom: Rc::default(),
+            packets: Vec::new(),
             before: start.clone(),
             start,
             calls: Vec::new(),
@@ -186,6 +202,44 @@ impl Soak {
                 self.calls.clear();
             }
             Ok(_) => {}
+        }
+    }
+
+    /// A plan of the packets in slots, whose unused bytes are anything, and a proposal or two judged.
+    fn plans(&mut self, random: &mut Random, wanted: u8) {
+        let mut packets = slots(&self.packets);
+        if random.one_in(8) {
+            let more = random.pick(&[1, SLOT, 20480usize.saturating_sub(packets.len()), 20481]);
+            packets.extend(random.bytes(more));
+        }
+        if random.one_in(16) {
+            packets.truncate(random.below(packets.len() + 1));
+        }
+        packets.truncate(LONGEST_PACKETS);
+        let packets = Rc::new(packets);
+        self.call(random, Call::Plan { packets: Rc::clone(&packets), wanted, room: 0 });
+        for _ in 0..2 {
+            let order = self.proposal(random, &packets, wanted);
+            self.call(random, Call::PlanOk { packets: Rc::clone(&packets), wanted, order });
+        }
+    }
+
+    /// A plan, one with a slip, or numbers at random.
+    fn proposal(&mut self, random: &mut Random, packets: &[u8], wanted: u8) -> Vec<u8> {
+        let plan = self.session().plan(packets, wanted, &mut [0; MOST_PACKETS]).1;
+        let length = random.pick(&[0, 1, 2, 3, 4, 5, 5, 6, 9]);
+        let numbers: Vec<u8> =
+            random.distinct(length.min(5), 5).iter().map(|place| *place as u8 + 1).collect();
+        let any: Vec<u8> = (0..length).map(|_| random.pick(&[0, 1, 1, 2, 3, 4, 5, 6, 255])).collect();
+        match (plan, random.below(4)) {
+            (Some(plan), 0 | 1) => plan,
+            (Some(mut plan), 2) => {
+                let place = random.below(plan.len() + 1);
+                plan.insert(place, random.pick(&[0, 1, 2, 3, 4, 5, 6]));
+                plan
+            }
+            (_, 3) => any,
+            _ => numbers,
         }
     }
 
@@ -279,6 +333,9 @@ impl Bench for Soak {
             }
             Order::Time(microseconds) => self.call(random, Call::Time(microseconds)),
             Order::Watch => self.call(random, Call::Watch),
+            Order::Packet(packet) if packet.is_empty() => self.packets.clear(),
+            Order::Packet(packet) => self.packets.push(packet),
+            Order::Plan(wanted) => self.plans(random, wanted),
             Order::Seeprom(image) => self.seeprom = Rc::new(image),
             Order::Undo => self.call(random, Call::Undo),
             Order::Redo => self.call(random, Call::Redo),

@@ -4,6 +4,7 @@ use super::proved;
 use second::bytes::hex;
 use second::c;
 use second::calls::{OCC_REPLY_LENGTH, SBE_REPLY_LENGTH};
+use second::plan::{MOST_PACKETS, SLOT};
 use std::rc::Rc;
 
 /// Image, request, reply, the SEEPROM's image, the second buffer.
@@ -20,6 +21,8 @@ pub struct Library {
     sbe_seeprom: SbeSeeprom,
     time: fn(&mut [u8], u64) -> u32,
     watch: fn(&mut [u8]) -> u32,
+    plan: fn(&mut [u8], &[u8], u8, &mut [u8]) -> u32,
+    plan_ok: fn(&mut [u8], &[u8], u8, &[u8]) -> u32,
 }
 
 pub const PROVED: Library = Library {
@@ -32,6 +35,8 @@ pub const PROVED: Library = Library {
     sbe_seeprom: proved::sbe_seeprom,
     time: proved::time,
     watch: proved::watch,
+    plan: proved::plan,
+    plan_ok: proved::plan_ok,
 };
 pub const SECOND: Library = Library {
     fresh: c::fresh,
@@ -43,6 +48,8 @@ pub const SECOND: Library = Library {
     sbe_seeprom: c::sbe_seeprom,
     time: c::time,
     watch: c::watch,
+    plan: c::plan,
+    plan_ok: c::plan_ok,
 };
 
 /// All that a call's outcome hangs on beside the session; `room` is the length of the reply buffer.
@@ -70,19 +77,30 @@ pub enum Call {
     },
     Time(u64),
     Watch,
+    /// Of packets in slots; `room` is the length of the buffer for the order.
+    Plan {
+        packets: Rc<Vec<u8>>,
+        wanted: u8,
+        room: usize,
+    },
+    PlanOk {
+        packets: Rc<Vec<u8>>,
+        wanted: u8,
+        order: Vec<u8>,
+    },
 }
 
-pub const NAMES: [&str; 9] =
-    ["fresh", "occ", "sbe", "undo", "redo", "forget", "sbe_seeprom", "time", "watch"];
+pub const NAMES: [&str; 11] =
+    ["fresh", "occ", "sbe", "undo", "redo", "forget", "sbe_seeprom", "time", "watch", "plan", "plan_ok"];
 
 pub const SBE_SEEPROM: usize = 6;
 
-/// The buffers that a call is lent: `input` and `seeprom` hold its bytes, `reply` and `data` have its rooms.
+/// The buffers that a call is lent: `input` and `second_input` hold its bytes, `reply` and `data` have its rooms.
 pub struct Lending<'a> {
     pub image: &'a mut [u8],
     pub input: &'a [u8],
     pub reply: &'a mut [u8],
-    pub seeprom: &'a [u8],
+    pub second_input: &'a [u8],
     pub data: &'a mut [u8],
 }
 
@@ -99,6 +117,8 @@ impl Call {
             Call::SbeSeeprom { .. } => SBE_SEEPROM,
             Call::Time(_) => 7,
             Call::Watch => 8,
+            Call::Plan { .. } => 9,
+            Call::PlanOk { .. } => 10,
         }
     }
 
@@ -108,6 +128,7 @@ impl Call {
             Call::Occ { command: bytes, .. }
             | Call::Sbe { request: bytes, .. }
             | Call::SbeSeeprom { request: bytes, .. } => bytes,
+            Call::Plan { packets, .. } | Call::PlanOk { packets, .. } => packets,
             _ => &[],
         }
     }
@@ -115,21 +136,29 @@ impl Call {
     /// The length of the buffer that it is lent to write.
     pub fn room(&self) -> usize {
         match self {
-            Call::Occ { room, .. } | Call::Sbe { room, .. } | Call::SbeSeeprom { room, .. } => *room,
+            Call::Occ { room, .. }
+            | Call::Sbe { room, .. }
+            | Call::SbeSeeprom { room, .. }
+            | Call::Plan { room, .. } => *room,
             _ => 0,
         }
     }
 
     pub fn set_room(&mut self, length: usize) {
-        if let Call::Occ { room, .. } | Call::Sbe { room, .. } | Call::SbeSeeprom { room, .. } = self {
-            *room = length;
+        match self {
+            Call::Occ { room, .. }
+            | Call::Sbe { room, .. }
+            | Call::SbeSeeprom { room, .. }
+            | Call::Plan { room, .. } => *room = length,
+            _ => {}
         }
     }
 
-    /// The image of the SEEPROM that it is lent.
-    pub fn seeprom(&self) -> &[u8] {
+    /// What else it is lent to read: the SEEPROM's image, or a proposal.
+    pub fn second_input(&self) -> &[u8] {
         match self {
             Call::SbeSeeprom { seeprom, .. } => seeprom,
+            Call::PlanOk { order, .. } => order,
             _ => &[],
         }
     }
@@ -147,13 +176,14 @@ impl Call {
         match self {
             Call::Occ { .. } => OCC_REPLY_LENGTH,
             Call::Sbe { .. } | Call::SbeSeeprom { .. } => SBE_REPLY_LENGTH,
+            Call::Plan { .. } => MOST_PACKETS,
             _ => 0,
         }
     }
 
     /// Made by a program on lent buffers.
     pub fn make(&self, library: &Library, lent: Lending) -> u32 {
-        let Lending { image, input, reply, seeprom, data } = lent;
+        let Lending { image, input, reply, second_input, data } = lent;
         match self {
             Call::Fresh => (library.fresh)(image),
             Call::Occ { sender, .. } => (library.occ)(image, *sender, input, reply),
@@ -161,7 +191,9 @@ impl Call {
             Call::Undo => (library.undo)(image),
             Call::Redo => (library.redo)(image),
             Call::Forget(count) => (library.forget)(image, *count),
-            Call::SbeSeeprom { .. } => (library.sbe_seeprom)(image, input, reply, seeprom, data),
+            Call::SbeSeeprom { .. } => (library.sbe_seeprom)(image, input, reply, second_input, data),
+            Call::Plan { wanted, .. } => (library.plan)(image, input, *wanted, reply),
+            Call::PlanOk { wanted, .. } => (library.plan_ok)(image, input, *wanted, second_input),
             Call::Time(microseconds) => (library.time)(image, *microseconds),
             Call::Watch => (library.watch)(image),
         }
@@ -173,8 +205,24 @@ impl Call {
             Call::Occ { sender, command, .. } => format!("occ {sender:02X} {}", hex(command)),
             Call::Sbe { request, .. } | Call::SbeSeeprom { request, .. } => format!("sbe {}", hex(request)),
             Call::Time(microseconds) => format!("time {microseconds}"),
+            Call::Plan { packets, wanted, .. } => format!("{}plan {wanted}", prepared(packets)),
+            Call::PlanOk { packets, wanted, order } => {
+                format!("{}# is {order:?} a plan for {wanted}? No line asks that", prepared(packets))
+            }
             Call::Forget(count) => format!("forget {count}"),
             Call::Fresh | Call::Undo | Call::Redo | Call::Watch => NAMES[self.number()].to_string(),
         }
     }
+}
+
+/// The packets of slots as lines; zeros at a slot's end are left out, and so the lines may say less than the slots.
+fn prepared(slots: &[u8]) -> String {
+    let mut text = "packet\n".to_string();
+    for slot in slots.chunks(SLOT) {
+        let length = slot.iter().rposition(|byte| *byte != 0).map_or(1, |last| last + 1);
+        let length =
+            slot.get(2..4).map_or(length, |l| length.max(6 + usize::from(l[0]) * 256 + usize::from(l[1])));
+        text += &format!("packet {}\n", hex(&slot[..length.min(slot.len())]));
+    }
+    text
 }

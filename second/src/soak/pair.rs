@@ -2,6 +2,7 @@
 
 use super::call::{Call, Lending, PROVED, SECOND};
 use second::image::IMAGE_LENGTH;
+use second::plan::SLOT;
 
 /// Bytes before and after each buffer, which no call may touch.
 const GUARD: usize = 64;
@@ -53,10 +54,12 @@ struct Side {
     image: Lent,
     input: Lent,
     reply: Lent,
-    seeprom: Lent,
+    second_input: Lent,
     data: Lent,
 }
 
+/// The longest row of slots.
+pub const LONGEST_PACKETS: usize = 8 * SLOT;
 /// The longest image of the SEEPROM, and the longest second buffer.
 pub const LONGEST_SEEPROM: usize = 70_000;
 
@@ -64,9 +67,9 @@ impl Side {
     fn new(longest: usize) -> Self {
         Side {
             image: Lent::new(2 * IMAGE_LENGTH),
-            input: Lent::new(longest),
+            input: Lent::new(longest.max(LONGEST_PACKETS)),
             reply: Lent::new(longest),
-            seeprom: Lent::new(LONGEST_SEEPROM),
+            second_input: Lent::new(LONGEST_SEEPROM),
             data: Lent::new(LONGEST_SEEPROM),
         }
     }
@@ -79,7 +82,7 @@ pub enum Difference {
     Image { at: isize, proved: u8, second: u8 },
     Input { at: isize, proved: u8, second: u8 },
     Reply { at: isize, proved: u8, second: u8 },
-    Seeprom { at: isize, proved: u8, second: u8 },
+    SecondInput { at: isize, proved: u8, second: u8 },
     Data { at: isize, proved: u8, second: u8 },
 }
 
@@ -93,9 +96,11 @@ impl Difference {
                 format!("result: proved {proved:08X}, second {second:08X}")
             }
             Difference::Image { at, proved, second } => byte("image", at, proved, second),
-            Difference::Input { at, proved, second } => byte("command", at, proved, second),
-            Difference::Reply { at, proved, second } => byte("reply buffer", at, proved, second),
-            Difference::Seeprom { at, proved, second } => byte("SEEPROM's image", at, proved, second),
+            Difference::Input { at, proved, second } => byte("command or packets", at, proved, second),
+            Difference::Reply { at, proved, second } => byte("reply buffer or order", at, proved, second),
+            Difference::SecondInput { at, proved, second } => {
+                byte("SEEPROM's image or the proposal", at, proved, second)
+            }
             Difference::Data { at, proved, second } => byte("second buffer", at, proved, second),
         }
     }
@@ -149,14 +154,14 @@ impl Pair {
                 side.input.place(shift, call.input().len());
                 side.input.lend().copy_from_slice(call.input());
                 side.reply.place(shift, call.room());
-                side.seeprom.place(shift, call.seeprom().len());
-                side.seeprom.lend().copy_from_slice(call.seeprom());
+                side.second_input.place(shift, call.second_input().len());
+                side.second_input.lend().copy_from_slice(call.second_input());
                 side.data.place(shift, call.data_room());
                 let lent = Lending {
                     image: side.image.lend(),
                     input: side.input.lent(),
                     reply: side.reply.lend(),
-                    seeprom: side.seeprom.lent(),
+                    second_input: side.second_input.lent(),
                     data: side.data.lend(),
                 };
                 call.make(&library, lent)
@@ -171,8 +176,8 @@ impl Pair {
         if let Some((at, proved, second)) = one.data.differs(&two.data) {
             return Err(Difference::Data { at, proved, second });
         }
-        if let Some((at, proved, second)) = one.seeprom.differs(&two.seeprom) {
-            return Err(Difference::Seeprom { at, proved, second });
+        if let Some((at, proved, second)) = one.second_input.differs(&two.second_input) {
+            return Err(Difference::SecondInput { at, proved, second });
         }
         if let Some((at, proved, second)) = one.image.differs(&two.image) {
             return Err(Difference::Image { at, proved, second });

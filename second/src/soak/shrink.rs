@@ -101,8 +101,8 @@ impl Run {
         let mut whole = true;
         let mut lent: &[u8] = &[];
         for call in &self.calls {
-            if call.number() == SBE_SEEPROM && call.seeprom() != lent {
-                lent = call.seeprom();
+            if call.number() == SBE_SEEPROM && call.second_input() != lent {
+                lent = call.second_input();
                 text += &match lent.len() {
                     0..=LONGEST_SEEPROM => format!("seeprom {}\n", hex(lent)),
                     length => format!("# with an image of {length} bytes lent, which no line can do\n"),

@@ -3,6 +3,7 @@
 use second::c;
 use second::image::{self, IMAGE_LENGTH};
 use second::occ::command_packet;
+use second::plan::{slots, SLOT};
 use second::session::Session;
 use std::hint::black_box;
 use std::time::{Duration, Instant};
@@ -27,6 +28,10 @@ enum Call {
     Forget(u32),
     Time(u64),
     Watch,
+    /// Of packets in slots, for state 3.
+    Plan(Vec<u8>),
+    /// Is that order one?
+    PlanOk(Vec<u8>, Vec<u8>),
     /// With all of `SEEPROM` lent.
     Seeprom(Vec<u8>),
     /// Back to where the calls started: made along, but not counted.
@@ -55,6 +60,8 @@ fn proved(image: &mut [u8], call: &Call, reply: &mut [u8]) -> u32 {
         Call::Forget(count) => proved::forget(image, *count),
         Call::Time(microseconds) => proved::time(image, *microseconds),
         Call::Watch => proved::watch(image),
+        Call::Plan(packets) => proved::plan(image, packets, 3, &mut reply[..5]),
+        Call::PlanOk(packets, order) => proved::plan_ok(image, packets, 3, order),
         Call::Seeprom(request) => {
             let (reply, data) = reply.split_at_mut(32);
             proved::sbe_seeprom(image, request, reply, &SEEPROM, data)
@@ -75,6 +82,8 @@ fn on_value(session: &mut Session, call: &Call, reply: &mut [u8]) -> u32 {
         Call::Forget(count) => session.forget(*count).into(),
         Call::Time(microseconds) => c::with_bell(session.time(*microseconds)),
         Call::Watch => session.watch().into(),
+        Call::Plan(packets) => c::with_plan(session.plan(packets, 3, &mut reply[..5])),
+        Call::PlanOk(packets, order) => c::with_verdict(session.plan_ok(packets, 3, order)),
         Call::Seeprom(request) => {
             let (reply, data) = reply.split_at_mut(32);
             let told = session.sbe_seeprom(request, reply, &SEEPROM, data);
@@ -96,6 +105,8 @@ fn on_image(image: &mut [u8], call: &Call, reply: &mut [u8]) -> u32 {
         Call::Forget(count) => c::forget(image, *count),
         Call::Time(microseconds) => c::time(image, *microseconds),
         Call::Watch => c::watch(image),
+        Call::Plan(packets) => c::plan(image, packets, 3, &mut reply[..5]),
+        Call::PlanOk(packets, order) => c::plan_ok(image, packets, 3, order),
         Call::Seeprom(request) => {
             let (reply, data) = reply.split_at_mut(32);
             c::sbe_seeprom(image, request, reply, &SEEPROM, data)
@@ -189,6 +200,25 @@ fn seeprom_read() -> Call {
     Call::Seeprom(request)
 }
 
+/// Five packets, each filling its slot.
+fn five(packet: &[u8]) -> Vec<u8> {
+    let mut slot = packet.to_vec();
+    slot.resize(SLOT, 0);
+    slot.repeat(5)
+}
+
+/// A bring-up to state 3, turned round.
+fn bring_up_packets() -> Vec<u8> {
+    let packets = [
+        command_packet(1, 0x20, &[0, 3, 0]),
+        command_packet(1, 0x21, &throttle_sets()),
+        command_packet(1, 0x21, &[0x07, 0x10, 0x01, 0xF4, 0x05, 0xDC, 0, 0]),
+        command_packet(1, 0x21, &[0x13, 0x10, 1, 0, 85, 95, 5]),
+        command_packet(1, 0x21, &[0x03, 1]),
+    ];
+    slots(&packets)
+}
+
 fn works() -> Vec<Work> {
     let poll = || vec![occ(0x00, &[0x10])];
     let state = || vec![occ(0x20, &[0, 1, 0]), Call::Undo];
@@ -225,6 +255,19 @@ fn works() -> Vec<Work> {
         works.push(work(polled, &start, poll()));
         works.push(work(taken_back, &start, back()));
     }
+    // Plans from a fresh session: the longest packets, of which none succeeds; such as all succeed, so that all orders are run; and a bring-up.
+    let fresh = Session::fresh();
+    let longest = five(&command_packet(1, 0x30, &[0xFF; 4090]));
+    let all_orders = five(&command_packet(1, 0x21, &throttle_sets()));
+    works.push(work("plan: five packets of 4,096 bytes, none", &fresh, vec![Call::Plan(longest)]));
+    works.push(work(
+        "plan: five packets that succeed, 326 orders, none",
+        &fresh,
+        vec![Call::Plan(all_orders)],
+    ));
+    works.push(work("plan: a bring-up of five, turned round", &fresh, vec![Call::Plan(bring_up_packets())]));
+    let proposal = Call::PlanOk(bring_up_packets(), vec![5, 3, 4, 2, 1]);
+    works.push(work("plan_ok: the same, proposed", &fresh, vec![proposal]));
     // Forgetting and opening don't lead back, so the session is copied back each time; the time has that copy in it.
     for (name, call) in [
         ("forget 1 of 1,000 entries, copied back", Call::Forget(1)),
@@ -345,6 +388,7 @@ fn stacks() {
         ("time", brought_up(), Call::Time(1)),
         ("undo", capped, Call::Undo),
         ("redo", undone, Call::Redo),
+        ("plan: a bring-up of five, turned round", Session::fresh(), Call::Plan(bring_up_packets())),
         ("forget: 500 of 1,000 entries", full.clone(), Call::Forget(500)),
         ("watch: over 1,000 entries", full, Call::Watch),
     ] {

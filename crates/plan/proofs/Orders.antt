@@ -5,13 +5,12 @@ use mathlib.Core.Path.{_≡_, refl, sym, ap, _∙_}
 use mathlib.Core.List.{List, [], _∷_}
 use native.Mathlib.Numerals.{add-one}
 use native.Mathlib.Omega.{arith}
-use borrow.Author.Tests.{eqb-false, ltb-false}
 use lib.ListN.{length, getD, take, drop, drop-of-length-le}
 use lib.Seq.{drop-cons}
 use Rattle.wire.specs.laws.Cases.{if-b, else-b, if-eq, else-eq, if-lt, else-lt}
-use Rattle.wire.specs.laws.Chains.{passed}
 use Rattle.wire.specs.laws.Wire.{tail-part}
 use Rattle.plan.specs.Plan.{comesIn, isOrder, trimmed}
+use Rattle.plan.specs.laws.Orders.{Named, named}
 
 -- the numbers from i on: the one there, and the rest
 pub from-here : (i : ℕ) (o : List ℕ) → i < length o → drop i o ≡ getD o i 0 ∷ drop (i + 1) o
@@ -68,35 +67,11 @@ module _ (count i : ℕ) (o : List ℕ) where
   unfolding isOrder
   order-ends h = ap (isOrder count) (sym (drop-of-length-le o {i = i} h))
 
--- what is known of an order's first number
-pub record Named (count x : ℕ) (xs : List ℕ) : Type 0 where
-  pub some : x ≡ 0 → ⊥
-  pub low : x ≤ count
-  pub once : comesIn x xs ≡ false
-  pub rest : isOrder count xs ≡ true
-
-pub named : (count x : ℕ) (xs : List ℕ) → isOrder count (x ∷ xs) ≡ true → Named count x xs
-unfolding isOrder
-named count x xs h =
-    let a = passed _ _ h in
-    let b = passed _ _ (a .1) in
-    let c = passed _ _ (b .1) in
-    record { some = eqb-false x 0 (a .0); low = ltb-false count x (b .0); once = c .0; rest = c .1 }
-
 pub named-at : (count i : ℕ) (o : List ℕ) → i < length o → isOrder count (drop i o) ≡ true → Named count (getD o i 0) (drop (i + 1) o)
 named-at count i o h e = named count _ _ (ap (isOrder count) (sym (from-here i o h)) ∙ e)
 
 pub place-low : (i : ℕ) (o : List ℕ) → i < length o → isOrder 5 (drop i o) ≡ true → getD o i 0 - 1 < 5
 place-low i o h e = omega (arith, named-at 5 i o h e .low)
-
--- an order of so many packets is one of more
-pub of-more : (m n : ℕ) → m ≤ n → (o : List ℕ) → isOrder m o ≡ true → isOrder n o ≡ true
-unfolding isOrder
-of-more m n le [] h = refl
-of-more m n le (x ∷ xs) h =
-    let k = named m x xs h in
-    let low : x ≤ n = omega (arith, le, k .low) in
-    sym (else-eq _ _ (k .some) (else-lt _ _ low (else-b _ _ (k .once) (sym (of-more m n le xs (k .rest))))))
 
 -- ---- leading zeros
 

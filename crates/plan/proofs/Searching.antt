@@ -14,7 +14,7 @@ use Rattle.wire.specs.laws.Cases.{if-b, else-b, if-lt, else-lt, if-eq, else-eq,
 use Rattle.inplace.specs.declared.Told.{Told}
 use Rattle.plan.specs.Plan.{packetsIn, isOrder, reaches, planOk, digitsOf, trimmed, orderOf, orders, leastFrom, leastPlan, answered, Planned, given}
 use Rattle.plan.specs.declared.Trial.{Trial}
-use Rattle.plan.proofs.Orders.{of-more}
+use Rattle.plan.specs.laws.Orders.{of-more}
 
 -- ---- the check
 

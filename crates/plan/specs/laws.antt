@@ -1,2 +1,4 @@
 pub mod Least
+pub mod Numbers
+pub mod Orders
 pub mod Refusals

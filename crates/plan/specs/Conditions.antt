@@ -19,5 +19,5 @@ InIndexOrder (x ∷ xs) [] = ⊥
 InIndexOrder (x ∷ xs) (y ∷ ys) = (x < y) ⊎ ((x ≡ y) and InIndexOrder xs ys)
 
 -- "the one with the fewest packets, then the least in index order"
-abbrev pub NotAfter : List ℕ → List ℕ → Type 0
-NotAfter a b = (length a < length b) ⊎ ((length a ≡ length b) and InIndexOrder a b)
+abbrev pub FewestThenLeast : List ℕ → List ℕ → Type 0
+FewestThenLeast a b = (length a < length b) ⊎ ((length a ≡ length b) and InIndexOrder a b)

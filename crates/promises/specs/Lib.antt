@@ -8,6 +8,7 @@ pub mod Effects
 pub mod History
 pub mod Sittings
 pub mod Isolation
+pub mod Plans
 pub mod NoTrace
 pub mod Ids
 pub mod Marks

@@ -93,6 +93,8 @@ use Rattle.promises.specs.laws.Kept.{kept-session, handed-same}
 use Rattle.image.specs.Image.{imageOf, sessionOf}
 use Rattle.image.specs.laws.Typed.{typed-image}
 use Rattle.layout.specs.Layout.{imageLength}
+use Rattle.plan.specs.Conditions.{Order, FewestThenLeast}
+use Rattle.plan.specs.Plan.{packetsIn, answered, planOkCall, Planned, planCall, planOkOn, planOn, PlanAllows}
 use Rattle.bjargolsk.specs.Calls.{answerIn, freshOn, FreshReturns, OccReturns, SbeReturns, UndoReturns, RedoReturns, ForgetReturns, SeepromReturns, TimeReturns, WatchReturns}
 use Rattle.promises.specs.laws.Lent.{every-image, every-byte, no-session, fresh-image, lent-run, lent-next}
 use Rattle.promises.specs.Lent.{lent, told as told-beside, carriedOver, lentRun, watchedOn}
@@ -102,6 +104,9 @@ use Rattle.promises.specs.Replays.{callsIn, wholePart, linesBy, PlaysUpT
 use Rattle.promises.specs.laws.Replays.{trace-bytes, plays-up-to, replay-run, replay-lines, play-leaves, broken-lines, broken-image}
 use Rattle.promises.specs.Isolation.{AllShare, occsIn, occsHeard, OccsFit, postsIn, postsHeard, SbesFit}
 use Rattle.promises.specs.laws.Isolation.{occ-isolated, sbe-isolated}
+use Rattle.promises.specs.Plans.{PlanOkAnswer, PlanAnswer, PlanDue, trialSession, sentFrom, IsPlan, Accepted, planIn, Given, NoPlan}
+use Rattle.promises.specs.laws.Plans.{passes-exactly, trials-fit}
+use Rattle.promises.specs.laws.PlanDemands.{plan-ok-answers, plan-answers, plan-refused, accepted-exactly, accepted-due, given-due, given-some, given-passes, given-front, given-least, none-exactly, none-keeps, on-image-checked, on-image-planned, no-image-plans}
 use Rattle.promises.specs.Partings.{firstEntries, PlaysAsFirst}
 use Rattle.promises.specs.laws.Partings.{same-first, part-plays-as-first, part-plays-as-second}
 use Rattle.promises.specs.Examples.{All, holds, table}
@@ -255,6 +260,12 @@ one-outcome-of-time n b = one-pair _ _
 
 pub one-outcome-of-watch : (b : List ℕ) → OneOutcome (λ (o : Told × List ℕ). WatchAllows b (o .0) (o .1))
 one-outcome-of-watch b = one-pair _ _
+
+pub one-outcome-of-plan-ok : (b p : List ℕ) (wanted : ℕ) (o : List ℕ) → OneOutcome (λ (x : Told). x ≡ planOkOn b p wanted o)
+one-outcome-of-plan-ok b p wanted o = one-value _
+
+pub one-outcome-of-plan : (b p : List ℕ) (wanted : ℕ) (d : List ℕ) → OneOutcome (λ (x : Told × List ℕ). PlanAllows b p wanted d (x .0) (x .1))
+one-outcome-of-plan b p wanted d = one-pair _ _
 
 pub one-outcome-of-fresh-for-c : (b : List ℕ) → OneOutcome (λ (o : ℕ × List ℕ). FreshReturns b (o .0) (o .1))
 one-outcome-of-fresh-for-c b = one-pair _ _
@@ -573,6 +584,53 @@ pub occ-work-doesnt-leak : (cs ds : List Call) → AllShare cs → AllShare ds �
     → postsIn cs ≡ postsIn ds → SbesFit freshSession cs → SbesFit freshSession ds → postsHeard freshSession cs ≡ postsHeard freshSession ds
 occ-work-doesnt-leak = sbe-isolated
 
+-- ---- document 02, l: plans. o is any proposal, whoever made it; d the reply buffer of the packets sent, or the buffer that a plan is written to
+
+pub answer-of-plan-ok : (s : Session) (p : List ℕ) (wanted : ℕ) (o : List ℕ) (n : ℕ) → (planOkCall s p wanted o .answer ≡ n) ↔ PlanOkAnswer s p wanted n
+answer-of-plan-ok = plan-ok-answers
+
+pub answer-of-plan : (s : Session) (p : List ℕ) (wanted : ℕ) (d : List ℕ) (n : ℕ) → (planCall s p wanted d .told .answer ≡ n) ↔ PlanAnswer s p wanted d n
+answer-of-plan = plan-answers
+
+pub refusal-of-plan-keeps : (s : Session) (p : List ℕ) (wanted : ℕ) (d : List ℕ) → (planCall s p wanted d .told .answer ≡ 0 → ⊥)
+    → (planCall s p wanted d .order ≡ d) × (planCall s p wanted d .told .small ≡ 0) × (planCall s p wanted d .told .beside ≡ 0)
+refusal-of-plan-keeps = plan-refused
+
+-- "A small check accepts a proposal exactly when it is such an order and, run on the given record in a session with an empty journal and the same next id, full profile,
+-- every packet gets answer 0 and success and the last state is the wanted one" (Plans.antt)
+pub a-plan-is-checked-exactly : (s : Session) → TypedSession s → (p : List ℕ) → Bytes p → (wanted : ℕ) → PlanDue s p wanted → (o d : List ℕ) → 4096 ≤ length d
+    → Accepted (planOkCall s p wanted o) ↔ IsPlan s p wanted d o
+a-plan-is-checked-exactly s typed p b wanted due o d long =
+    Iff·trans (accepted-exactly s p wanted o due) (passes-exactly s typed p b wanted (due .formed) (due .few) d long o)
+
+-- answer 5 never comes there: five entries have room
+pub trials-never-lack-room : (s : Session) → TypedSession s → (p : List ℕ) → Bytes p → (wanted : ℕ) → PlanDue s p wanted → (o d : List ℕ) → 4096 ≤ length d
+    → Order (packetsIn p) o → OccsFit (trialSession s) (sentFrom p d o)
+trials-never-lack-room s typed p b wanted due o d long = trials-fit s typed p b wanted (due .formed) (due .few) d long o
+
+-- the plan given passes the check, and stands at the front of the buffer, the bytes past it kept
+pub the-plan-given-passes : (s : Session) (p : List ℕ) (wanted : ℕ) (d : List ℕ) → Given (planCall s p wanted d)
+    → Accepted (planOkCall s p wanted (planIn (planCall s p wanted d))) × (planCall s p wanted d .order ≡ atFront (planIn (planCall s p wanted d)) d)
+the-plan-given-passes s p wanted d g =
+    let x = given-due s p wanted d (g .1) in
+    let some = given-some s p wanted d (x .0) (x .1) (g .1) in
+    (given-passes s p wanted d (x .0) (x .1) some, given-front s p wanted d (x .0) (x .1) some)
+
+-- it is the one with the fewest packets, then the least in index order, of all that pass
+pub the-plan-given-is-least : (s : Session) (p : List ℕ) (wanted : ℕ) (d : List ℕ) → Given (planCall s p wanted d)
+    → (o : List ℕ) → Accepted (planOkCall s p wanted o) → FewestThenLeast (planIn (planCall s p wanted d)) o
+the-plan-given-is-least s p wanted d g o a =
+    let x = given-due s p wanted d (g .1) in
+    given-least s p wanted d (x .0) (x .1) (given-some s p wanted d (x .0) (x .1) (g .1)) o (accepted-exactly s p wanted o (x .0) .0 a)
+
+-- "\"No plan\" comes exactly when no such order exists"; the buffer is kept then
+pub no-plan-exactly-when-none : (s : Session) (p : List ℕ) (wanted : ℕ) → PlanDue s p wanted → (d : List ℕ) → 5 ≤ length d
+    → NoPlan (planCall s p wanted d) ↔ ((o : List ℕ) → Accepted (planOkCall s p wanted o) → ⊥)
+no-plan-exactly-when-none s p wanted due d room = none-exactly s p wanted d due room
+
+pub no-plan-keeps : (s : Session) (p : List ℕ) (wanted : ℕ) (d : List ℕ) → NoPlan (planCall s p wanted d) → planCall s p wanted d .order ≡ d
+no-plan-keeps s p wanted d h = none-keeps s p wanted d (ap (λ (t : Told). t .small) h)
+
 -- ---- every session handed in, right or damaged, at the bytes that are lent: b is any bytes, and those of an image's length are one of a session. So what is
 -- promised above of every session s with `TypedSession s` holds of every image, at `sessionOf b`
 
@@ -600,6 +658,17 @@ refusal-of-watch-keeps-every-byte = watch-keeps-bytes
 
 pub another-length-is-answer-1-of-watch : (b : List ℕ) → (length b ≡ imageLength → ⊥) → watchOn b ≡ noImage b []
 another-length-is-answer-1-of-watch = watch-no-image
+
+-- the calls `plan_ok` and `plan` on every image; neither has a way to write to it
+pub plan-ok-on-every-image : (b p : List ℕ) (wanted : ℕ) (o : List ℕ) → length b ≡ imageLength → planOkOn b p wanted o ≡ planOkCall (sessionOf b) p wanted o
+plan-ok-on-every-image b p wanted o long = on-image-checked b p wanted o long
+
+pub plan-on-every-image : (b p : List ℕ) (wanted : ℕ) (d : List ℕ) → length b ≡ imageLength → planOn b p wanted d ≡ planCall (sessionOf b) p wanted d
+plan-on-every-image b p wanted d long = on-image-planned b p wanted d long
+
+pub another-length-is-answer-1-of-plan : (b p : List ℕ) (wanted : ℕ) (d : List ℕ) → (length b ≡ imageLength → ⊥)
+    → (planOkOn b p wanted d ≡ answered 1) × (planOn b p wanted d ≡ record { told = answered 1; order = d })
+another-length-is-answer-1-of-plan = no-image-plans
 
 -- ---- the same for C: an image made fresh, and any calls on it; it stays the image of the session, and each call's result and reply are the session's
 

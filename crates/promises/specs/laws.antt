@@ -56,3 +56,5 @@ pub mod Moves
 pub mod Effects
 pub mod Answers
 pub mod Isolation
+pub mod Plans
+pub mod PlanDemands

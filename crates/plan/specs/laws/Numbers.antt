@@ -10,7 +10,7 @@ use borrow.Author.Tests.{eqb-true}
 use lib.Dec.{eqb}
 use lib.ListN.{length}
 use Rattle.wire.specs.laws.Cases.{cond-cases, else-eq}
-use Rattle.plan.specs.Conditions.{InIndexOrder, NotAfter}
+use Rattle.plan.specs.Conditions.{InIndexOrder, FewestThenLeast}
 use Rattle.plan.specs.Plan.{isOrder, digitsOf, trimmed, orderOf, orders}
 use Rattle.plan.specs.laws.Orders.{Named, named, five-at-most}
 
@@ -108,10 +108,10 @@ index-order (x ∷ xs) (y ∷ ys) p q e h =
     let same : length xs ≡ length ys = omega (arith, e) in
     first-digits x y xs ys p q same h (index-order xs ys (named 5 x xs p .rest) (named 5 y ys q .rest) same)
 
-pub comes-first : (a b : List ℕ) → isOrder 5 a ≡ true → isOrder 5 b ≡ true → numberOf a ≤ numberOf b → NotAfter a b
+pub comes-first : (a b : List ℕ) → isOrder 5 a ≡ true → isOrder 5 b ≡ true → numberOf a ≤ numberOf b → FewestThenLeast a b
 comes-first a b p q h = go (compare (length a) (length b))
   where
-    go : (length a < length b) ⊎ ((length a ≡ length b) ⊎ (length b < length a)) → NotAfter a b
+    go : (length a < length b) ⊎ ((length a ≡ length b) ⊎ (length b < length a)) → FewestThenLeast a b
     go (inl l) = inl l
     go (inr (inl e)) = inr (e, index-order a b p q e h)
     go (inr (inr m)) = absurd (omega (arith, longer-is-more b a q p m, h))

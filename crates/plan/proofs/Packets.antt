@@ -1,17 +1,17 @@
 -- The packet at a place, and what its bytes alone decide. Assumes nothing.
 use Prim.Native.Nat.{ℕ, _+_, _-_, _*_, _<_, _≤_}
-use mathlib.Core.Bool.{Bool, true, false}
+use mathlib.Core.Bool.{false}
 use mathlib.Core.Path.{_≡_, refl, sym, ap, _∙_}
-use mathlib.Core.List.{List, [], _∷_}
+use mathlib.Core.List.{List, []}
 use native.Mathlib.Nat.{add-sub-cancel-left}
 use native.Mathlib.Omega.{arith}
 use lib.Dec.{eqb}
-use lib.ListN.{length, getD, take, drop, length-drop, drop-of-length-le}
+use lib.ListN.{length, take, drop, length-drop, drop-of-length-le}
 use lib.Seq.{take-all}
 use Rattle.wire.specs.laws.Cases.{if-lt, else-lt}
 use Rattle.wire.specs.laws.Wire.{tail-part}
 use Rattle.packet.specs.Packet.{packetStatus}
-use Rattle.plan.specs.Plan.{packetAt, sound, sounds}
+use Rattle.plan.specs.Plan.{packetAt, sound}
 
 module _ (place : ℕ) (p : List ℕ) where
   pub none-there : length p ≤ 4096 * place → [] ≡ packetAt place p

@@ -1,30 +1,29 @@
 -- Packets tried one after the other. Assumes nothing.
 use Prim.Native.Nat.{ℕ, suc, zero, _+_, _-_, _<_, _≤_}
-use mathlib.Core.Bool.{Bool, true, false, cond, not}
+use mathlib.Core.Bool.{Bool, true, false, not}
 use mathlib.Core.Path.{_≡_, refl, sym, ap, _∙_}
-use mathlib.Core.List.{List, [], _∷_}
+use mathlib.Core.List.{List, _∷_}
 use native.Mathlib.Omega.{arith}
 use borrow.Author.Tests.{not-false, ltb-false}
 use lib.Dec.{eqb}
 use lib.ListN.{length, getD, drop, drop-of-length-le}
-use Rattle.wire.specs.laws.Cases.{cond-elim, if-b, else-b, if-not, else-not}
+use Rattle.wire.specs.laws.Cases.{cond-elim, if-not, else-not}
 use Rattle.wire.specs.laws.Chains.{passed}
 use Rattle.record.specs.Record.{workedOf}
-use Rattle.record.specs.declared.Record.{Record}
 use Rattle.record.specs.declared.Worked.{Worked}
 use Rattle.change.specs.Change.{putOf}
 use Rattle.change.specs.declared.Change.{Change}
 use Rattle.change.specs.declared.Changed.{Changed}
 use Rattle.change.specs.declared.Edit.{Edit}
 use Rattle.change.specs.declared.Tables.{Tables}
-use Rattle.packet.specs.Packet.{packetStatus, dataOf}
+use Rattle.packet.specs.Packet.{dataOf}
 use Rattle.occ.specs.Judge.{judgeOf}
 use Rattle.occ.specs.declared.Judged.{Judged}
 use Rattle.occ.specs.declared.Verdict.{Verdict}
 use Rattle.occ.specs.declared.Verdict.the-variants.{Refuse, Poll, Make}
 use Rattle.session.specs.Session.{madeOf}
 use Rattle.inplace.proofs.Carrying.{made-one}
-use Rattle.plan.specs.Plan.{packetAt, packetOf, sound, sounds, failed, trialBy, trialJudged, trialOf, isOrder, reaches}
+use Rattle.plan.specs.Plan.{packetAt, packetOf, sound, sounds, failed, trialBy, trialJudged, trialOf, reaches}
 use Rattle.plan.specs.declared.Trial.{Trial}
 use Rattle.plan.proofs.Orders.{from-here}
 

@@ -9,7 +9,6 @@ use lib.ListN.{length, getD, take, drop}
 use Rattle.wire.specs.Conditions.{_and_}
 use Rattle.wire.specs.Wire.{pasted}
 use Rattle.record.specs.Record.{workedOf}
-use Rattle.record.specs.declared.Record.{Record}
 use Rattle.change.specs.Change.{putOf}
 use Rattle.change.specs.declared.Tables.{Tables}
 use Rattle.packet.specs.Packet.{packetStatus, dataOf}

@@ -1,6 +1,6 @@
 // The calls `plan_ok` and `plan`: whether an order of prepared packets leads to a wanted state, and the first order that does. Packets are tried on a
 // record and a next id, by value; the session is only looked at.
-ghost use mathlib.Core.Bool.{Bool, true};
+ghost use mathlib.Core.Bool.{true};
 ghost use mathlib.Core.Path.{_≡_};
 ghost use Prim.Native.Nat.{_≤_, _<_};
 ghost use lib.ListN.{length, drop};

@@ -1,6 +1,6 @@
 -- Document 02, l: "A small check accepts a proposal exactly when it is such an order and, run on the given record in a session with an empty journal and the same next id,
 -- full profile, every packet gets answer 0 and success and the last state is the wanted one, whoever made it."
-use Prim.Native.Nat.{ℕ, _+_, _<_, _≤_}
+use Prim.Native.Nat.{ℕ, _<_, _≤_}
 use mathlib.Core.Bool.{true}
 use mathlib.Core.Logic.{_⊎_}
 use mathlib.Core.Path.{_≡_}
@@ -12,7 +12,7 @@ use Rattle.session.specs.declared.Session.{Session}
 use Rattle.occ_call.specs.Occ.{occCall}
 use Rattle.inplace.specs.declared.Told.{Told}
 use Rattle.plan.specs.Conditions.{Order}
-use Rattle.plan.specs.Plan.{packetsIn, packetOf, planOkCall, Planned, planCall}
+use Rattle.plan.specs.Plan.{packetsIn, packetOf, Planned}
 use Rattle.promises.specs.Calls.{Call, occ}
 use Rattle.promises.specs.Demand2.{OccSucceeds}
 

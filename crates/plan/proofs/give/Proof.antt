@@ -1,5 +1,4 @@
 use Rattle.plan.proofs.Searching.{none-given, order-given}
-use native.Mathlib.Omega.{arith}
 use mathlib.Core.Path.{refl}
 use borrow.Author.Needs.{needs}
 use Rattle.plan.proofs.give.Statement.{statement}

@@ -9,7 +9,7 @@ use borrow.Author.Tests.{eqb-true, eqb-false, ltb-false}
 use lib.Dec.{eqb}
 use lib.ListN.{length, getD}
 use Rattle.wire.specs.Conditions.{_and_}
-use Rattle.wire.specs.laws.Cases.{cond-cases, if-eq, else-b, else-eq, else-lt}
+use Rattle.wire.specs.laws.Cases.{cond-cases, else-b, else-eq, else-lt}
 use Rattle.wire.specs.laws.Chains.{passed}
 use Rattle.plan.specs.Conditions.{Order}
 use Rattle.plan.specs.Plan.{comesIn, isOrder}

@@ -3,7 +3,7 @@ use Prim.Native.Nat.{ℕ, _<_, _≤_}
 use mathlib.Core.Bool.{Bool, true, false, cond, not, true≢false}
 use mathlib.Core.Logic.{_↔_, _⊎_, inl, inr, ⊎-elim}
 use mathlib.Core.Path.{_≡_, refl, sym, ap, subst, _∙_}
-use mathlib.Core.List.{List, _++_}
+use mathlib.Core.List.{List}
 use native.Mathlib.Nat.{not-le-of-lt}
 use native.Mathlib.Omega.{arith}
 use borrow.Author.Tests.{not-false, not-true, eqb-true, eqb-false, ltb-true, ltb-false}
@@ -12,7 +12,7 @@ use lib.ListN.{length, take, drop}
 use lib.Seq.{take-at}
 use Rattle.wire.specs.Conditions.{_and_, is, row}
 use Rattle.wire.specs.Wire.{pasted}
-use Rattle.wire.specs.laws.Cases.{cond-cases, else-b, if-b, else-lt, if-ne, else-ne, if-eq, else-eq}
+use Rattle.wire.specs.laws.Cases.{cond-cases, if-b, else-lt, if-ne, else-ne, if-eq, else-eq}
 use Rattle.wire.specs.laws.Chains.{holds, eq-holds, or-else, passed}
 use Rattle.wire.specs.laws.Tables.{ByTable, by-is, hit, miss}
 use Rattle.session.specs.Session.{wellFormed}
@@ -24,10 +24,10 @@ use Rattle.plan.specs.Conditions.{FewestThenLeast}
 use Rattle.plan.specs.Plan.{packetsIn, isOrder, reaches, planOk, orderOf, orders, leastPlan, wantedOk, planRefusal, startOf, answered, planOkCall, Planned, given, planCall, planOkOn, planOn}
 use Rattle.plan.specs.laws.Least.{least-low, least-passes, least-before}
 use Rattle.plan.specs.laws.Numbers.{numberOf, comes-first, number-order, order-number}
-use Rattle.plan.specs.laws.Orders.{of-more, five-at-most}
-use Rattle.plan.specs.laws.Refusals.{Due, none-refused, no-refusal}
+use Rattle.plan.specs.laws.Orders.{of-more}
+use Rattle.plan.specs.laws.Refusals.{none-refused, no-refusal}
 use Rattle.promises.specs.Demand2.{atFront}
-use Rattle.promises.specs.Plans.{TooMany, Wanted, PlanOkAnswer, PlanAnswer, PlanDue, Accepted, planIn, Given, NoPlan}
+use Rattle.promises.specs.Plans.{TooMany, Wanted, PlanOkAnswer, PlanAnswer, PlanDue, Accepted, planIn, NoPlan}
 use Rattle.promises.specs.laws.Replies.{front-is}
 
 wanted-exactly : (wanted : ℕ) → (wantedOk wanted ≡ true) ↔ Wanted wanted

@@ -1,25 +1,23 @@
 -- Document 02, l: the check accepts exactly the orders that lead to the wanted state, and the search finds the least of them. Assumes nothing.
-use Prim.Native.Nat.{ℕ, suc, _+_, _-_, _*_, _<_, _≤_}
+use Prim.Native.Nat.{ℕ, _+_, _-_, _*_, _≤_}
 use mathlib.Core.Bool.{Bool, true, false, cond, not, true≢false, false≢true}
-use mathlib.Core.Logic.{_↔_, _⊎_, inl, inr}
-use mathlib.Core.Path.{_≡_, refl, sym, ap, subst, _∙_}
+use mathlib.Core.Logic.{_↔_, inl}
+use mathlib.Core.Path.{_≡_, refl, sym, ap, _∙_}
 use mathlib.Core.List.{List, [], _∷_}
 use native.Mathlib.Omega.{arith}
-use borrow.Author.Tests.{not-false, not-true, eqb-true, ltb-false}
+use borrow.Author.Tests.{not-false, eqb-true, ltb-false}
 use lib.Dec.{ltb, eqb}
-use lib.ListN.{length, getD, take, drop, replicate, length-replicate}
+use lib.ListN.{length, getD, drop, length-replicate}
 use Rattle.wire.specs.Conditions.{_and_}
 use Rattle.wire.specs.Wire.{Bytes}
-use Rattle.wire.specs.laws.Cases.{cond-cases, else-b, if-b, else-lt, if-lt}
+use Rattle.wire.specs.laws.Cases.{else-b, if-b, else-lt}
 use Rattle.wire.specs.laws.Chains.{eq-holds, passed}
 use Rattle.wire.specs.laws.Wire.{bytes-take, bytes-drop}
 use Rattle.record.specs.Record.{workedOf}
 use Rattle.record.specs.declared.Record.{Record}
 use Rattle.record.specs.declared.Worked.{Worked}
 use Rattle.change.specs.Change.{kindOf, putOf, takesBack}
-use Rattle.change.specs.declared.Change.{Change}
 use Rattle.change.specs.declared.Edit.{Edit}
-use Rattle.entries.specs.Entries.{bodyLen, scanFrom, scanBy, entriesOf}
 use Rattle.marks.specs.laws.Marks.{length-marks}
 use Rattle.journal.specs.Add.{entryLen, endOf}
 use Rattle.journal.specs.declared.End.{End}
@@ -35,7 +33,7 @@ use Rattle.occ.specs.laws.Exactly.{judge-exactly}
 use Rattle.occ.specs.declared.Judged.{Judged}
 use Rattle.occ.specs.declared.Verdict.{Verdict}
 use Rattle.occ.specs.declared.Verdict.the-variants.{Refuse, Poll, Make}
-use Rattle.session.specs.Session.{entriesIn, wellFormed, madeOf, renewed, withTimer, withProfile, carriedTo, carriedOf}
+use Rattle.session.specs.Session.{wellFormed, madeOf, renewed, withTimer, withProfile, carriedTo, carriedOf}
 use Rattle.session.specs.Road.{Said, kept, done}
 use Rattle.session.specs.laws.Session.{formed, formed-ok}
 use Rattle.session.specs.laws.Watch.{none-used}
@@ -48,8 +46,7 @@ use Rattle.plan.specs.laws.Orders.{of-more, order-exactly, five-at-most}
 use Rattle.plan.specs.declared.Trial.{Trial}
 use Rattle.promises.specs.Calls.{occ, bufferOf, asks, said}
 use Rattle.promises.specs.History.{Deed, Run, did, next-run, start}
-use Rattle.promises.specs.Demand1.{NoRoom}
-use Rattle.promises.specs.Demand2.{KnownSender, HasRoom, WellAsked, occKind, OccAccepted, OccSucceeds}
+use Rattle.promises.specs.Demand2.{HasRoom, WellAsked, occKind, OccAccepted, OccSucceeds}
 use Rattle.promises.specs.Isolation.{OccsFit}
 use Rattle.promises.specs.Plans.{trialSession, sentFrom, Leads, IsPlan}
 use Rattle.promises.specs.laws.Demand3.{Inv, formed as formed-so, next-inv}

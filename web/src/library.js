@@ -1,7 +1,7 @@
 // The proved library. Everything that answers on this page answers through here; the rest of the page sends, shows and keeps.
 import { number16, number32 } from './bytes.js';
 
-export const VERSION = 5; // BJARGOLSK_VERSION of include/bjargolsk.h
+export const VERSION = 6; // BJARGOLSK_VERSION of include/bjargolsk.h
 export const SESSION = 4411;
 const OCC_REPLY = 4096;
 const SBE_REPLY = 32;

@@ -148,12 +148,12 @@ const runLines = async (text) => {
 // The report runs as lines, and gives the same session.
 async function lines() {
   const report = await run(browser, 'return document.getElementById("report").textContent');
-  const image = await run(browser, 'return localStorage.getItem("bjargolsk-5-calls")');
+  const image = await run(browser, 'return localStorage.getItem("bjargolsk-6-calls")');
   await click(browser, 'input[name=way][value=lines]');
   await runLines(`fresh\n${report}`);
   await holdText('#ask-words', 'is lost then');
   await click(browser, '#ask-yes');
-  const again = await run(browser, 'return JSON.parse(localStorage.getItem("bjargolsk-5-calls")).items.join()');
+  const again = await run(browser, 'return JSON.parse(localStorage.getItem("bjargolsk-6-calls")).items.join()');
   hold(again === JSON.parse(image).items.join(), 'the lines of the report give the same calls');
   await runLines('undo\nocc 10 0');
   await holdText('#lines-wrong', 'Line 2, column 9: hex digit expected.');

@@ -11,12 +11,12 @@ use lib.Seq.{take-all}
 use borrow.Author.Tests.{ltb-false}
 use Rattle.wire.specs.Wire.{pasted, beNat}
 use Rattle.wire.specs.laws.Cases.{if-lt, else-lt, if-eq, else-eq, if-ne, else-ne}
-use Rattle.text.specs.Text.{Sheet, sheet, ascii, putOn, putAll, fromFront, lineEnd, hexes, decimal}
+use Rattle.text.specs.Text.{Sheet, sheet, ascii, putOn, putAll, fromFront, lineEnd, hexes, decimal, numbers}
 use Rattle.text.specs.laws.Pieces.{same-pieces, put-fits}
 use Rattle.listing.specs.Listing.{tooLong, listing, longest, listed, listedLength}
 use Rattle.listing.specs.laws.Lengths.{length-listing}
 use Rattle.places.specs.Reasons.{wordsFor}
-use Rattle.answers.specs.Answers.{lineText, callText, wholeReply, replyLength, dataText, bytesRead, readFor, readText, whyText, listText}
+use Rattle.answers.specs.Answers.{lineText, callText, wholeReply, replyLength, dataText, bytesRead, readFor, readText, planText, whyText, listText}
 
 -- ---- after the session answer
 
@@ -98,6 +98,17 @@ module _ (request response buffer : List ℕ) where
         pub read-done : status ≡ 0 → dataText (bytesRead request buffer) ≡ readText request response buffer
         unfolding readFor
         read-done h = read-by s (else-ne _ _ read (else-ne _ _ h refl))
+
+-- ---- a plan
+
+module _ (found : ℕ) (order : List ℕ) where
+  pub plan-none : found ≡ 0 → ascii " no plan" ∷ [] ≡ planText found order
+  unfolding planText
+  plan-none h = if-eq _ _ h refl
+
+  pub plan-some : (found ≡ 0 → ⊥) → ascii " plan" ∷ numbers order ≡ planText found order
+  unfolding planText
+  plan-some h = else-eq _ _ h refl
 
 -- ---- why
 

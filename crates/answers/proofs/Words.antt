@@ -1,61 +1,64 @@
 -- What the words for complaints and reasons say. Assumes nothing.
 use Prim.Native.Nat.{ℕ, zero, suc, _<_}
-use mathlib.Core.Path.{_≡_, refl, sym, ap, _∙_}
+use mathlib.Core.Bool.{cond}
+use mathlib.Core.Path.{_≡_, refl, ap, _∙_}
 use mathlib.Core.List.{List}
+use lib.Dec.{eqb}
 use native.Mathlib.Omega.{arith}
-use Rattle.wire.specs.laws.Cases.{else-eq}
+use Rattle.wire.specs.laws.Cases.{if-eq, else-eq}
 use Rattle.text.specs.Text.{Sheet, sheet, fromFront, ascii}
 use Rattle.text.specs.laws.Pieces.{same-pieces}
 use Rattle.words.specs.Words.{begunBy, wordsIn, wordAt}
 use Rattle.places.specs.Reasons.{named, wordsAmong, wordsFor}
 use Rattle.orders.specs.declared.Wrong.{Wrong}
-use Rattle.orders.specs.declared.Wrong.the-variants.{LongLine, NoWord, MoreText, NoDigit, TooMany, NoImage, NoNumber, LongBuffer, GreatNumber, GreatTime, LongSeeprom}
-use Rattle.answers.specs.Answers.{columnText, imageComplaint, complaintText}
+use Rattle.orders.specs.declared.Wrong.the-variants.{LongLine, NoWord, MoreText, NoDigit, TooMany, NoImage, NoNumber, LongBuffer, GreatNumber, GreatTime, LongSeeprom, GreatState, LongPacket, ManyPackets}
+use Rattle.answers.specs.Answers.{columnText, imageComplaint, packetsComplaint, complaintText}
 use Rattle.answers.specs.Words.{placeOf}
 
 -- ---- what is wrong in a line
 
 abbrev complaints : List ℕ
 complaints =
-    ascii "line over 32768 bytes|unknown word|nothing more expected|hex digit expected|command over 8192 bytes|number expected|number over 8192|number over 4294967295|number over 18446744073709551615|seeprom over 8192 bytes|"
+    ascii "line over 32768 bytes|unknown word|nothing more expected|hex digit expected|command over 8192 bytes|number expected|number over 8192|number over 4294967295|number over 18446744073709551615|seeprom over 8192 bytes|number over 255|packet over 4096 bytes|"
 
-complaint-words : (what : Wrong) (column : ℕ) → (placeOf what ≡ 10 → ⊥) → columnText (wordAt complaints (placeOf what)) column ≡ complaintText what column
+-- what is said by the place among those words
+abbrev saidAt : ℕ → ℕ → List (List ℕ)
+saidAt place column =
+    cond (eqb place 12) packetsComplaint
+    (cond (eqb place 13) imageComplaint
+    (columnText (wordAt complaints place) column))
+
+said-words : (what : Wrong) (column : ℕ) → saidAt (placeOf what) column ≡ complaintText what column
 unfolding placeOf complaintText wordAt wordsIn begunBy
-complaint-words LongLine column h = refl
-complaint-words NoWord column h = refl
-complaint-words MoreText column h = refl
-complaint-words NoDigit column h = refl
-complaint-words TooMany column h = refl
-complaint-words NoImage column h = absurd (h refl)
-complaint-words NoNumber column h = refl
-complaint-words LongBuffer column h = refl
-complaint-words GreatNumber column h = refl
-complaint-words GreatTime column h = refl
-complaint-words LongSeeprom column h = refl
-
-image-words : (what : Wrong) (column : ℕ) → placeOf what ≡ 10 → imageComplaint ≡ complaintText what column
-unfolding placeOf complaintText
-image-words LongLine column e = absurd (omega (arith, e))
-image-words NoWord column e = absurd (omega (arith, e))
-image-words MoreText column e = absurd (omega (arith, e))
-image-words NoDigit column e = absurd (omega (arith, e))
-image-words TooMany column e = absurd (omega (arith, e))
-image-words NoImage column e = refl
-image-words NoNumber column e = absurd (omega (arith, e))
-image-words LongBuffer column e = absurd (omega (arith, e))
-image-words GreatNumber column e = absurd (omega (arith, e))
-image-words GreatTime column e = absurd (omega (arith, e))
-image-words LongSeeprom column e = absurd (omega (arith, e))
+said-words LongLine column = refl
+said-words NoWord column = refl
+said-words MoreText column = refl
+said-words NoDigit column = refl
+said-words TooMany column = refl
+said-words NoImage column = refl
+said-words NoNumber column = refl
+said-words LongBuffer column = refl
+said-words GreatNumber column = refl
+said-words GreatTime column = refl
+said-words LongSeeprom column = refl
+said-words GreatState column = refl
+said-words LongPacket column = refl
+said-words ManyPackets column = refl
 
 module _ (d : List ℕ) {s : Sheet} (what : Wrong) (column : ℕ) {place : ℕ} (found : place ≡ placeOf what) where
-  pub complains : {words : List ℕ} → (place ≡ 10 → ⊥) → words ≡ wordAt complaints place → s ≡ fromFront d (columnText words column)
-      → s ≡ fromFront d (complaintText what column)
-  complains h e =
-      same-pieces (sheet d 0)
-      (ap (λ (l : List ℕ). columnText l column) (e ∙ ap (wordAt complaints) found) ∙ complaint-words what column (λ k. h (found ∙ k)))
+  said-as : {ps : List (List ℕ)} → ps ≡ saidAt place column → s ≡ fromFront d ps → s ≡ fromFront d (complaintText what column)
+  said-as e = same-pieces (sheet d 0) (e ∙ ap (λ (n : ℕ). saidAt n column) found ∙ said-words what column)
 
-  pub complains-image : place ≡ 10 → s ≡ fromFront d imageComplaint → s ≡ fromFront d (complaintText what column)
-  complains-image h = same-pieces (sheet d 0) (image-words what column (sym found ∙ h))
+  pub complains-packets : place ≡ 12 → s ≡ fromFront d packetsComplaint → s ≡ fromFront d (complaintText what column)
+  complains-packets h = said-as (if-eq _ _ h refl)
+
+  module _ (other : place ≡ 12 → ⊥) where
+    pub complains-image : place ≡ 13 → s ≡ fromFront d imageComplaint → s ≡ fromFront d (complaintText what column)
+    complains-image h = said-as (else-eq _ _ other (if-eq _ _ h refl))
+
+    pub complains : {words : List ℕ} → (place ≡ 13 → ⊥) → words ≡ wordAt complaints place → s ≡ fromFront d (columnText words column)
+        → s ≡ fromFront d (complaintText what column)
+    complains h e = said-as (else-eq _ _ other (else-eq _ _ h (ap (λ (l : List ℕ). columnText l column) e)))
 
 -- ---- the words of a reason
 

@@ -5,12 +5,12 @@ use mathlib.Core.List.{List, [], _∷_, _++_}
 use lib.Dec.{eqb, ltb}
 use lib.ListN.{length, take, drop}
 use Rattle.wire.specs.Wire.{beNat, toBE}
-use Rattle.text.specs.Text.{ascii, lineEnd, hexOf, hexes, spaced, decimal}
+use Rattle.text.specs.Text.{ascii, lineEnd, hexOf, hexes, spaced, decimal, numbers}
 use Rattle.listing.specs.Listing.{tooLong, listing, longest}
 use Rattle.places.specs.Reasons.{wordsFor}
 use Rattle.orders.specs.declared.Wrong.{Wrong}
 use Rattle.layout.specs.Layout.{imageLength}
-use Rattle.orders.specs.declared.Wrong.the-variants.{LongLine, NoWord, MoreText, NoDigit, TooMany, NoImage, NoNumber, LongBuffer, GreatNumber, GreatTime, LongSeeprom}
+use Rattle.orders.specs.declared.Wrong.the-variants.{LongLine, NoWord, MoreText, NoDigit, TooMany, NoImage, NoNumber, LongBuffer, GreatNumber, GreatTime, LongSeeprom, GreatState, LongPacket, ManyPackets}
 
 -- "Every answer line ends in one LF"
 unfoldable pub lineText : List ℕ → List (List ℕ)
@@ -24,6 +24,9 @@ columnText what column = ascii "? " ∷ what ∷ ascii " at column " ∷ decimal
 unfoldable pub imageComplaint : List (List ℕ)
 imageComplaint = ascii "? image must be " ∷ decimal imageLength ∷ ascii " bytes\n" ∷ []
 
+unfoldable pub packetsComplaint : List (List ℕ)
+packetsComplaint = lineText (ascii "? six packets at most")
+
 unfoldable pub complaintText : Wrong → ℕ → List (List ℕ)
 complaintText LongLine column = columnText (ascii "line over 32768 bytes") column
 complaintText NoWord column = columnText (ascii "unknown word") column
@@ -36,6 +39,9 @@ complaintText LongBuffer column = columnText (ascii "number over 8192") column
 complaintText GreatNumber column = columnText (ascii "number over 4294967295") column
 complaintText GreatTime column = columnText (ascii "number over 18446744073709551615") column
 complaintText LongSeeprom column = columnText (ascii "seeprom over 8192 bytes") column
+complaintText GreatState column = columnText (ascii "number over 255") column
+complaintText LongPacket column = columnText (ascii "packet over 4096 bytes") column
+complaintText ManyPackets column = packetsComplaint
 
 -- ---- calls
 
@@ -93,6 +99,13 @@ kindText answer kind = callText answer (ascii " " ∷ hexOf kind ∷ [])
 unfoldable pub passedText : ℕ → ℕ → ℕ → List (List ℕ)
 passedText answer kind passed = callText answer (ascii " " ∷ hexOf kind ∷ ascii " " ∷ decimal passed ∷ [])
 
+-- "` plan` and, for each packet in order, a blank and its number in decimal, or ` no plan`", which a 0 says
+unfoldable pub planText : ℕ → List ℕ → List (List ℕ)
+planText found order = cond (eqb found 0) (ascii " no plan" ∷ []) (ascii " plan" ∷ numbers order)
+
+unfoldable pub plannedText : ℕ → ℕ → List ℕ → List (List ℕ)
+plannedText answer found order = callText answer (planText found order)
+
 -- ---- views
 
 -- "`0`, or the number and the reason's words"
@@ -129,6 +142,8 @@ helpText =
     ∷ ascii "send SS TT DATA   as occ: a packet of type TT, framed for you\n"
     ∷ ascii "buffer N          reply buffers of N bytes; alone: whole ones again\n"
     ∷ ascii "seeprom BYTES     lend these bytes as the SEEPROM's image\n"
+    ∷ ascii "packet BYTES      prepare a packet for a plan; alone: drop all\n"
+    ∷ ascii "plan N            in which order prepared packets lead to state N\n"
     ∷ ascii "why               which data byte the last packet had wrong\n"
     ∷ ascii "show              the session for a person\n"
     ∷ ascii "journal           the journal's entries\n"

@@ -1,7 +1,7 @@
 -- Which of the words for what is wrong in a line are meant.
 use Prim.Native.Nat.{ℕ}
 use Rattle.orders.specs.declared.Wrong.{Wrong}
-use Rattle.orders.specs.declared.Wrong.the-variants.{LongLine, NoWord, MoreText, NoDigit, TooMany, NoImage, NoNumber, LongBuffer, GreatNumber, GreatTime, LongSeeprom}
+use Rattle.orders.specs.declared.Wrong.the-variants.{LongLine, NoWord, MoreText, NoDigit, TooMany, NoImage, NoNumber, LongBuffer, GreatNumber, GreatTime, LongSeeprom, GreatState, LongPacket, ManyPackets}
 
 -- where the words for what is wrong stand among those of `complaint`
 unfoldable pub placeOf : Wrong → ℕ
@@ -15,4 +15,7 @@ placeOf LongBuffer = 6
 placeOf GreatNumber = 7
 placeOf GreatTime = 8
 placeOf LongSeeprom = 9
-placeOf NoImage = 10
+placeOf GreatState = 10
+placeOf LongPacket = 11
+placeOf ManyPackets = 12
+placeOf NoImage = 13

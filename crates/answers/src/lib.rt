@@ -6,7 +6,7 @@ ghost use Rattle.io.specs.Counts.{Counts};
 ghost use Rattle.text.specs.Text.{sheet, ascii, putOn, putAll, fromFront, lineEnd};
 ghost use Rattle.places.specs.Reasons.{wordsFor};
 ghost use Rattle.answers.specs.Words.{placeOf};
-ghost use Rattle.answers.specs.Answers.{lineText, columnText, imageComplaint, complaintText, replyLength, replyText, bellText, dataText, bytesRead, readText, rungText, timedText, kindText, passedText, whyText, imageText, listText, journalText, helpText};
+ghost use Rattle.answers.specs.Answers.{lineText, columnText, imageComplaint, complaintText, replyLength, replyText, bellText, dataText, bytesRead, readText, rungText, timedText, kindText, passedText, planText, plannedText, whyText, imageText, listText, journalText, helpText};
 use orders::Wrong;
 
 fn put_end(out: &mut [u8], at: usize) -> usize
@@ -46,7 +46,7 @@ fn not_an_image(out: &mut [u8]) -> usize
     text::put(out, number, b" bytes\n")
 }
 
-// Where its words stand among those for what is wrong at a column, which an image isn't.
+// Where its words stand among those for what is wrong at a column, which an image isn't, nor too many packets.
 fn place_of(what: Wrong) -> usize
     ensures { λ r. ⌜ r ≡ placeOf what ⌝ }
 {
@@ -61,7 +61,10 @@ fn place_of(what: Wrong) -> usize
         Wrong::GreatNumber => 7,
         Wrong::GreatTime => 8,
         Wrong::LongSeeprom => 9,
-        Wrong::NoImage => 10,
+        Wrong::GreatState => 10,
+        Wrong::LongPacket => 11,
+        Wrong::ManyPackets => 12,
+        Wrong::NoImage => 13,
     }
 }
 
@@ -70,13 +73,17 @@ pub fn complaint(out: &mut [u8], what: Wrong, column: usize) -> usize
     ensures { λ r. ⌜ sheet (now (out .exit)) r ≡ fromFront (now (out .entry)) (complaintText what column) ⌝ }
 {
     let place = place_of(what);
-    if place == 10 {
+    if place == 12 {
+        return line(out, b"? six packets at most");
+    }
+    if place == 13 {
         return not_an_image(out);
     }
     let words = words::nth(
         b"line over 32768 bytes|unknown word|nothing more expected|hex digit expected|\
           command over 8192 bytes|number expected|number over 8192|number over 4294967295|\
-          number over 18446744073709551615|seeprom over 8192 bytes|",
+          number over 18446744073709551615|seeprom over 8192 bytes|number over 255|\
+          packet over 4096 bytes|",
         place,
     );
     at_column(out, words, column)
@@ -230,6 +237,30 @@ pub fn with_passed(out: &mut [u8], answer: u8, kind: u8, passed: u8) -> usize
     put_end(out, end)
 }
 
+// The plan that was found, or that there is none.
+fn put_plan(out: &mut [u8], at: usize, found: u8, order: &[u8]) -> usize
+    ensures { λ r. ⌜ sheet (now (out .exit)) r ≡ putAll (sheet (now (out .entry)) at) (planText found (now (order .entry))) ⌝ }
+{
+    if found == 0 {
+        return text::put(out, at, b" no plan");
+    }
+    let name = text::put(out, at, b" plan");
+    text::put_numbers(out, name, order)
+}
+
+// The session answer of a plan, and after 0 the plan.
+pub fn planned(out: &mut [u8], answer: u8, found: u8, order: &[u8]) -> usize
+    ensures { λ r. ⌜ Counts r (now (out .exit)) ⌝ }
+    ensures { λ r. ⌜ sheet (now (out .exit)) r ≡ fromFront (now (out .entry)) (plannedText answer found (now (order .entry))) ⌝ }
+{
+    let at = text::put_decimal(out, 0, answer as u64);
+    if answer != 0 {
+        return put_end(out, at);
+    }
+    let end = put_plan(out, at, found, order);
+    put_end(out, end)
+}
+
 // ---- views
 
 fn put_reason(out: &mut [u8], at: usize, reason: u8) -> usize
@@ -309,6 +340,8 @@ pub fn help(out: &mut [u8]) -> usize
           send SS TT DATA   as occ: a packet of type TT, framed for you\n|\
           buffer N          reply buffers of N bytes; alone: whole ones again\n|\
           seeprom BYTES     lend these bytes as the SEEPROM's image\n|\
+          packet BYTES      prepare a packet for a plan; alone: drop all\n|\
+          plan N            in which order prepared packets lead to state N\n|\
           why               which data byte the last packet had wrong\n|\
           show              the session for a person\n|\
           journal           the journal's entries\n|\

@@ -17,6 +17,7 @@ use Rattle.undo_call.specs.Undo.{undoOn, redoOn}
 use Rattle.forget_call.specs.Forget.{forgetOn}
 use Rattle.time_call.specs.Time.{timeOn}
 use Rattle.watch_call.specs.Watch.{watchOn}
+use Rattle.plan.specs.Plan.{planOkOn, planOn}
 
 -- the answer in bits 0 to 7, the small number in bits 8 to 15, the other in bits 16 to 31
 unfoldable pub packed : Told → ℕ
@@ -62,3 +63,11 @@ TimeReturns b n result image = (result ≡ packed (timeOn n b .told)) and (image
 
 abbrev pub WatchReturns : List ℕ → ℕ → List ℕ → Type 0
 WatchReturns b result image = (result ≡ packed (watchOn b .told)) and (image ≡ watchOn b .image)
+
+-- the lent bytes are only read
+abbrev pub PlanOkReturns : List ℕ → List ℕ → ℕ → List ℕ → ℕ → Type 0
+PlanOkReturns b p wanted o result = result ≡ packed (planOkOn b p wanted o)
+
+-- with the order's buffer d as it is left
+abbrev pub PlanReturns : List ℕ → List ℕ → ℕ → List ℕ → ℕ → List ℕ → Type 0
+PlanReturns b p wanted d result order = (result ≡ packed (planOn b p wanted d .told)) and (order ≡ planOn b p wanted d .order)

@@ -1,7 +1,7 @@
-// The calls for C: those of `occ_call`, `sbe_call`, `undo_call`, `forget_call`, `time_call` and `watch_call` under C names. A result has the answer in bits 0 to 7, a small number beside
+// The calls for C: those of `occ_call`, `sbe_call`, `undo_call`, `forget_call`, `time_call`, `watch_call` and `plan` under C names. A result has the answer in bits 0 to 7, a small number beside
 // it in bits 8 to 15, and one of 16 bits above.
 ghost use mathlib.Core.Path.{_≡_};
-ghost use Rattle.bjargolsk.specs.Calls.{packed, FreshReturns, OccReturns, SbeReturns, SeepromReturns, UndoReturns, RedoReturns, ForgetReturns, TimeReturns, WatchReturns};
+ghost use Rattle.bjargolsk.specs.Calls.{packed, FreshReturns, OccReturns, SbeReturns, SeepromReturns, UndoReturns, RedoReturns, ForgetReturns, TimeReturns, WatchReturns, PlanReturns, PlanOkReturns};
 use inplace::Told;
 
 fn pack(t: Told) -> u32
@@ -95,4 +95,20 @@ pub extern "C" fn bjargolsk_watch(lent: &mut [u8]) -> u32
     ensures { λ x. ⌜ WatchReturns (now (lent .entry)) x (now (lent .exit)) ⌝ }
 {
     pack(watch_call::watch(lent))
+}
+
+// The least order of prepared packets that leads to the wanted state, written to the front of the buffer; bits 8 to 15 are 1 where there is one, the high 16 bits its length.
+#[no_mangle]
+pub extern "C" fn bjargolsk_plan(lent: &[u8], packets: &[u8], wanted: u8, order: &mut [u8]) -> u32
+    ensures { λ x. ⌜ PlanReturns (now (lent .entry)) (now (packets .entry)) wanted (now (order .entry)) x (now (order .exit)) ⌝ }
+{
+    pack(plan::plan(lent, packets, wanted, order))
+}
+
+// Whether a proposed order is a plan: bits 8 to 15 are 1 where it is.
+#[no_mangle]
+pub extern "C" fn bjargolsk_plan_ok(lent: &[u8], packets: &[u8], wanted: u8, order: &[u8]) -> u32
+    ensures { λ x. ⌜ PlanOkReturns (now (lent .entry)) (now (packets .entry)) wanted (now (order .entry)) x ⌝ }
+{
+    pack(plan::plan_ok(lent, packets, wanted, order))
 }

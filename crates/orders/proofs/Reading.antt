@@ -28,9 +28,9 @@ use Rattle.orders.specs.declared.Buffer.the-variants.{Whole}
 use Rattle.orders.specs.declared.Wrong.{Wrong}
 use Rattle.orders.specs.declared.Wrong.the-variants.{LongLine, MoreText, NoDigit, NoImage, NoNumber}
 use Rattle.orders.specs.declared.Word.{Word}
-use Rattle.orders.specs.declared.Word.the-variants.{Make, Look, Lend, Seeprom, Fail, Skip}
+use Rattle.orders.specs.declared.Word.the-variants.{Make, Look, Lend, Seeprom, Packet, Fail, Skip}
 use Rattle.orders.specs.declared.Order.{Order}
-use Rattle.orders.specs.Orders.{plainly, wrongAt, wordOf, aloneAt, aloneOf, bytesBy, imageBy, numberedBy, sizeBy, bufferAt, bufferOf, numberedAt, ReadsAs, Ordered, ordered, seepromOf, callOf, orderBy, wordLength, orderAt, remark, orderFrom, orderOf, lineLength, orderIn}
+use Rattle.orders.specs.Orders.{plainly, wrongAt, wordOf, aloneAt, aloneOf, bytesBy, imageBy, numberedBy, sizeBy, bufferAt, bufferOf, numberedAt, ReadsAs, Ordered, ordered, seepromOf, packetOf, callOf, orderBy, wordLength, orderAt, remark, orderFrom, orderOf, lineLength, orderIn}
 
 -- ---- by what follows
 
@@ -191,6 +191,10 @@ module _ (line : List ℕ) (at end : ℕ) (d : List ℕ) {w : Word} where
   pub order-seeprom : {g : Ordered} → w ≡ Seeprom → g ≡ seepromOf line end d → g ≡ orderBy w line at end d
   unfolding orderBy
   order-seeprom e h = h ∙ sym (ap (λ (x : Word). orderBy x line at end d) e)
+
+  pub order-packet : {g : Ordered} → w ≡ Packet → g ≡ packetOf line end d → g ≡ orderBy w line at end d
+  unfolding orderBy
+  order-packet e h = h ∙ sym (ap (λ (x : Word). orderBy x line at end d) e)
 
   pub order-fail : {x : Wrong} {r : Order} → w ≡ Fail x → r ≡ wrongAt x (at + 1) → ordered r d ≡ orderBy w line at end d
   unfolding orderBy

@@ -14,13 +14,13 @@ use Rattle.text.specs.declared.Number.the-variants.{Missing, TooGreat, Is}
 use Rattle.text.specs.Text.{ascii, inWord, leading, pastBlanks, sameText, HexRun, hexRun}
 use Rattle.text.specs.Numbers.{numberAt}
 use Rattle.orders.specs.declared.Call.{Call}
-use Rattle.orders.specs.declared.Call.the-variants.{Occ, Sbe, Send, Load, Undo, Redo, Forget, Time, Watch, Fresh}
+use Rattle.orders.specs.declared.Call.the-variants.{Occ, Sbe, Send, Load, Undo, Redo, Forget, Time, Watch, Plan, Fresh}
 use Rattle.orders.specs.declared.View.the-variants.{Image, Why, Show, Journal, Help}
 use Rattle.orders.specs.declared.Buffer.the-variants.{Whole, Bytes}
 use Rattle.orders.specs.declared.Wrong.{Wrong}
-use Rattle.orders.specs.declared.Wrong.the-variants.{LongLine, NoWord, MoreText, NoDigit, TooMany, NoImage, NoNumber, LongBuffer, GreatNumber, GreatTime, LongSeeprom}
+use Rattle.orders.specs.declared.Wrong.the-variants.{LongLine, NoWord, MoreText, NoDigit, TooMany, NoImage, NoNumber, LongBuffer, GreatNumber, GreatTime, LongSeeprom, GreatState, LongPacket}
 use Rattle.orders.specs.declared.Word.{Word}
-use Rattle.orders.specs.declared.Word.the-variants.{Make, Look, Lend, Seeprom, Fail, Skip}
+use Rattle.orders.specs.declared.Word.the-variants.{Make, Look, Lend, Seeprom, Packet, Fail, Skip}
 use Rattle.orders.specs.declared.Order.{Order}
 
 abbrev pub plainly : Word → Order
@@ -40,6 +40,13 @@ viewOf w =
     (cond (sameText w (ascii "help")) (Look Help)
     (Fail NoWord)))))
 
+unfoldable pub givenOf : List ℕ → Word
+givenOf w =
+    cond (sameText w (ascii "buffer")) (Lend Whole)
+    (cond (sameText w (ascii "seeprom")) Seeprom
+    (cond (sameText w (ascii "packet")) Packet
+    (viewOf w)))
+
 unfoldable pub wordOf : List ℕ → Word
 wordOf w =
     cond (sameText w (ascii "occ")) (Make Occ)
@@ -51,10 +58,9 @@ wordOf w =
     (cond (sameText w (ascii "forget")) (Make (Forget 0))
     (cond (sameText w (ascii "time")) (Make (Time 0))
     (cond (sameText w (ascii "watch")) (Make Watch)
+    (cond (sameText w (ascii "plan")) (Make (Plan 0))
     (cond (sameText w (ascii "fresh")) (Make Fresh)
-    (cond (sameText w (ascii "buffer")) (Lend Whole)
-    (cond (sameText w (ascii "seeprom")) Seeprom
-    (viewOf w))))))))))))
+    (givenOf w)))))))))))
 
 -- ---- what follows a word
 
@@ -93,6 +99,10 @@ forgetOf line from = numberedAt 4294967295 GreatNumber (λ n. Make (Forget n)) l
 abbrev pub timeOf : List ℕ → ℕ → Order
 timeOf line from = numberedAt 18446744073709551615 GreatTime (λ n. Make (Time n)) line (pastBlanks line from)
 
+-- `plan N`: "N at most 255"
+abbrev pub planOf : List ℕ → ℕ → Order
+planOf line from = numberedAt 255 GreatState (λ n. Make (Plan n)) line (pastBlanks line from)
+
 -- n bytes were read, and then a fault; "due are .. the bytes SS and TT themselves", at the column `end` if the line ends first
 unfoldable pub bytesBy : Fault → Wrong → Word → ℕ → ℕ → ℕ → Order
 bytesBy Nothing over w n due end = cond (ltb n due) (wrongAt NoDigit end) (record { word = w; count = n - due; column = 0 })
@@ -125,15 +135,19 @@ bytesOf over w due q line = bytesBy (q .fault) over w (length (q .bytes)) due (l
 unfoldable pub occOf : List ℕ → ℕ → List ℕ → Ordered
 occOf line from d = ordered (bytesOf TooMany (Make Occ) 1 (hexRun line from 8193) line) (pasted 0 ((hexRun line from 8193) .bytes) d)
 
-unfoldable pub plainBytes : Wrong → Word → List ℕ → ℕ → List ℕ → Ordered
-plainBytes over w line from d = ordered (bytesOf over w 0 (hexRun line from 8192) line) (pasted 0 ((hexRun line from 8192) .bytes) d)
+unfoldable pub plainBytes : ℕ → Wrong → Word → List ℕ → ℕ → List ℕ → Ordered
+plainBytes most over w line from d = ordered (bytesOf over w 0 (hexRun line from most) line) (pasted 0 ((hexRun line from most) .bytes) d)
 
 abbrev pub sbeOf : List ℕ → ℕ → List ℕ → Ordered
-sbeOf line from d = plainBytes TooMany (Make Sbe) line from d
+sbeOf line from d = plainBytes 8192 TooMany (Make Sbe) line from d
 
 -- "for `seeprom` it is 8,192 bytes, and the answer `? seeprom over 8192 bytes`"
 abbrev pub seepromOf : List ℕ → ℕ → List ℕ → Ordered
-seepromOf line from d = plainBytes LongSeeprom Seeprom line from d
+seepromOf line from d = plainBytes 8192 LongSeeprom Seeprom line from d
+
+-- "for `packet` 4,096 bytes and `? packet over 4096 bytes`"
+abbrev pub packetOf : List ℕ → ℕ → List ℕ → Ordered
+packetOf line from d = plainBytes 4096 LongPacket Packet line from d
 
 unfoldable pub sendOf : List ℕ → ℕ → List ℕ → Ordered
 sendOf line from d = ordered (bytesOf TooMany (Make Send) 2 (hexRun line from 8188) line) (pasted 2 ((hexRun line from 8188) .bytes) d)
@@ -153,6 +167,7 @@ callOf Redo line from d = ordered (aloneOf (Make Redo) line from) d
 callOf (Forget n) line from d = ordered (forgetOf line from) d
 callOf (Time n) line from d = ordered (timeOf line from) d
 callOf Watch line from d = ordered (aloneOf (Make Watch) line from) d
+callOf (Plan n) line from d = ordered (planOf line from) d
 callOf Fresh line from d = ordered (aloneOf (Make Fresh) line from) d
 
 -- ---- lines
@@ -163,6 +178,7 @@ orderBy (Make call) line at end d = callOf call line end d
 orderBy (Look view) line at end d = ordered (aloneOf (Look view) line end) d
 orderBy (Lend buffer) line at end d = ordered (bufferOf line end) d
 orderBy Seeprom line at end d = seepromOf line end d
+orderBy Packet line at end d = packetOf line end d
 orderBy (Fail what) line at end d = ordered (wrongAt what (at + 1)) d
 orderBy Skip line at end d = ordered (plainly Skip) d
 

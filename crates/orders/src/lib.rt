@@ -5,7 +5,7 @@ ghost use lib.ListN.{length};
 ghost use Rattle.io.specs.Counts.{Counts};
 ghost use Rattle.wire.specs.Wire.{pasted};
 ghost use Rattle.text.specs.Text.{hexRun};
-ghost use Rattle.orders.specs.Orders.{plainly, wrongAt, viewOf, wordOf, aloneOf, bytesBy, imageBy, sizeBy, bufferOf, ReadsAs, ordered, occOf, plainBytes, sendOf, loadOf, forgetOf, timeOf, callOf, orderAt, remark, orderOf, lineLength, orderIn};
+ghost use Rattle.orders.specs.Orders.{plainly, wrongAt, viewOf, givenOf, wordOf, aloneOf, bytesBy, imageBy, sizeBy, bufferOf, ReadsAs, ordered, occOf, plainBytes, sendOf, loadOf, forgetOf, timeOf, planOf, callOf, orderAt, remark, orderOf, lineLength, orderIn};
 use text::Fault;
 use text::Number;
 use text::Taken;
@@ -23,6 +23,12 @@ pub const MOST_FORGOTTEN: u64 = 4294967295;
 // The most microseconds that can be reported.
 pub const MOST_TIME: u64 = 18446744073709551615;
 
+// The greatest number that can be asked for as a state.
+pub const MOST_STATE: u64 = 255;
+
+// The longest packet that can be prepared.
+pub const MOST_PACKET: usize = 4096;
+
 // What is made on a session.
 pub enum Call {
     Occ,
@@ -34,6 +40,7 @@ pub enum Call {
     Forget(u32),
     Time(u64),
     Watch,
+    Plan(u8),
     Fresh,
 }
 
@@ -52,7 +59,7 @@ pub enum Buffer {
     Bytes(usize),
 }
 
-// What a line can have wrong.
+// What a line can have wrong; `ManyPackets` is wrong only beside the packets of earlier lines.
 pub enum Wrong {
     LongLine,
     NoWord,
@@ -65,14 +72,18 @@ pub enum Wrong {
     GreatNumber,
     GreatTime,
     LongSeeprom,
+    GreatState,
+    LongPacket,
+    ManyPackets,
 }
 
-// `Seeprom`: the bytes become the SEEPROM's image.
+// `Seeprom`: the bytes become the SEEPROM's image. `Packet`: they are prepared for a plan.
 pub enum Word {
     Make(Call),
     Look(View),
     Lend(Buffer),
     Seeprom,
+    Packet,
     Fail(Wrong),
     Skip,
 }
@@ -129,6 +140,22 @@ fn view_of(word: &[u8]) -> Word
     Word::Fail(Wrong::NoWord)
 }
 
+// What is given for later lines, or a view.
+fn given_of(word: &[u8]) -> Word
+    ensures { λ r. ⌜ r ≡ givenOf (now (word .entry)) ⌝ }
+{
+    if text::same(word, b"buffer") {
+        return Word::Lend(Buffer::Whole);
+    }
+    if text::same(word, b"seeprom") {
+        return Word::Seeprom;
+    }
+    if text::same(word, b"packet") {
+        return Word::Packet;
+    }
+    view_of(word)
+}
+
 fn word_of(word: &[u8]) -> Word
     ensures { λ r. ⌜ r ≡ wordOf (now (word .entry)) ⌝ }
 {
@@ -159,16 +186,13 @@ fn word_of(word: &[u8]) -> Word
     if text::same(word, b"watch") {
         return Word::Make(Call::Watch);
     }
+    if text::same(word, b"plan") {
+        return Word::Make(Call::Plan(0));
+    }
     if text::same(word, b"fresh") {
         return Word::Make(Call::Fresh);
     }
-    if text::same(word, b"buffer") {
-        return Word::Lend(Buffer::Whole);
-    }
-    if text::same(word, b"seeprom") {
-        return Word::Seeprom;
-    }
-    view_of(word)
+    given_of(word)
 }
 
 // ---- what follows a word
@@ -235,6 +259,20 @@ fn read_time(line: &[u8], from: usize) -> Order
         Number::Missing => wrong_at(Wrong::NoNumber, place + 1),
         Number::TooGreat => wrong_at(Wrong::GreatTime, place + 1),
         Number::Is(n, past) => alone(Word::Make(Call::Time(n)), line, past),
+    }
+}
+
+// A state.
+fn read_plan(line: &[u8], from: usize) -> Order
+    ensures { λ r. ⌜ r ≡ planOf (now (line .entry)) from ⌝ }
+    ensures { λ r. ⌜ r .count ≡ 0 ⌝ }
+{
+    let place = text::past_blanks(line, from);
+    let number = text::number_at(line, place, MOST_STATE);
+    match number {
+        Number::Missing => wrong_at(Wrong::NoNumber, place + 1),
+        Number::TooGreat => wrong_at(Wrong::GreatState, place + 1),
+        Number::Is(n, past) => alone(Word::Make(Call::Plan(n as u8)), line, past),
     }
 }
 
@@ -307,13 +345,20 @@ fn occ(line: &[u8], from: usize, sent: &mut [u8]) -> Order
     )
 }
 
-// Bytes without any that must be there.
-fn plain_bytes(over: Wrong, word: Word, line: &[u8], from: usize, sent: &mut [u8]) -> Order
-    requires { ⌜ (length (now line) ≤ 32768) × (8198 ≤ length (now sent)) ⌝ }
-    ensures { λ r. ⌜ ordered r (now (sent .exit)) ≡ plainBytes over word (now (line .entry)) from (now (sent .entry)) ⌝ }
+// At most `most` bytes, without any that must be there.
+fn plain_bytes(
+    most: usize,
+    over: Wrong,
+    word: Word,
+    line: &[u8],
+    from: usize,
+    sent: &mut [u8],
+) -> Order
+    requires { ⌜ (most ≤ 8192) × (length (now line) ≤ 32768) × (8198 ≤ length (now sent)) ⌝ }
+    ensures { λ r. ⌜ ordered r (now (sent .exit)) ≡ plainBytes most over word (now (line .entry)) from (now (sent .entry)) ⌝ }
     ensures { λ r. ⌜ r .count ≤ 8192 ⌝ }
 {
-    let taken = take(line, from, sent, 0, 8192);
+    let taken = take(line, from, sent, 0, most);
     with_bytes(over, word, taken, 0, line.len() + 1)
 }
 
@@ -348,7 +393,14 @@ fn read_call(call: Call, line: &[u8], from: usize, sent: &mut [u8]) -> Order
 {
     match call {
         Call::Occ => occ(line, from, sent),
-        Call::Sbe => plain_bytes(Wrong::TooMany, Word::Make(Call::Sbe), line, from, sent),
+        Call::Sbe => plain_bytes(
+            8192,
+            Wrong::TooMany,
+            Word::Make(Call::Sbe),
+            line,
+            from,
+            sent,
+        ),
         Call::Send => send(line, from, sent),
         Call::Load => load(line, from, sent),
         Call::Undo => alone(Word::Make(Call::Undo), line, from),
@@ -356,6 +408,7 @@ fn read_call(call: Call, line: &[u8], from: usize, sent: &mut [u8]) -> Order
         Call::Forget(_) => read_forget(line, from),
         Call::Time(_) => read_time(line, from),
         Call::Watch => alone(Word::Make(Call::Watch), line, from),
+        Call::Plan(_) => read_plan(line, from),
         Call::Fresh => alone(Word::Make(Call::Fresh), line, from),
     }
 }
@@ -376,7 +429,15 @@ fn read_word(line: &[u8], at: usize, sent: &mut [u8]) -> Order
         Word::Make(call) => read_call(call, line, end, sent),
         Word::Look(view) => alone(Word::Look(view), line, end),
         Word::Lend(_) => read_buffer(line, end),
-        Word::Seeprom => plain_bytes(Wrong::LongSeeprom, Word::Seeprom, line, end, sent),
+        Word::Seeprom => plain_bytes(8192, Wrong::LongSeeprom, Word::Seeprom, line, end, sent),
+        Word::Packet => plain_bytes(
+            MOST_PACKET,
+            Wrong::LongPacket,
+            Word::Packet,
+            line,
+            end,
+            sent,
+        ),
         Word::Fail(what) => wrong_at(what, at + 1),
         Word::Skip => plain(Word::Skip),
     }

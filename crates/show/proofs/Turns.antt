@@ -6,20 +6,9 @@ use mathlib.Core.List.{List, []}
 use native.Mathlib.Numerals.{add-one}
 use native.Mathlib.Omega.{arith}
 use lib.Dec.{eqb}
-use lib.ListN.{length, drop, getD, drop-of-length-le}
-use lib.Seq.{drop-cons}
 use Rattle.text.specs.Text.{Sheet, putAll}
 use Rattle.text.specs.laws.Pieces.{pieces}
-use Rattle.show.specs.Show.{numberText, numbersText, whereSet}
-
-module _ (s : List ℕ) (i : ℕ) (p : Sheet) {q : Sheet} where
-  pub numbers-more : i < length s → q ≡ putAll p (numberText (getD s i 0)) → putAll q (numbersText (drop (i + 1) s)) ≡ putAll p (numbersText (drop i s))
-  unfolding numbersText
-  numbers-more h e = rw (add-one i, drop-cons s i 0) (pieces p (numberText (getD s i 0)) (numbersText (drop (suc i) s)) e refl)
-
-pub numbers-end : (s : List ℕ) (i : ℕ) (p : Sheet) → length s ≤ i → p ≡ putAll p (numbersText (drop i s))
-unfolding numbersText putAll
-numbers-end s i p h = rw (drop-of-length-le s h)
+use Rattle.show.specs.Show.{whereSet}
 
 module _ (bit rest : ℕ → ℕ) (what : ℕ → List (List ℕ)) (n i bits : ℕ) (p : Sheet) where
   pub set-more : {q : Sheet} → i < n → q ≡ putAll p (cond (eqb (bit bits) 0) [] (what i))

@@ -17,17 +17,13 @@ use Rattle.record.specs.declared.Worked.{Worked}
 use Rattle.entries.specs.declared.Reading.{Reading}
 use Rattle.entries.specs.declared.Reading.the-variants.{Whole, Unknown, Cut}
 use Rattle.entries.specs.Entries.{scan, readingOf}
-use Rattle.text.specs.Text.{ascii, lineEnd, hexOf, hexes, decimal}
+use Rattle.text.specs.Text.{ascii, lineEnd, hexOf, hexes, decimal, numbers}
 
 -- ---- words and numbers
 
 -- a number after a blank
 unfoldable pub numberText : ℕ → List (List ℕ)
 numberText n = ascii " " ∷ decimal n ∷ []
-
-unfoldable pub numbersText : List ℕ → List (List ℕ)
-numbersText [] = []
-numbersText (n ∷ ns) = numberText n ++ numbersText ns
 
 -- a line of a name and a number
 unfoldable pub namedText : List ℕ → ℕ → List (List ℕ)
@@ -89,7 +85,7 @@ settingsText r w =
 
 -- "the nine thermal bytes"
 unfoldable pub thresholdsText : List ℕ → ℕ → List (List ℕ)
-thresholdsText thermal mark = ascii "thresholds" ∷ (numbersText thermal ++ (markText mark ∷ []))
+thresholdsText thermal mark = ascii "thresholds" ∷ (numbers thermal ++ (markText mark ∷ []))
 
 -- `what` of each number from i on whose bit is set: `bit` gives the next one, `rest` takes it off
 unfoldable pub whereSet : (ℕ → ℕ) → (ℕ → ℕ) → (ℕ → List (List ℕ)) → ℕ → ℕ → ℕ → List (List ℕ)

@@ -7,7 +7,7 @@ ghost use lib.Dec.{eqb};
 ghost use Rattle.io.specs.Counts.{Counts};
 ghost use Rattle.text.specs.Text.{sheet, putOn, putAll, fromFront};
 ghost use Rattle.show.specs.Words.{wordNumber};
-ghost use Rattle.show.specs.Show.{numberText, numbersText, namedText, markText, yesText, stateWord, stateText, roleWord, roleText, capsText, wantedText, workedText, settingsText, thresholdsText, pairText, pairsText, throttlesText, logText, placesText, logsText, coresText, maskText, deadmanText, areaText, areasText, restText, readingText, storeText, redoText, journalText, timerText, profileWord, sessionText};
+ghost use Rattle.show.specs.Show.{numberText, namedText, markText, yesText, stateWord, stateText, roleWord, roleText, capsText, wantedText, workedText, settingsText, thresholdsText, pairText, pairsText, throttlesText, logText, placesText, logsText, coresText, maskText, deadmanText, areaText, areasText, restText, readingText, storeText, redoText, journalText, timerText, profileWord, sessionText};
 use entries::Reading;
 use record::Area;
 use record::Areas;
@@ -252,23 +252,11 @@ fn put_worked(out: &mut [u8], at: usize, worked: Worked) -> usize
     put_wanted(out, active, worked.wanted)
 }
 
-fn put_numbers(out: &mut [u8], at: usize, s: &[u8]) -> usize
-    ensures { λ r. ⌜ sheet (now (out .exit)) r ≡ putAll (sheet (now (out .entry)) at) (numbersText (now (s .entry))) ⌝ }
-{
-    let mut end = at;
-    let mut i = 0;
-    while i < s.len() {
-        end = put_byte(out, end, s[i]);
-        i += 1;
-    }
-    end
-}
-
 fn put_thresholds(out: &mut [u8], at: usize, thermal: &[u8], mark: u8) -> usize
     ensures { λ r. ⌜ sheet (now (out .exit)) r ≡ putAll (sheet (now (out .entry)) at) (thresholdsText (now (thermal .entry)) mark) ⌝ }
 {
     let name = put_word(out, at, THRESHOLDS);
-    let end = put_numbers(out, name, thermal);
+    let end = text::put_numbers(out, name, thermal);
     put_mark(out, end, mark)
 }
 

@@ -10,13 +10,24 @@ use orders::Call;
 use orders::Order;
 use orders::View;
 use orders::Word;
+use orders::Wrong;
 use streams::Got;
 
 // The bytes of a SEEPROM's image that count.
 const MOST_SEEPROM: usize = 65536;
 
-// What lines give: a line's bytes, as `orders` puts them, and behind them the SEEPROM's image. One buffer that is lent costs the prover less than two.
-const GIVEN: usize = orders::ROOM + MOST_SEEPROM;
+// The slots of six packets, one more than a plan takes.
+const SLOTS: usize = 6 * orders::MOST_PACKET;
+
+// Where the last of them begins.
+const LAST_SLOT: usize = 5 * orders::MOST_PACKET;
+
+// Where they begin in the buffer below.
+const PACKETS: usize = orders::ROOM + MOST_SEEPROM;
+
+// What lines give: a line's bytes, as `orders` puts them, behind them the SEEPROM's image, and behind that the packets' slots. One buffer that is lent costs
+// the prover less than three.
+const GIVEN: usize = PACKETS + SLOTS;
 
 // The longest answer: a read of a whole image.
 const LONGEST: usize = 131186;
@@ -44,15 +55,12 @@ fn send(lent: &mut [u8], packet: &mut [u8], sequence: u8, reply: &mut [u8]) -> T
     occ_call::occ(lent, sender, packet, reply)
 }
 
-// The first `n` bytes of what stands behind a line's. That no more were ever lent isn't known here, so it is tested.
-fn seeprom_in<'a>(sent: &'a [u8], n: usize) -> &'a [u8]
-    requires { ⌜ 73734 ≤ length (now sent) ⌝ }
-{
-    let room = &sent[orders::ROOM..];
-    if room.len() < n {
-        return room;
+// The first `n` bytes. That there are as many isn't known where this is used, so it is tested.
+fn front<'a>(bytes: &'a [u8], n: usize) -> &'a [u8] {
+    if bytes.len() < n {
+        return bytes;
     }
-    &room[..n]
+    &bytes[..n]
 }
 
 // A function, since the request and the image are two parts of one buffer, which can't be lent twice from a `&mut`.
@@ -64,19 +72,26 @@ fn sbe(
     reply: &mut [u8],
     second: &mut [u8],
 ) -> Told
-    requires { ⌜ (count ≤ 8192) × (73734 ≤ length (now sent)) ⌝ }
+    requires { ⌜ (count ≤ 8192) × (98310 ≤ length (now sent)) ⌝ }
 {
     sbe_call::sbe(
         lent,
         &sent[..count],
         reply,
-        seeprom_in(sent, seeprom),
+        front(&sent[orders::ROOM..PACKETS], seeprom),
         second,
     )
 }
 
+// The packets stand in that buffer too.
+fn find_plan(lent: &[u8], sent: &[u8], prepared: usize, wanted: u8, order: &mut [u8]) -> Told
+    requires { ⌜ 98310 ≤ length (now sent) ⌝ }
+{
+    plan::plan(lent, front(&sent[PACKETS..], prepared), wanted, order)
+}
+
 fn load(lent: &mut [u8], sent: &[u8]) -> Told
-    requires { ⌜ (length (now lent) ≡ imageLength) × (73734 ≤ length (now sent)) ⌝ }
+    requires { ⌜ (length (now lent) ≡ imageLength) × (98310 ≤ length (now sent)) ⌝ }
 {
     wire::copy(lent, 0, &sent[..layout::IMAGE]);
     inplace::answer_with(0, 0)
@@ -96,7 +111,7 @@ fn carry_out(
     reply: &mut [u8],
     second: &mut [u8],
 ) -> Told
-    requires { ⌜ (length (now lent) ≡ imageLength) × (count ≤ 8192) × (73734 ≤ length (now sent)) ⌝ }
+    requires { ⌜ (length (now lent) ≡ imageLength) × (count ≤ 8192) × (98310 ≤ length (now sent)) ⌝ }
 {
     match call {
         Call::Occ => occ_call::occ(lent, sent[0], &sent[1..count + 1], reply),
@@ -108,6 +123,7 @@ fn carry_out(
         Call::Forget(n) => forget_call::forget(lent, n),
         Call::Time(n) => time_call::time(lent, n),
         Call::Watch => watch_call::watch(lent),
+        Call::Plan(n) => find_plan(lent, sent, b.prepared, n, reply),
         Call::Fresh => fresh(lent),
     }
 }
@@ -122,6 +138,7 @@ enum Form {
     Answer,
     Bell,
     Passed,
+    Plan,
     Ok,
 }
 
@@ -136,18 +153,9 @@ fn form_of(call: Call) -> Form {
         Call::Forget(_) => Form::Answer,
         Call::Time(_) => Form::Bell,
         Call::Watch => Form::Answer,
+        Call::Plan(_) => Form::Plan,
         Call::Fresh => Form::Ok,
     }
-}
-
-// A response has 32 bytes; a longer buffer is kept past them.
-fn response_len(buffer: &[u8]) -> usize
-    ensures { λ r. ⌜ Counts r (now (buffer .entry)) ⌝ }
-{
-    if buffer.len() < 32 {
-        return buffer.len();
-    }
-    32
 }
 
 // A kind is a byte.
@@ -155,6 +163,7 @@ fn kind_of(beside: u16) -> u8 {
     (beside % 256) as u8
 }
 
+// A response has 32 bytes, and a longer buffer is kept past them; so is the buffer of a plan's order past those that it has.
 fn put_told(
     call: Call,
     told: Told,
@@ -165,16 +174,30 @@ fn put_told(
 ) -> usize
     ensures { λ r. ⌜ Counts r (now (out .exit)) ⌝ }
 {
-    let n = response_len(reply);
     match form_of(call) {
         Form::Reply => answers::reply(out, told.answer, reply),
         Form::Response => {
-            answers::rung(out, told.answer, request, &reply[..n], told.beside, second)
+            answers::rung(
+                out,
+                told.answer,
+                request,
+                front(reply, 32),
+                told.beside,
+                second,
+            )
         }
         Form::Kind => answers::with_kind(out, told.answer, kind_of(told.beside)),
         Form::Answer => answers::reply(out, told.answer, &reply[..0]),
         Form::Bell => answers::timed(out, told.answer, told.beside),
         Form::Passed => { answers::with_passed(out, told.answer, kind_of(told.beside), told.small) }
+        Form::Plan => {
+            answers::planned(
+                out,
+                told.answer,
+                told.small,
+                front(reply, told.beside as usize),
+            )
+        }
         Form::Ok => answers::line(out, b"ok"),
     }
 }
@@ -193,10 +216,13 @@ fn whole(call: Call) -> usize
     if let Call::Sbe = call { 32 } else { 4096 }
 }
 
-// The bytes of reply buffer that a call gets.
+// The bytes of reply buffer that a call gets. A plan's order goes there, and is no reply.
 fn reply_len(buffer: Buffer, call: Call) -> usize
     ensures { λ r. ⌜ r ≤ 8192 ⌝ }
 {
+    if let Call::Plan(_) = call {
+        return 5;
+    }
     let Buffer::Bytes(n) = buffer else {
         return whole(call);
     };
@@ -206,12 +232,13 @@ fn reply_len(buffer: Buffer, call: Call) -> usize
     orders::MOST_BUFFER
 }
 
-// What is kept beside the session: the sequence of the last packet sent, the reply buffers that are lent, the bytes that the SEEPROM's image has,
-// what the last OCC call told, and whether answers can still be written.
+// What is kept beside the session: the sequence of the last packet sent, the reply buffers that are lent, the bytes that the SEEPROM's image has
+// and those of the prepared packets in their slots, what the last OCC call told, and whether answers can still be written.
 struct Bench {
     sequence: u8,
     buffer: Buffer,
     seeprom: usize,
+    prepared: usize,
     last: Told,
     heard: bool,
 }
@@ -239,7 +266,7 @@ fn call_with(
     sent: &mut [u8],
     out: &mut [u8],
 ) -> Said
-    requires { ⌜ (length (now lent) ≡ imageLength) × (count ≤ 8192) × (73734 ≤ length (now sent)) ⌝ }
+    requires { ⌜ (length (now lent) ≡ imageLength) × (count ≤ 8192) × (98310 ≤ length (now sent)) ⌝ }
     ensures { λ r. ⌜ Counts (r .length) (now (out .exit)) ⌝ }
 {
     let mut reply = reply_buffer();
@@ -311,14 +338,14 @@ fn put_other(lent: &[u8], order: Order, last: Told, out: &mut [u8]) -> usize
     let word = order.word;
     match word {
         Word::Look(view) => look(lent, view, last, out),
-        Word::Lend(_) | Word::Seeprom => answers::line(out, b"ok"),
+        Word::Lend(_) | Word::Seeprom | Word::Packet => answers::line(out, b"ok"),
         Word::Fail(what) => answers::complaint(out, what, order.column),
         _ => 0,
     }
 }
 
 fn obey(lent: &mut [u8], order: Order, b: Bench, sent: &mut [u8], out: &mut [u8]) -> Said
-    requires { ⌜ (length (now lent) ≡ imageLength) × (order .count ≤ 8192) × (73734 ≤ length (now sent)) ⌝ }
+    requires { ⌜ (length (now lent) ≡ imageLength) × (order .count ≤ 8192) × (98310 ≤ length (now sent)) ⌝ }
     ensures { λ r. ⌜ Counts (r .length) (now (out .exit)) ⌝ }
 {
     let word = order.word;
@@ -353,7 +380,7 @@ fn next_buffer(word: Word, buffer: Buffer) -> Buffer {
 
 // The bytes that the SEEPROM's image has from now on. Those of a line that gives it are put in their place.
 fn next_seeprom(word: Word, count: usize, sent: &mut [u8], seeprom: usize) -> usize
-    requires { ⌜ (count ≤ 8192) × (73734 ≤ length (now sent)) ⌝ }
+    requires { ⌜ (count ≤ 8192) × (98310 ≤ length (now sent)) ⌝ }
 {
     let Word::Seeprom = word else {
         return seeprom;
@@ -366,9 +393,68 @@ fn next_seeprom(word: Word, count: usize, sent: &mut [u8], seeprom: usize) -> us
     count
 }
 
+// A byte of a slot: a line's, then zeros.
+fn slot_byte(sent: &[u8], count: usize, i: usize) -> u8
+    requires { ⌜ (count ≤ 8192) × (98310 ≤ length (now sent)) ⌝ }
+{
+    if i < count {
+        return sent[i];
+    }
+    0
+}
+
+// A line's bytes become the slot that begins at `at`.
+fn fill_slot(sent: &mut [u8], count: usize, at: usize)
+    requires { ⌜ (count ≤ 8192) × (98310 ≤ length (now sent)) × (at ≤ 94214) ⌝ }
+{
+    let mut i = 0;
+    while i < orders::MOST_PACKET {
+        sent[at + i] = slot_byte(sent, count, i);
+        i += 1;
+    }
+}
+
+// The bytes that the prepared packets have from now on: the last slot ends with its packet. Without bytes all are dropped. That a slot is left isn't known
+// here, so it is tested.
+fn next_prepared(word: Word, count: usize, sent: &mut [u8], prepared: usize) -> usize
+    requires { ⌜ (count ≤ 8192) × (98310 ≤ length (now sent)) ⌝ }
+{
+    let Word::Packet = word else {
+        return prepared;
+    };
+    if count == 0 {
+        return 0;
+    }
+    if LAST_SLOT < prepared {
+        return prepared;
+    }
+    let at = (prepared + 4095) / 4096 * 4096;
+    fill_slot(sent, count, PACKETS + at);
+    at + count
+}
+
+// A packet after the sixth isn't taken.
+fn admitted(order: Order, prepared: usize) -> Order
+    requires { ⌜ order .count ≤ 8192 ⌝ }
+    ensures { λ r. ⌜ r .count ≤ 8192 ⌝ }
+{
+    let word = order.word;
+    let Word::Packet = word else {
+        return order;
+    };
+    if order.count == 0 || prepared <= LAST_SLOT {
+        return order;
+    }
+    Order {
+        word: Word::Fail(Wrong::ManyPackets),
+        count: 0,
+        column: 0,
+    }
+}
+
 // The bench that a line is obeyed on.
 fn ready(b: Bench, order: Order, sent: &mut [u8]) -> Bench
-    requires { ⌜ (order .count ≤ 8192) × (73734 ≤ length (now sent)) ⌝ }
+    requires { ⌜ (order .count ≤ 8192) × (98310 ≤ length (now sent)) ⌝ }
 {
     let word = order.word;
     let held = b.buffer;
@@ -378,6 +464,7 @@ fn ready(b: Bench, order: Order, sent: &mut [u8]) -> Bench
         sequence: next_sequence(word, b.sequence),
         buffer: buffer,
         seeprom: next_seeprom(word, order.count, sent, b.seeprom),
+        prepared: next_prepared(word, order.count, sent, b.prepared),
         last: last,
         heard: b.heard,
     }
@@ -385,9 +472,10 @@ fn ready(b: Bench, order: Order, sent: &mut [u8]) -> Bench
 
 // An answer is written as soon as it is there.
 fn answer(lent: &mut [u8], b: Bench, line: &[u8], sent: &mut [u8], out: &mut [u8]) -> Bench
-    requires { ⌜ (length (now lent) ≡ imageLength) × (73734 ≤ length (now sent)) ⌝ }
+    requires { ⌜ (length (now lent) ≡ imageLength) × (98310 ≤ length (now sent)) ⌝ }
 {
-    let order = orders::read(line, sent);
+    let asked = orders::read(line, sent);
+    let order = admitted(asked, b.prepared);
     let now = ready(b, order, sent);
     let said = obey(lent, order, now, sent, out);
     let n = said.length;
@@ -397,6 +485,7 @@ fn answer(lent: &mut [u8], b: Bench, line: &[u8], sent: &mut [u8], out: &mut [u8
         sequence: now.sequence,
         buffer: buffer,
         seeprom: now.seeprom,
+        prepared: now.prepared,
         last: last,
         heard: streams::write(&out[..n]),
     }
@@ -436,7 +525,7 @@ fn serve_piece(
     sent: &mut [u8],
     out: &mut [u8],
 ) -> Served
-    requires { ⌜ (length (now lent) ≡ imageLength) × (73734 ≤ length (now sent)) ⌝ }
+    requires { ⌜ (length (now lent) ≡ imageLength) × (98310 ≤ length (now sent)) ⌝ }
 {
     let mut bench = b;
     let mut held = before;
@@ -496,12 +585,13 @@ fn serve(
     sent: &mut [u8],
     out: &mut [u8],
 )
-    requires { ⌜ (length (now lent) ≡ imageLength) × (1 ≤ length (now piece)) × (73734 ≤ length (now sent)) ⌝ }
+    requires { ⌜ (length (now lent) ≡ imageLength) × (1 ≤ length (now piece)) × (98310 ≤ length (now sent)) ⌝ }
 {
     let mut bench = Bench {
         sequence: 0,
         buffer: Buffer::Whole,
         seeprom: seeprom,
+        prepared: 0,
         last: inplace::answer_with(0, 0),
         heard: true,
     };
@@ -523,7 +613,7 @@ fn serve(
 
 // The file that the argument names, as the SEEPROM's image at the start; an empty one where none is named.
 fn first_seeprom(sent: &mut [u8]) -> Got
-    requires { ⌜ 73734 ≤ length (now sent) ⌝ }
+    requires { ⌜ 98310 ≤ length (now sent) ⌝ }
 {
     if os::arg_count() < 2 {
         return Got {
@@ -533,12 +623,12 @@ fn first_seeprom(sent: &mut [u8]) -> Got
     }
     let mut name = io::large_buffer();
     let n = os::arg(1, &mut name);
-    streams::read_named(&name[..n], &mut sent[orders::ROOM..])
+    streams::read_named(&name[..n], &mut sent[orders::ROOM..PACKETS])
 }
 
 // A line is held with a byte more than the longest and its carriage return, so that a longer one is seen.
 fn serve_fresh(sent: &mut [u8], seeprom: usize)
-    requires { ⌜ 73734 ≤ length (now sent) ⌝ }
+    requires { ⌜ 98310 ≤ length (now sent) ⌝ }
 {
     let mut lent = [0u8; layout::IMAGE];
     image::write(session::fresh(), &mut lent);

@@ -15,7 +15,7 @@ use Rattle.wire.specs.laws.Cases.{if-b, else-b, if-lt, else-lt, if-le, else-le,
 use Rattle.wire.proofs.Loops.{store-first, paste-none}
 use Rattle.text.specs.declared.Fault.{Fault}
 use Rattle.text.specs.declared.Fault.the-variants.{Nothing, Digit, Over}
-use Rattle.text.specs.Text.{blank, leading, digitOf, digitAt, HexRun, stopped, onto, high, low, hexFrom, hexRun, Takes, sameText, Sheet, putOn, putAll, hexDigit, hexOf, hexes, spaced}
+use Rattle.text.specs.Text.{blank, leading, digitOf, digitAt, HexRun, stopped, onto, high, low, hexFrom, hexRun, Takes, sameText, Sheet, putOn, putAll, hexDigit, hexOf, hexes, spaced, number, numbers}
 
 -- ---- tests of a call's answer: t is the answer, b what the contract says of it
 
@@ -207,6 +207,10 @@ module _ (s : List ℕ) (i : ℕ) (p : Sheet) {q : Sheet} where
       rw (add-one i, drop-cons s i 0)
       (ap (λ (x : Sheet). putAll x (spaced (drop (suc i) s))) (f ∙ ap (λ (x : Sheet). putOn x (hexOf (getD s i 0))) e))
 
+  pub numbers-more : i < length s → q ≡ putAll p (number (getD s i 0)) → putAll q (numbers (drop (i + 1) s)) ≡ putAll p (numbers (drop i s))
+  unfolding numbers putAll
+  numbers-more h e = rw (add-one i, drop-cons s i 0) (ap (λ (x : Sheet). putAll x (numbers (drop (suc i) s))) e)
+
 pub hexes-end : (s : List ℕ) (i : ℕ) (p : Sheet) → length s ≤ i → p ≡ putAll p (hexes (drop i s))
 unfolding hexes putAll
 hexes-end s i p h = rw (drop-of-length-le s h)
@@ -214,3 +218,7 @@ hexes-end s i p h = rw (drop-of-length-le s h)
 pub spaced-end : (s : List ℕ) (i : ℕ) (p : Sheet) → length s ≤ i → p ≡ putAll p (spaced (drop i s))
 unfolding spaced putAll
 spaced-end s i p h = rw (drop-of-length-le s h)
+
+pub numbers-end : (s : List ℕ) (i : ℕ) (p : Sheet) → length s ≤ i → p ≡ putAll p (numbers (drop i s))
+unfolding numbers putAll
+numbers-end s i p h = rw (drop-of-length-le s h)

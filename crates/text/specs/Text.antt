@@ -152,3 +152,11 @@ decimalBy (suc most) n = cond (ltb n 10) ((48 + n) ∷ []) (decimalBy most (n / 
 
 unfoldable pub decimal : ℕ → List ℕ
 decimal n = decimalBy (suc n) n
+
+-- a number in decimal after a blank, and several
+abbrev pub number : ℕ → List (List ℕ)
+number n = (32 ∷ []) ∷ decimal n ∷ []
+
+unfoldable pub numbers : List ℕ → List (List ℕ)
+numbers [] = []
+numbers (n ∷ ns) = number n ++ numbers ns

@@ -5,7 +5,7 @@ ghost use Prim.Native.Nat.{_+_, _*_, _≤_, _<_};
 ghost use lib.Dec.{leb};
 ghost use lib.ListN.{length};
 ghost use Rattle.io.specs.Counts.{Counts};
-ghost use Rattle.text.specs.Text.{blank, inWord, other, leading, pastBlanks, digitOf, digitAt, hexRun, Takes, sameText, sheet, putOn, putAll, hexDigit, hexOf, hexes, spaced, decimal};
+ghost use Rattle.text.specs.Text.{blank, inWord, other, leading, pastBlanks, digitOf, digitAt, hexRun, Takes, sameText, sheet, putOn, putAll, hexDigit, hexOf, hexes, spaced, decimal, number, numbers};
 ghost use Rattle.text.specs.Numbers.{digitsAt, numberAt};
 
 // ---- reading
@@ -292,4 +292,25 @@ pub fn put_decimal(out: &mut [u8], at: usize, n: u64) -> usize
     let mut digits = [0u8; 20];
     let k = io::decimal(n, &mut digits);
     put(out, at, &digits[..k])
+}
+
+// A byte in decimal after a blank.
+fn put_number(out: &mut [u8], at: usize, b: u8) -> usize
+    ensures { λ r. ⌜ sheet (now (out .exit)) r ≡ putAll (sheet (now (out .entry)) at) (number b) ⌝ }
+{
+    let mid = put(out, at, b" ");
+    put_decimal(out, mid, b as u64)
+}
+
+// Bytes in decimal, each after a blank.
+pub fn put_numbers(out: &mut [u8], at: usize, s: &[u8]) -> usize
+    ensures { λ r. ⌜ sheet (now (out .exit)) r ≡ putAll (sheet (now (out .entry)) at) (numbers (now (s .entry))) ⌝ }
+{
+    let mut end = at;
+    let mut i = 0;
+    while i < s.len() {
+        end = put_number(out, end, s[i]);
+        i += 1;
+    }
+    end
 }

@@ -37,6 +37,15 @@ enum-told-10 c = search needs
 enum-told-11 : tie.Need-enum-told-11
 enum-told-11 c = search needs
 
+enum-told-12 : tie.Need-enum-told-12
+enum-told-12 c = search needs
+
+enum-told-13 : tie.Need-enum-told-13
+enum-told-13 c = search needs
+
+enum-told-14 : tie.Need-enum-told-14
+enum-told-14 c = search needs
+
 returns : tie.Need-returns
 unfolding placeOf
 returns c = ap placeOf (sym (c .enum-told .given .1))
@@ -81,6 +90,18 @@ returns-11 : tie.Need-returns-11
 unfolding placeOf
 returns-11 c = ap placeOf (sym (c .enum-told11 .given .1))
 
+returns-12 : tie.Need-returns-12
+unfolding placeOf
+returns-12 c = ap placeOf (sym (c .enum-told12 .given .1))
+
+returns-13 : tie.Need-returns-13
+unfolding placeOf
+returns-13 c = ap placeOf (sym (c .enum-told13 .given .1))
+
+returns-14 : tie.Need-returns-14
+unfolding placeOf
+returns-14 c = ap placeOf (sym (c .enum-told14 .given .1))
+
 pub place-of-spec : {M : Type 1} → statement M
 place-of-spec =
     tie.close
@@ -96,6 +117,9 @@ place-of-spec =
     enum-told-9
     enum-told-10
     enum-told-11
+    enum-told-12
+    enum-told-13
+    enum-told-14
     returns
     returns-2
     returns-3
@@ -106,4 +130,7 @@ place-of-spec =
     returns-8
     returns-9
     returns-10
-    returns-11)
+    returns-11
+    returns-12
+    returns-13
+    returns-14)

@@ -1,4 +1,3 @@
--- `orders::plain_bytes` meets its contract: what was read is judged as the definition judges it. Assumes nothing.
 use Rattle.orders.proofs.Reading.{bytes-as}
 use Rattle.orders.specs.Orders.{plainBytes}
 use borrow.Author.Needs.{needs}

@@ -61,6 +61,12 @@ alone-requires-3 c κs = search needs
 enum-told-10 : tie.Need-enum-told-10
 enum-told-10 c = search needs
 
+read-plan-requires : tie.Need-read-plan-requires
+read-plan-requires c κs = search needs
+
+enum-told-11 : tie.Need-enum-told-11
+enum-told-11 c = search needs
+
 alone-requires-4 : tie.Need-alone-requires-4
 alone-requires-4 c κs = search needs
 
@@ -114,7 +120,11 @@ returns-9 c = (call-as _ _ _ (c .before .enum-told9 .given .1) (kept _ (c .alone
 
 returns-10 : tie.Need-returns-10
 unfolding callOf
-returns-10 c = (call-as _ _ _ (c .before .enum-told10 .given .1) (kept _ (c .alone4 .ensures .0)), search needs)
+returns-10 c = (call-as _ _ _ (c .before .enum-told10 .given .1) (kept _ (c .read-plan .ensures .0)), search needs)
+
+returns-11 : tie.Need-returns-11
+unfolding callOf
+returns-11 c = (call-as _ _ _ (c .before .enum-told11 .given .1) (kept _ (c .alone4 .ensures .0)), search needs)
 
 pub read-call-spec : {M : Type 1} → statement M
 read-call-spec =
@@ -139,6 +149,8 @@ read-call-spec =
     enum-told-9
     alone-requires-3
     enum-told-10
+    read-plan-requires
+    enum-told-11
     alone-requires-4
     same-length
     returns
@@ -153,4 +165,5 @@ read-call-spec =
     returns-7
     returns-8
     returns-9
-    returns-10)
+    returns-10
+    returns-11)

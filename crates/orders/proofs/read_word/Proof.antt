@@ -1,5 +1,4 @@
--- `orders::read_word` meets its contract: the word was found in the part that starts at it. Assumes nothing.
-use Rattle.orders.proofs.Reading.{order-at, order-make, order-look, order-lend, order-seeprom, order-fail, order-skip}
+use Rattle.orders.proofs.Reading.{order-at, order-make, order-look, order-lend, order-seeprom, order-packet, order-fail, order-skip}
 use borrow.Author.Needs.{needs}
 use Rattle.orders.proofs.read_word.Statement.{statement}
 use Rattle.orders.proofs.read_word.Tie as tie
@@ -49,6 +48,12 @@ enum-told-2 c = search needs
 plain-bytes-requires : tie.Need-plain-bytes-requires
 plain-bytes-requires c κs = search needs
 
+enum-told-3 : tie.Need-enum-told-3
+enum-told-3 c = search needs
+
+plain-bytes-requires-2 : tie.Need-plain-bytes-requires-2
+plain-bytes-requires-2 c κs = search needs
+
 enum-known-word-3 : tie.Need-enum-known-word-3
 enum-known-word-3 c = search needs
 
@@ -58,8 +63,8 @@ add-wrong-at c = search needs
 wrong-at-requires : tie.Need-wrong-at-requires
 wrong-at-requires c κs = search needs
 
-enum-told-3 : tie.Need-enum-told-3
-enum-told-3 c = search needs
+enum-told-4 : tie.Need-enum-told-4
+enum-told-4 c = search needs
 
 plain-requires : tie.Need-plain-requires
 plain-requires c κs = search needs
@@ -82,11 +87,17 @@ same-length-2 c = search needs
 returns-4 : tie.Need-returns-4
 returns-4 c = (order-at _ _ _ (c .before .before .before .before .before .before .before .before .word-len .ensures .0) (c .before .before .before .before .before .before .word-of .ensures) (order-seeprom _ _ _ _ (c .before .before .before .before .enum-told2 .given .1) (c .before .before .plain-bytes .ensures .0)), search needs)
 
+same-length-3 : tie.Need-same-length-3
+same-length-3 c = search needs
+
 returns-5 : tie.Need-returns-5
-returns-5 c = (order-at _ _ _ (c .before .before .before .before .before .before .word-len .ensures .0) (c .before .before .before .before .word-of .ensures) (order-fail _ _ _ _ (c .before .before .word3 .given .1) (c .wrong-at .ensures .0)), search needs)
+returns-5 c = (order-at _ _ _ (c .before .before .before .before .before .before .before .before .word-len .ensures .0) (c .before .before .before .before .before .before .word-of .ensures) (order-packet _ _ _ _ (c .before .before .before .before .enum-told3 .given .1) (c .before .before .plain-bytes2 .ensures .0)), search needs)
 
 returns-6 : tie.Need-returns-6
-returns-6 c = (order-at _ _ _ (c .before .before .before .before .before .word-len .ensures .0) (c .before .before .before .word-of .ensures) (order-skip _ _ _ _ (c .before .enum-told3 .given .1) (c .plain .ensures .0)), search needs)
+returns-6 c = (order-at _ _ _ (c .before .before .before .before .before .before .word-len .ensures .0) (c .before .before .before .before .word-of .ensures) (order-fail _ _ _ _ (c .before .before .word3 .given .1) (c .wrong-at .ensures .0)), search needs)
+
+returns-7 : tie.Need-returns-7
+returns-7 c = (order-at _ _ _ (c .before .before .before .before .before .word-len .ensures .0) (c .before .before .before .word-of .ensures) (order-skip _ _ _ _ (c .before .enum-told4 .given .1) (c .plain .ensures .0)), search needs)
 
 pub read-word-spec : {M : Type 1} → statement M
 read-word-spec =
@@ -107,10 +118,12 @@ read-word-spec =
     read-buffer-requires
     enum-told-2
     plain-bytes-requires
+    enum-told-3
+    plain-bytes-requires-2
     enum-known-word-3
     add-wrong-at
     wrong-at-requires
-    enum-told-3
+    enum-told-4
     plain-requires
     same-length
     returns
@@ -118,5 +131,7 @@ read-word-spec =
     returns-3
     same-length-2
     returns-4
+    same-length-3
     returns-5
-    returns-6)
+    returns-6
+    returns-7)

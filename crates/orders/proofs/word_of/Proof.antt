@@ -115,22 +115,12 @@ returns-11 : tie.Need-returns-11
 unfolding wordOf
 returns-11 c = else-b _ _ (sym (c .before .before .before .before .before .before .before .before .before .before .before .before .before .before .before .before .before .before .before .before .before .before .before .before .before .before .before .before .before .before .before .same .ensures) ∙ c .before .before .before .before .before .before .before .before .before .before .before .before .before .before .before .before .before .before .before .before .before .before .before .before .before .before .before .before .before .before .if1 .left) (else-b _ _ (sym (c .before .before .before .before .before .before .before .before .before .before .before .before .before .before .before .before .before .before .before .before .before .before .before .before .before .before .before .before .same2 .ensures) ∙ c .before .before .before .before .before .before .before .before .before .before .before .before .before .before .before .before .before .before .before .before .before .before .before .before .before .before .before .if2 .left) (else-b _ _ (sym (c .before .before .before .before .before .before .before .before .before .before .before .before .before .before .before .before .before .before .before .before .before .before .before .before .before .same3 .ensures) ∙ c .before .before .before .before .before .before .before .before .before .before .before .before .before .before .before .before .before .before .before .before .before .before .before .before .if3 .left) (else-b _ _ (sym (c .before .before .before .before .before .before .before .before .before .before .before .before .before .before .before .before .before .before .before .before .before .before .same4 .ensures) ∙ c .before .before .before .before .before .before .before .before .before .before .before .before .before .before .before .before .before .before .before .before .before .if4 .left) (else-b _ _ (sym (c .before .before .before .before .before .before .before .before .before .before .before .before .before .before .before .before .before .before .before .same5 .ensures) ∙ c .before .before .before .before .before .before .before .before .before .before .before .before .before .before .before .before .before .before .if5 .left) (else-b _ _ (sym (c .before .before .before .before .before .before .before .before .before .before .before .before .before .before .before .before .same6 .ensures) ∙ c .before .before .before .before .before .before .before .before .before .before .before .before .before .before .before .if6 .left) (else-b _ _ (sym (c .before .before .before .before .before .before .before .before .before .before .before .before .before .same7 .ensures) ∙ c .before .before .before .before .before .before .before .before .before .before .before .before .if7 .left) (else-b _ _ (sym (c .before .before .before .before .before .before .before .before .before .before .same8 .ensures) ∙ c .before .before .before .before .before .before .before .before .before .if8 .left) (else-b _ _ (sym (c .before .before .before .before .before .before .before .same9 .ensures) ∙ c .before .before .before .before .before .before .if9 .left) (else-b _ _ (sym (c .before .before .before .before .same10 .ensures) ∙ c .before .before .before .if10 .left) (if-b _ _ (sym (c .before .same11 .ensures) ∙ c .if11 .taken) refl))))))))))
 
-slice-aggregate-same-12 : tie.Need-slice-aggregate-same-12
-slice-aggregate-same-12 c = search needs
-
-same-requires-12 : tie.Need-same-requires-12
-same-requires-12 c κs = tt
+given-of-requires : tie.Need-given-of-requires
+given-of-requires c κs = search needs
 
 returns-12 : tie.Need-returns-12
 unfolding wordOf
-returns-12 c = else-b _ _ (sym (c .before .before .before .before .before .before .before .before .before .before .before .before .before .before .before .before .before .before .before .before .before .before .before .before .before .before .before .before .before .before .before .before .before .before .same .ensures) ∙ c .before .before .before .before .before .before .before .before .before .before .before .before .before .before .before .before .before .before .before .before .before .before .before .before .before .before .before .before .before .before .before .before .before .if1 .left) (else-b _ _ (sym (c .before .before .before .before .before .before .before .before .before .before .before .before .before .before .before .before .before .before .before .before .before .before .before .before .before .before .before .before .before .before .before .same2 .ensures) ∙ c .before .before .before .before .before .before .before .before .before .before .before .before .before .before .before .before .before .before .before .before .before .before .before .before .before .before .before .before .before .before .if2 .left) (else-b _ _ (sym (c .before .before .before .before .before .before .before .before .before .before .before .before .before .before .before .before .before .before .before .before .before .before .before .before .before .before .before .before .same3 .ensures) ∙ c .before .before .before .before .before .before .before .before .before .before .before .before .before .before .before .before .before .before .before .before .before .before .before .before .before .before .before .if3 .left) (else-b _ _ (sym (c .before .before .before .before .before .before .before .before .before .before .before .before .before .before .before .before .before .before .before .before .before .before .before .before .before .same4 .ensures) ∙ c .before .before .before .before .before .before .before .before .before .before .before .before .before .before .before .before .before .before .before .before .before .before .before .before .if4 .left) (else-b _ _ (sym (c .before .before .before .before .before .before .before .before .before .before .before .before .before .before .before .before .before .before .before .before .before .before .same5 .ensures) ∙ c .before .before .before .before .before .before .before .before .before .before .before .before .before .before .before .before .before .before .before .before .before .if5 .left) (else-b _ _ (sym (c .before .before .before .before .before .before .before .before .before .before .before .before .before .before .before .before .before .before .before .same6 .ensures) ∙ c .before .before .before .before .before .before .before .before .before .before .before .before .before .before .before .before .before .before .if6 .left) (else-b _ _ (sym (c .before .before .before .before .before .before .before .before .before .before .before .before .before .before .before .before .same7 .ensures) ∙ c .before .before .before .before .before .before .before .before .before .before .before .before .before .before .before .if7 .left) (else-b _ _ (sym (c .before .before .before .before .before .before .before .before .before .before .before .before .before .same8 .ensures) ∙ c .before .before .before .before .before .before .before .before .before .before .before .before .if8 .left) (else-b _ _ (sym (c .before .before .before .before .before .before .before .before .before .before .same9 .ensures) ∙ c .before .before .before .before .before .before .before .before .before .if9 .left) (else-b _ _ (sym (c .before .before .before .before .before .before .before .same10 .ensures) ∙ c .before .before .before .before .before .before .if10 .left) (else-b _ _ (sym (c .before .before .before .before .same11 .ensures) ∙ c .before .before .before .if11 .left) (if-b _ _ (sym (c .before .same12 .ensures) ∙ c .if12 .taken) refl)))))))))))
-
-view-of-requires : tie.Need-view-of-requires
-view-of-requires c κs = search needs
-
-returns-13 : tie.Need-returns-13
-unfolding wordOf
-returns-13 c = else-b _ _ (sym (c .before .before .before .before .before .before .before .before .before .before .before .before .before .before .before .before .before .before .before .before .before .before .before .before .before .before .before .before .before .before .before .before .before .before .before .same .ensures) ∙ c .before .before .before .before .before .before .before .before .before .before .before .before .before .before .before .before .before .before .before .before .before .before .before .before .before .before .before .before .before .before .before .before .before .before .if1 .left) (else-b _ _ (sym (c .before .before .before .before .before .before .before .before .before .before .before .before .before .before .before .before .before .before .before .before .before .before .before .before .before .before .before .before .before .before .before .before .same2 .ensures) ∙ c .before .before .before .before .before .before .before .before .before .before .before .before .before .before .before .before .before .before .before .before .before .before .before .before .before .before .before .before .before .before .before .if2 .left) (else-b _ _ (sym (c .before .before .before .before .before .before .before .before .before .before .before .before .before .before .before .before .before .before .before .before .before .before .before .before .before .before .before .before .before .same3 .ensures) ∙ c .before .before .before .before .before .before .before .before .before .before .before .before .before .before .before .before .before .before .before .before .before .before .before .before .before .before .before .before .if3 .left) (else-b _ _ (sym (c .before .before .before .before .before .before .before .before .before .before .before .before .before .before .before .before .before .before .before .before .before .before .before .before .before .before .same4 .ensures) ∙ c .before .before .before .before .before .before .before .before .before .before .before .before .before .before .before .before .before .before .before .before .before .before .before .before .before .if4 .left) (else-b _ _ (sym (c .before .before .before .before .before .before .before .before .before .before .before .before .before .before .before .before .before .before .before .before .before .before .before .same5 .ensures) ∙ c .before .before .before .before .before .before .before .before .before .before .before .before .before .before .before .before .before .before .before .before .before .before .if5 .left) (else-b _ _ (sym (c .before .before .before .before .before .before .before .before .before .before .before .before .before .before .before .before .before .before .before .before .same6 .ensures) ∙ c .before .before .before .before .before .before .before .before .before .before .before .before .before .before .before .before .before .before .before .if6 .left) (else-b _ _ (sym (c .before .before .before .before .before .before .before .before .before .before .before .before .before .before .before .before .before .same7 .ensures) ∙ c .before .before .before .before .before .before .before .before .before .before .before .before .before .before .before .before .if7 .left) (else-b _ _ (sym (c .before .before .before .before .before .before .before .before .before .before .before .before .before .before .same8 .ensures) ∙ c .before .before .before .before .before .before .before .before .before .before .before .before .before .if8 .left) (else-b _ _ (sym (c .before .before .before .before .before .before .before .before .before .before .before .same9 .ensures) ∙ c .before .before .before .before .before .before .before .before .before .before .if9 .left) (else-b _ _ (sym (c .before .before .before .before .before .before .before .before .same10 .ensures) ∙ c .before .before .before .before .before .before .before .if10 .left) (else-b _ _ (sym (c .before .before .before .before .before .same11 .ensures) ∙ c .before .before .before .before .if11 .left) (else-b _ _ (sym (c .before .before .same12 .ensures) ∙ c .before .if12 .left) (c .view-of .ensures))))))))))))
+returns-12 c = else-b _ _ (sym (c .before .before .before .before .before .before .before .before .before .before .before .before .before .before .before .before .before .before .before .before .before .before .before .before .before .before .before .before .before .before .before .before .same .ensures) ∙ c .before .before .before .before .before .before .before .before .before .before .before .before .before .before .before .before .before .before .before .before .before .before .before .before .before .before .before .before .before .before .before .if1 .left) (else-b _ _ (sym (c .before .before .before .before .before .before .before .before .before .before .before .before .before .before .before .before .before .before .before .before .before .before .before .before .before .before .before .before .before .same2 .ensures) ∙ c .before .before .before .before .before .before .before .before .before .before .before .before .before .before .before .before .before .before .before .before .before .before .before .before .before .before .before .before .if2 .left) (else-b _ _ (sym (c .before .before .before .before .before .before .before .before .before .before .before .before .before .before .before .before .before .before .before .before .before .before .before .before .before .before .same3 .ensures) ∙ c .before .before .before .before .before .before .before .before .before .before .before .before .before .before .before .before .before .before .before .before .before .before .before .before .before .if3 .left) (else-b _ _ (sym (c .before .before .before .before .before .before .before .before .before .before .before .before .before .before .before .before .before .before .before .before .before .before .before .same4 .ensures) ∙ c .before .before .before .before .before .before .before .before .before .before .before .before .before .before .before .before .before .before .before .before .before .before .if4 .left) (else-b _ _ (sym (c .before .before .before .before .before .before .before .before .before .before .before .before .before .before .before .before .before .before .before .before .same5 .ensures) ∙ c .before .before .before .before .before .before .before .before .before .before .before .before .before .before .before .before .before .before .before .if5 .left) (else-b _ _ (sym (c .before .before .before .before .before .before .before .before .before .before .before .before .before .before .before .before .before .same6 .ensures) ∙ c .before .before .before .before .before .before .before .before .before .before .before .before .before .before .before .before .if6 .left) (else-b _ _ (sym (c .before .before .before .before .before .before .before .before .before .before .before .before .before .before .same7 .ensures) ∙ c .before .before .before .before .before .before .before .before .before .before .before .before .before .if7 .left) (else-b _ _ (sym (c .before .before .before .before .before .before .before .before .before .before .before .same8 .ensures) ∙ c .before .before .before .before .before .before .before .before .before .before .if8 .left) (else-b _ _ (sym (c .before .before .before .before .before .before .before .before .same9 .ensures) ∙ c .before .before .before .before .before .before .before .if9 .left) (else-b _ _ (sym (c .before .before .before .before .before .same10 .ensures) ∙ c .before .before .before .before .if10 .left) (else-b _ _ (sym (c .before .before .same11 .ensures) ∙ c .before .if11 .left) (c .given-of .ensures)))))))))))
 
 pub word-of-spec : {M : Type 1} → statement M
 word-of-spec =
@@ -169,8 +159,5 @@ word-of-spec =
     slice-aggregate-same-11
     same-requires-11
     returns-11
-    slice-aggregate-same-12
-    same-requires-12
-    returns-12
-    view-of-requires
-    returns-13)
+    given-of-requires
+    returns-12)

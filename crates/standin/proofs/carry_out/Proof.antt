@@ -84,6 +84,12 @@ enum-told-7 c = search needs
 watch-requires : tie.Need-watch-requires
 watch-requires c κs = search needs
 
+enum-known-call-3 : tie.Need-enum-known-call-3
+enum-known-call-3 c = search needs
+
+find-plan-requires : tie.Need-find-plan-requires
+find-plan-requires c κs = search needs
+
 enum-told-8 : tie.Need-enum-told-8
 enum-told-8 c = search needs
 
@@ -171,8 +177,20 @@ returns-9 c = search needs
 same-length-18 : tie.Need-same-length-18
 same-length-18 c = search needs
 
+same-length-19 : tie.Need-same-length-19
+same-length-19 c = search needs
+
+same-length-20 : tie.Need-same-length-20
+same-length-20 c = search needs
+
 returns-10 : tie.Need-returns-10
 returns-10 c = search needs
+
+same-length-21 : tie.Need-same-length-21
+same-length-21 c = search needs
+
+returns-11 : tie.Need-returns-11
+returns-11 c = search needs
 
 pub carry-out-spec : {M : Type 1} → statement M
 carry-out-spec =
@@ -204,6 +222,8 @@ carry-out-spec =
     time-requires
     enum-told-7
     watch-requires
+    enum-known-call-3
+    find-plan-requires
     enum-told-8
     fresh-requires
     same-length
@@ -233,4 +253,8 @@ carry-out-spec =
     same-length-17
     returns-9
     same-length-18
-    returns-10)
+    same-length-19
+    same-length-20
+    returns-10
+    same-length-21
+    returns-11)

@@ -8,8 +8,17 @@ use Rattle.standin.proofs.sbe.Tie as tie
 slice-aggregate-sbe : tie.Need-slice-aggregate-sbe
 slice-aggregate-sbe c = sym (length-take-le _ _ (omega arith))
 
-seeprom-in-requires : tie.Need-seeprom-in-requires
-seeprom-in-requires c κs = search needs
+sub-front : tie.Need-sub-front
+sub-front c = search needs
+
+part-front-start : tie.Need-part-front-start
+part-front-start c = search needs
+
+part-front-end : tie.Need-part-front-end
+part-front-end c = search needs
+
+front-requires : tie.Need-front-requires
+front-requires c κs = search needs
 
 sbe-requires : tie.Need-sbe-requires
 sbe-requires c κs = search needs
@@ -31,7 +40,10 @@ sbe-spec =
     tie.close
     (tie.spec
     slice-aggregate-sbe
-    seeprom-in-requires
+    sub-front
+    part-front-start
+    part-front-end
+    front-requires
     sbe-requires
     same-length
     same-length-2

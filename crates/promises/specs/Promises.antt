@@ -95,7 +95,7 @@ use Rattle.image.specs.laws.Typed.{typed-image}
 use Rattle.layout.specs.Layout.{imageLength}
 use Rattle.plan.specs.Conditions.{Order, FewestThenLeast}
 use Rattle.plan.specs.Plan.{packetsIn, answered, planOkCall, Planned, planCall, planOkOn, planOn, PlanAllows}
-use Rattle.bjargolsk.specs.Calls.{answerIn, freshOn, FreshReturns, OccReturns, SbeReturns, UndoReturns, RedoReturns, ForgetReturns, SeepromReturns, TimeReturns, WatchReturns}
+use Rattle.bjargolsk.specs.Calls.{answerIn, freshOn, FreshReturns, OccReturns, SbeReturns, UndoReturns, RedoReturns, ForgetReturns, SeepromReturns, TimeReturns, WatchReturns, PlanReturns, PlanOkReturns}
 use Rattle.promises.specs.laws.Lent.{every-image, every-byte, no-session, fresh-image, lent-run, lent-next}
 use Rattle.promises.specs.Lent.{lent, told as told-beside, carriedOver, lentRun, watchedOn}
 use Rattle.promises.specs.Passed.{MarksStand, PassedAsHeld}
@@ -293,6 +293,12 @@ one-outcome-of-time-for-c b n = one-pair _ _
 
 pub one-outcome-of-watch-for-c : (b : List ℕ) → OneOutcome (λ (o : ℕ × List ℕ). WatchReturns b (o .0) (o .1))
 one-outcome-of-watch-for-c b = one-pair _ _
+
+pub one-outcome-of-plan-for-c : (b p : List ℕ) (wanted : ℕ) (d : List ℕ) → OneOutcome (λ (o : ℕ × List ℕ). PlanReturns b p wanted d (o .0) (o .1))
+one-outcome-of-plan-for-c b p wanted d = one-pair _ _
+
+pub one-outcome-of-plan-ok-for-c : (b p : List ℕ) (wanted : ℕ) (o : List ℕ) → OneOutcome (λ (x : ℕ). PlanOkReturns b p wanted o x)
+one-outcome-of-plan-ok-for-c b p wanted o = one-value _
 
 pub one-outcome-of-step : (b : List ℕ) (number : ℕ) (e d : List ℕ) → OneOutcome (λ (o : ℕ × List ℕ × List ℕ). StepAllows b number e d (o .0) (o .1) (o .2))
 one-outcome-of-step b number e d = one-triple _ _ _

@@ -87,7 +87,7 @@ fn mark(m: &mut [u8], n: usize, at: usize)
 }
 
 // The marks of bytes that read as entries, by a walk over all of them: each stands elsewhere than before.
-fn marks_of(j: &[u8]) -> [u8; 64]
+pub fn marks_of(j: &[u8]) -> [u8; 64]
     requires { ⌜ ReadsWhole (now j) × (length (now j) ≤ 2048) ⌝ }
     ensures { λ m. ⌜ m ≡ marksOf (entriesOf (scan (now (j .entry)))) ⌝ }
 {

@@ -24,7 +24,7 @@ use Rattle.image.specs.Image.{byte, headRows, throttlesRows, thermalRows
 use Rattle.layout.specs.Layout.{timerAt, imageLength}
 
 -- bytes written after those that were written from a place on
-paste-on : (at : ℕ) (xs bs d : List ℕ) → at + length xs ≤ length d → pasted (at + length xs) bs (pasted at xs d) ≡ pasted at (xs ++ bs) d
+pub paste-on : (at : ℕ) (xs bs d : List ℕ) → at + length xs ≤ length d → pasted (at + length xs) bs (pasted at xs d) ≡ pasted at (xs ++ bs) d
 unfolding pasted
 paste-on at xs bs d h =
     ap₂ (λ (a b : List ℕ). a ++ (bs ++ b)) (take-pasted at xs d h) back

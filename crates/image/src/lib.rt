@@ -327,7 +327,7 @@ fn areas_in(b: &[u8]) -> Areas
     }
 }
 
-fn record_in(b: &[u8]) -> Record
+pub fn record_in(b: &[u8]) -> Record
     requires { ⌜ journalAt ≤ length (now b) ⌝ }
     ensures { λ r. ⌜ r ≡ recordIn (now (b .entry)) ⌝ }
 {

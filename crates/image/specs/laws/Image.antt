@@ -48,11 +48,11 @@ length-image s t = length-joined (sessionRows s) ∙ ap sumOf (widths-session s 
 
 -- ---- reading what was written gives the session
 
-byte-back : (at v : ℕ) (b : List ℕ) → partAt 1 at b ≡ byte v → byteAt at b ≡ v
+pub byte-back : (at v : ℕ) (b : List ℕ) → partAt 1 at b ≡ byte v → byteAt at b ≡ v
 byte-back at v b e =
     ap (λ (n : ℕ). getD b n 0) (sym (add-zero at)) ∙ sym (getD-drop at b 0 0) ∙ sym (getD-take 1 (drop at b) 0 0 (lit< tt)) ∙ ap (λ (l : List ℕ). getD l 0 0) e
 
-number-back : (n at v : ℕ) (b : List ℕ) → partAt n at b ≡ toBE n v → v < 256 ^ n → numberAt n at b ≡ v
+pub number-back : (n at v : ℕ) (b : List ℕ) → partAt n at b ≡ toBE n v → v < 256 ^ n → numberAt n at b ≡ v
 number-back n at v b e h = ap beNat e ∙ be-toBE n v h
 
 four-logs : (l : List Log) → length l ≡ 4 → getD l 0 noLog ∷ getD l 1 noLog ∷ getD l 2 noLog ∷ getD l 3 noLog ∷ [] ≡ l

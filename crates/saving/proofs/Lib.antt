@@ -1,0 +1,4 @@
+pub mod Reading
+pub mod Holding
+pub mod Writing
+pub mod Calls

@@ -18,6 +18,7 @@ use Rattle.forget_call.specs.Forget.{forgetOn}
 use Rattle.time_call.specs.Time.{timeOn}
 use Rattle.watch_call.specs.Watch.{watchOn}
 use Rattle.plan.specs.Plan.{planOkOn, planOn}
+use Rattle.saving.specs.Moves.{saveTo, restoreTo, moveUpTo, moveDownTo}
 
 -- the answer in bits 0 to 7, the small number in bits 8 to 15, the other in bits 16 to 31
 unfoldable pub packed : Told → ℕ
@@ -71,3 +72,16 @@ PlanOkReturns b p wanted o result = result ≡ packed (planOkOn b p wanted o)
 -- with the order's buffer d as it is left
 abbrev pub PlanReturns : List ℕ → List ℕ → ℕ → List ℕ → ℕ → List ℕ → Type 0
 PlanReturns b p wanted d result order = (result ≡ packed (planOn b p wanted d .told)) and (order ≡ planOn b p wanted d .order)
+
+-- document 02, m: the buffer that is written to as it is left; of `restore` that is the session's
+abbrev pub SaveReturns : List ℕ → List ℕ → ℕ → List ℕ → Type 0
+SaveReturns b out result left = (result ≡ packed (saveTo b out .told)) and (left ≡ saveTo b out .out)
+
+abbrev pub RestoreReturns : List ℕ → List ℕ → ℕ → List ℕ → Type 0
+RestoreReturns b saved result image = (result ≡ packed (restoreTo saved b .told)) and (image ≡ restoreTo saved b .out)
+
+abbrev pub MoveUpReturns : List ℕ → List ℕ → ℕ → List ℕ → Type 0
+MoveUpReturns saved out result left = (result ≡ packed (moveUpTo saved out .told)) and (left ≡ moveUpTo saved out .out)
+
+abbrev pub MoveDownReturns : List ℕ → List ℕ → ℕ → List ℕ → Type 0
+MoveDownReturns saved out result left = (result ≡ packed (moveDownTo saved out .told)) and (left ≡ moveDownTo saved out .out)

@@ -1,7 +1,7 @@
-// The calls for C: those of `occ_call`, `sbe_call`, `undo_call`, `forget_call`, `time_call`, `watch_call` and `plan` under C names. A result has the answer in bits 0 to 7, a small number beside
+// The calls for C: those of `occ_call`, `sbe_call`, `undo_call`, `forget_call`, `time_call`, `watch_call`, `plan` and `saving` under C names. A result has the answer in bits 0 to 7, a small number beside
 // it in bits 8 to 15, and one of 16 bits above.
 ghost use mathlib.Core.Path.{_≡_};
-ghost use Rattle.bjargolsk.specs.Calls.{packed, FreshReturns, OccReturns, SbeReturns, SeepromReturns, UndoReturns, RedoReturns, ForgetReturns, TimeReturns, WatchReturns, PlanReturns, PlanOkReturns};
+ghost use Rattle.bjargolsk.specs.Calls.{packed, FreshReturns, OccReturns, SbeReturns, SeepromReturns, UndoReturns, RedoReturns, ForgetReturns, TimeReturns, WatchReturns, PlanReturns, PlanOkReturns, SaveReturns, RestoreReturns, MoveUpReturns, MoveDownReturns};
 use inplace::Told;
 
 fn pack(t: Told) -> u32
@@ -111,4 +111,36 @@ pub extern "C" fn bjargolsk_plan_ok(lent: &[u8], packets: &[u8], wanted: u8, ord
     ensures { λ x. ⌜ PlanOkReturns (now (lent .entry)) (now (packets .entry)) wanted (now (order .entry)) x ⌝ }
 {
     pack(plan::plan_ok(lent, packets, wanted, order))
+}
+
+// A session in the form for keeping; the high 16 bits are how many bytes were written.
+#[no_mangle]
+pub extern "C" fn bjargolsk_save(lent: &[u8], out: &mut [u8]) -> u32
+    ensures { λ x. ⌜ SaveReturns (now (lent .entry)) (now (out .entry)) x (now (out .exit)) ⌝ }
+{
+    pack(saving::save(lent, out))
+}
+
+// The session of such a form, over whatever session was there.
+#[no_mangle]
+pub extern "C" fn bjargolsk_restore(lent: &mut [u8], saved: &[u8]) -> u32
+    ensures { λ x. ⌜ RestoreReturns (now (lent .entry)) (now (saved .entry)) x (now (lent .exit)) ⌝ }
+{
+    pack(saving::restore(lent, saved))
+}
+
+// A session saved by the base version moved up to that form; the high 16 bits are how many bytes were written.
+#[no_mangle]
+pub extern "C" fn bjargolsk_move_up(saved: &[u8], out: &mut [u8]) -> u32
+    ensures { λ x. ⌜ MoveUpReturns (now (saved .entry)) (now (out .entry)) x (now (out .exit)) ⌝ }
+{
+    pack(saving::move_up(saved, out))
+}
+
+// One in that form moved down to the base version's; the same in the high 16 bits.
+#[no_mangle]
+pub extern "C" fn bjargolsk_move_down(saved: &[u8], out: &mut [u8]) -> u32
+    ensures { λ x. ⌜ MoveDownReturns (now (saved .entry)) (now (out .entry)) x (now (out .exit)) ⌝ }
+{
+    pack(saving::move_down(saved, out))
 }

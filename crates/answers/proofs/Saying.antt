@@ -16,7 +16,7 @@ use Rattle.text.specs.laws.Pieces.{same-pieces, put-fits}
 use Rattle.listing.specs.Listing.{tooLong, listing, longest, listed, listedLength}
 use Rattle.listing.specs.laws.Lengths.{length-listing}
 use Rattle.places.specs.Reasons.{wordsFor}
-use Rattle.answers.specs.Answers.{lineText, callText, wholeReply, replyLength, dataText, bytesRead, readFor, readText, planText, whyText, listText}
+use Rattle.answers.specs.Answers.{lineText, callText, wholeReply, replyLength, dataText, bytesRead, readFor, readText, planText, savedText, whyText, listText}
 
 -- ---- after the session answer
 
@@ -109,6 +109,17 @@ module _ (found : ℕ) (order : List ℕ) where
   pub plan-some : (found ≡ 0 → ⊥) → ascii " plan" ∷ numbers order ≡ planText found order
   unfolding planText
   plan-some h = else-eq _ _ h refl
+
+-- ---- a save
+
+module _ (answer : ℕ) (form : List ℕ) where
+  pub save-refused : (answer ≡ 0 → ⊥) → decimal answer ∷ lineEnd ∷ [] ≡ savedText answer form
+  unfolding savedText lineText
+  save-refused h = if-ne _ _ h refl
+
+  pub save-done : answer ≡ 0 → ascii "save " ∷ (hexes form ++ (lineEnd ∷ [])) ≡ savedText answer form
+  unfolding savedText
+  save-done h = else-ne _ _ h refl
 
 -- ---- why
 

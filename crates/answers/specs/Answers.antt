@@ -106,6 +106,10 @@ planText found order = cond (eqb found 0) (ascii " no plan" ∷ []) (ascii " pla
 unfoldable pub plannedText : ℕ → ℕ → List ℕ → List (List ℕ)
 plannedText answer found order = callText answer (planText found order)
 
+-- "`save `, then the session's save .. in capitals without blanks; the session answer .. if it isn't well formed"
+unfoldable pub savedText : ℕ → List ℕ → List (List ℕ)
+savedText answer form = cond (not (eqb answer 0)) (lineText (decimal answer)) (ascii "save " ∷ (hexes form ++ (lineEnd ∷ [])))
+
 -- ---- views
 
 -- "`0`, or the number and the reason's words"
@@ -139,6 +143,8 @@ helpText =
     ∷ ascii "fresh             begin again with a fresh session\n"
     ∷ ascii "image             the session as " ∷ decimal imageLength ∷ ascii " bytes\n"
     ∷ ascii "load BYTES        go on with the session of such an image\n"
+    ∷ ascii "save              the session in the form for keeping\n"
+    ∷ ascii "restore BYTES     go on with the session of such a form\n"
     ∷ ascii "send SS TT DATA   as occ: a packet of type TT, framed for you\n"
     ∷ ascii "buffer N          reply buffers of N bytes; alone: whole ones again\n"
     ∷ ascii "seeprom BYTES     lend these bytes as the SEEPROM's image\n"

@@ -6,7 +6,7 @@ ghost use Rattle.io.specs.Counts.{Counts};
 ghost use Rattle.text.specs.Text.{sheet, ascii, putOn, putAll, fromFront, lineEnd};
 ghost use Rattle.places.specs.Reasons.{wordsFor};
 ghost use Rattle.answers.specs.Words.{placeOf};
-ghost use Rattle.answers.specs.Answers.{lineText, columnText, imageComplaint, complaintText, replyLength, replyText, bellText, dataText, bytesRead, readText, rungText, timedText, kindText, passedText, planText, plannedText, whyText, imageText, listText, journalText, helpText};
+ghost use Rattle.answers.specs.Answers.{lineText, columnText, imageComplaint, complaintText, replyLength, replyText, bellText, dataText, bytesRead, readText, rungText, timedText, kindText, passedText, planText, plannedText, savedText, whyText, imageText, listText, journalText, helpText};
 use orders::Wrong;
 
 fn put_end(out: &mut [u8], at: usize) -> usize
@@ -261,6 +261,20 @@ pub fn planned(out: &mut [u8], answer: u8, found: u8, order: &[u8]) -> usize
     put_end(out, end)
 }
 
+// The session answer of a save that is refused, or the form.
+pub fn saved(out: &mut [u8], answer: u8, form: &[u8]) -> usize
+    ensures { λ r. ⌜ Counts r (now (out .exit)) ⌝ }
+    ensures { λ r. ⌜ sheet (now (out .exit)) r ≡ fromFront (now (out .entry)) (savedText answer (now (form .entry))) ⌝ }
+{
+    if answer != 0 {
+        let at = text::put_decimal(out, 0, answer as u64);
+        return put_end(out, at);
+    }
+    let name = text::put(out, 0, b"save ");
+    let end = text::put_hexes(out, name, form);
+    put_end(out, end)
+}
+
 // ---- views
 
 fn put_reason(out: &mut [u8], at: usize, reason: u8) -> usize
@@ -337,6 +351,8 @@ pub fn help(out: &mut [u8]) -> usize
         b,
         b" bytes\n|\
           load BYTES        go on with the session of such an image\n|\
+          save              the session in the form for keeping\n|\
+          restore BYTES     go on with the session of such a form\n|\
           send SS TT DATA   as occ: a packet of type TT, framed for you\n|\
           buffer N          reply buffers of N bytes; alone: whole ones again\n|\
           seeprom BYTES     lend these bytes as the SEEPROM's image\n|\

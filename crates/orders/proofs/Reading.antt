@@ -233,10 +233,10 @@ module _ (line d : List ℕ) where
     order-word k e = order-from (else-b _ _ k e)
 
 module _ (s d : List ℕ) where
-  pub line-short : {r : Order} → length d < 8198 → r ≡ plainly Skip → ordered r d ≡ orderIn s d
+  pub line-short : {r : Order} → length d < 16390 → r ≡ plainly Skip → ordered r d ≡ orderIn s d
   unfolding orderIn
   line-short h e = if-lt _ _ h (kept d e)
 
-  pub line-as : {n : ℕ} {g : Ordered} → 8198 ≤ length d → n ≡ lineLength s → g ≡ orderOf (take n s) d → g ≡ orderIn s d
+  pub line-as : {n : ℕ} {g : Ordered} → 16390 ≤ length d → n ≡ lineLength s → g ≡ orderOf (take n s) d → g ≡ orderIn s d
   unfolding orderIn
   line-as h e k = else-lt _ _ h (k ∙ ap (λ (m : ℕ). orderOf (take m s) d) e)

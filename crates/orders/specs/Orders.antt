@@ -14,7 +14,7 @@ use Rattle.text.specs.declared.Number.the-variants.{Missing, TooGreat, Is}
 use Rattle.text.specs.Text.{ascii, inWord, leading, pastBlanks, sameText, HexRun, hexRun}
 use Rattle.text.specs.Numbers.{numberAt}
 use Rattle.orders.specs.declared.Call.{Call}
-use Rattle.orders.specs.declared.Call.the-variants.{Occ, Sbe, Send, Load, Undo, Redo, Forget, Time, Watch, Plan, Fresh}
+use Rattle.orders.specs.declared.Call.the-variants.{Occ, Sbe, Send, Load, Undo, Redo, Forget, Time, Watch, Plan, Save, Restore, Fresh}
 use Rattle.orders.specs.declared.View.the-variants.{Image, Why, Show, Journal, Help}
 use Rattle.orders.specs.declared.Buffer.the-variants.{Whole, Bytes}
 use Rattle.orders.specs.declared.Wrong.{Wrong}
@@ -47,6 +47,12 @@ givenOf w =
     (cond (sameText w (ascii "packet")) Packet
     (viewOf w)))
 
+unfoldable pub keptOf : List ℕ → Word
+keptOf w =
+    cond (sameText w (ascii "save")) (Make Save)
+    (cond (sameText w (ascii "restore")) (Make Restore)
+    (givenOf w))
+
 unfoldable pub wordOf : List ℕ → Word
 wordOf w =
     cond (sameText w (ascii "occ")) (Make Occ)
@@ -60,7 +66,7 @@ wordOf w =
     (cond (sameText w (ascii "watch")) (Make Watch)
     (cond (sameText w (ascii "plan")) (Make (Plan 0))
     (cond (sameText w (ascii "fresh")) (Make Fresh)
-    (givenOf w)))))))))))
+    (keptOf w)))))))))))
 
 -- ---- what follows a word
 
@@ -149,6 +155,10 @@ seepromOf line from d = plainBytes 8192 LongSeeprom Seeprom line from d
 abbrev pub packetOf : List ℕ → ℕ → List ℕ → Ordered
 packetOf line from d = plainBytes 4096 LongPacket Packet line from d
 
+-- "`restore` takes as many as the line holds": with its word it holds fewer than 16,384
+abbrev pub restoreOf : List ℕ → ℕ → List ℕ → Ordered
+restoreOf line from d = plainBytes 16384 TooMany (Make Restore) line from d
+
 unfoldable pub sendOf : List ℕ → ℕ → List ℕ → Ordered
 sendOf line from d = ordered (bytesOf TooMany (Make Send) 2 (hexRun line from 8188) line) (pasted 2 ((hexRun line from 8188) .bytes) d)
 
@@ -168,6 +178,8 @@ callOf (Forget n) line from d = ordered (forgetOf line from) d
 callOf (Time n) line from d = ordered (timeOf line from) d
 callOf Watch line from d = ordered (aloneOf (Make Watch) line from) d
 callOf (Plan n) line from d = ordered (planOf line from) d
+callOf Save line from d = ordered (aloneOf (Make Save) line from) d
+callOf Restore line from d = restoreOf line from d
 callOf Fresh line from d = ordered (aloneOf (Make Fresh) line from) d
 
 -- ---- lines
@@ -208,6 +220,6 @@ lineLength s =
 abbrev pub lineIn : List ℕ → List ℕ
 lineIn s = take (lineLength s) s
 
--- what comes of a line and a buffer: one that is too short for the longest command takes no order
+-- what comes of a line and a buffer: one that is too short for what a line holds takes no order
 unfoldable pub orderIn : List ℕ → List ℕ → Ordered
-orderIn s d = cond (ltb (length d) 8198) (ordered (plainly Skip) d) (orderOf (lineIn s) d)
+orderIn s d = cond (ltb (length d) 16390) (ordered (plainly Skip) d) (orderOf (lineIn s) d)

@@ -5,14 +5,17 @@ ghost use lib.ListN.{length};
 ghost use Rattle.io.specs.Counts.{Counts};
 ghost use Rattle.wire.specs.Wire.{pasted};
 ghost use Rattle.text.specs.Text.{hexRun};
-ghost use Rattle.orders.specs.Orders.{plainly, wrongAt, viewOf, givenOf, wordOf, aloneOf, bytesBy, imageBy, sizeBy, bufferOf, ReadsAs, ordered, occOf, plainBytes, sendOf, loadOf, forgetOf, timeOf, planOf, callOf, orderAt, remark, orderOf, lineLength, orderIn};
+ghost use Rattle.orders.specs.Orders.{plainly, wrongAt, viewOf, givenOf, keptOf, wordOf, aloneOf, bytesBy, imageBy, sizeBy, bufferOf, ReadsAs, ordered, occOf, plainBytes, sendOf, loadOf, forgetOf, timeOf, planOf, callOf, orderAt, remark, orderOf, lineLength, orderIn};
 use text::Fault;
 use text::Number;
 use text::Taken;
 
 pub const MOST_LINE: usize = 32768;
-// A buffer with room for the longest command, as it is read and as it is framed.
-pub const ROOM: usize = 8198;
+// More bytes than a line holds.
+pub const MOST_BYTES: usize = 16384;
+
+// A buffer with room for them, and for the longest command as it is framed.
+pub const ROOM: usize = 16390;
 
 // The longest reply buffer that can be asked for.
 pub const MOST_BUFFER: usize = 8192;
@@ -41,6 +44,8 @@ pub enum Call {
     Time(u64),
     Watch,
     Plan(u8),
+    Save,
+    Restore,
     Fresh,
 }
 
@@ -156,6 +161,19 @@ fn given_of(word: &[u8]) -> Word
     view_of(word)
 }
 
+// What is kept of a session, or gone on with.
+fn kept_of(word: &[u8]) -> Word
+    ensures { λ r. ⌜ r ≡ keptOf (now (word .entry)) ⌝ }
+{
+    if text::same(word, b"save") {
+        return Word::Make(Call::Save);
+    }
+    if text::same(word, b"restore") {
+        return Word::Make(Call::Restore);
+    }
+    given_of(word)
+}
+
 fn word_of(word: &[u8]) -> Word
     ensures { λ r. ⌜ r ≡ wordOf (now (word .entry)) ⌝ }
 {
@@ -192,7 +210,7 @@ fn word_of(word: &[u8]) -> Word
     if text::same(word, b"fresh") {
         return Word::Make(Call::Fresh);
     }
-    given_of(word)
+    kept_of(word)
 }
 
 // ---- what follows a word
@@ -320,7 +338,7 @@ fn with_image(taken: Taken) -> Order
 
 // At most `room` bytes, put from `at` on.
 fn take(line: &[u8], from: usize, sent: &mut [u8], at: usize, room: usize) -> Taken
-    requires { ⌜ (at ≤ 2) × (room ≤ 8193) × (8198 ≤ length (now sent)) ⌝ }
+    requires { ⌜ (at ≤ 2) × (room ≤ 16384) × (16390 ≤ length (now sent)) ⌝ }
     ensures { λ r. ⌜ ReadsAs (hexRun (now (line .entry)) from room) (r .count) (r .fault) ⌝ }
     ensures { λ _. ⌜ now (sent .exit) ≡ pasted at ((hexRun (now (line .entry)) from room) .bytes) (now (sent .entry)) ⌝ }
     ensures { λ r. ⌜ r .count ≤ room ⌝ }
@@ -331,9 +349,9 @@ fn take(line: &[u8], from: usize, sent: &mut [u8], at: usize, room: usize) -> Ta
 
 // The sender stands at 0, the command from 1 on.
 fn occ(line: &[u8], from: usize, sent: &mut [u8]) -> Order
-    requires { ⌜ (length (now line) ≤ 32768) × (8198 ≤ length (now sent)) ⌝ }
+    requires { ⌜ (length (now line) ≤ 32768) × (16390 ≤ length (now sent)) ⌝ }
     ensures { λ r. ⌜ ordered r (now (sent .exit)) ≡ occOf (now (line .entry)) from (now (sent .entry)) ⌝ }
-    ensures { λ r. ⌜ r .count ≤ 8192 ⌝ }
+    ensures { λ r. ⌜ r .count ≤ 16384 ⌝ }
 {
     let taken = take(line, from, sent, 0, 8193);
     with_bytes(
@@ -354,9 +372,9 @@ fn plain_bytes(
     from: usize,
     sent: &mut [u8],
 ) -> Order
-    requires { ⌜ (most ≤ 8192) × (length (now line) ≤ 32768) × (8198 ≤ length (now sent)) ⌝ }
+    requires { ⌜ (most ≤ 16384) × (length (now line) ≤ 32768) × (16390 ≤ length (now sent)) ⌝ }
     ensures { λ r. ⌜ ordered r (now (sent .exit)) ≡ plainBytes most over word (now (line .entry)) from (now (sent .entry)) ⌝ }
-    ensures { λ r. ⌜ r .count ≤ 8192 ⌝ }
+    ensures { λ r. ⌜ r .count ≤ 16384 ⌝ }
 {
     let taken = take(line, from, sent, 0, most);
     with_bytes(over, word, taken, 0, line.len() + 1)
@@ -364,9 +382,9 @@ fn plain_bytes(
 
 // The sender stands at 2, the type at 3, and the data from 4 on, where they stand in a packet.
 fn send(line: &[u8], from: usize, sent: &mut [u8]) -> Order
-    requires { ⌜ (length (now line) ≤ 32768) × (8198 ≤ length (now sent)) ⌝ }
+    requires { ⌜ (length (now line) ≤ 32768) × (16390 ≤ length (now sent)) ⌝ }
     ensures { λ r. ⌜ ordered r (now (sent .exit)) ≡ sendOf (now (line .entry)) from (now (sent .entry)) ⌝ }
-    ensures { λ r. ⌜ r .count ≤ 8192 ⌝ }
+    ensures { λ r. ⌜ r .count ≤ 16384 ⌝ }
 {
     let taken = take(line, from, sent, 2, 8188);
     with_bytes(
@@ -379,17 +397,17 @@ fn send(line: &[u8], from: usize, sent: &mut [u8]) -> Order
 }
 
 fn load(line: &[u8], from: usize, sent: &mut [u8]) -> Order
-    requires { ⌜ 8198 ≤ length (now sent) ⌝ }
+    requires { ⌜ 16390 ≤ length (now sent) ⌝ }
     ensures { λ r. ⌜ ordered r (now (sent .exit)) ≡ loadOf (now (line .entry)) from (now (sent .entry)) ⌝ }
-    ensures { λ r. ⌜ r .count ≤ 8192 ⌝ }
+    ensures { λ r. ⌜ r .count ≤ 16384 ⌝ }
 {
     with_image(take(line, from, sent, 0, layout::IMAGE))
 }
 
 fn read_call(call: Call, line: &[u8], from: usize, sent: &mut [u8]) -> Order
-    requires { ⌜ (length (now line) ≤ 32768) × (8198 ≤ length (now sent)) ⌝ }
+    requires { ⌜ (length (now line) ≤ 32768) × (16390 ≤ length (now sent)) ⌝ }
     ensures { λ r. ⌜ ordered r (now (sent .exit)) ≡ callOf call (now (line .entry)) from (now (sent .entry)) ⌝ }
-    ensures { λ r. ⌜ r .count ≤ 8192 ⌝ }
+    ensures { λ r. ⌜ r .count ≤ 16384 ⌝ }
 {
     match call {
         Call::Occ => occ(line, from, sent),
@@ -409,6 +427,15 @@ fn read_call(call: Call, line: &[u8], from: usize, sent: &mut [u8]) -> Order
         Call::Time(_) => read_time(line, from),
         Call::Watch => alone(Word::Make(Call::Watch), line, from),
         Call::Plan(_) => read_plan(line, from),
+        Call::Save => alone(Word::Make(Call::Save), line, from),
+        Call::Restore => plain_bytes(
+            MOST_BYTES,
+            Wrong::TooMany,
+            Word::Make(Call::Restore),
+            line,
+            from,
+            sent,
+        ),
         Call::Fresh => alone(Word::Make(Call::Fresh), line, from),
     }
 }
@@ -417,9 +444,9 @@ fn read_call(call: Call, line: &[u8], from: usize, sent: &mut [u8]) -> Order
 
 // The line's word stands from `at` on.
 fn read_word(line: &[u8], at: usize, sent: &mut [u8]) -> Order
-    requires { ⌜ (at ≤ length (now line)) × (length (now line) ≤ 32768) × (8198 ≤ length (now sent)) ⌝ }
+    requires { ⌜ (at ≤ length (now line)) × (length (now line) ≤ 32768) × (16390 ≤ length (now sent)) ⌝ }
     ensures { λ r. ⌜ ordered r (now (sent .exit)) ≡ orderAt (now (line .entry)) at (now (sent .entry)) ⌝ }
-    ensures { λ r. ⌜ r .count ≤ 8192 ⌝ }
+    ensures { λ r. ⌜ r .count ≤ 16384 ⌝ }
 {
     let rest = &line[at..];
     let n = text::word_len(rest);
@@ -454,9 +481,9 @@ fn is_remark(line: &[u8], at: usize) -> bool
 }
 
 fn read_line(line: &[u8], sent: &mut [u8]) -> Order
-    requires { ⌜ 8198 ≤ length (now sent) ⌝ }
+    requires { ⌜ 16390 ≤ length (now sent) ⌝ }
     ensures { λ r. ⌜ ordered r (now (sent .exit)) ≡ orderOf (now (line .entry)) (now (sent .entry)) ⌝ }
-    ensures { λ r. ⌜ r .count ≤ 8192 ⌝ }
+    ensures { λ r. ⌜ r .count ≤ 16384 ⌝ }
 {
     if MOST_LINE < line.len() {
         return wrong_at(Wrong::LongLine, MOST_LINE + 1);
@@ -483,10 +510,10 @@ fn line_len(s: &[u8]) -> usize
     s.len()
 }
 
-// The order of a line without its line feed. A buffer that is too short for the longest command takes no order.
+// The order of a line without its line feed. A buffer that is too short for what a line holds takes no order.
 pub fn read(s: &[u8], sent: &mut [u8]) -> Order
     ensures { λ r. ⌜ ordered r (now (sent .exit)) ≡ orderIn (now (s .entry)) (now (sent .entry)) ⌝ }
-    ensures { λ r. ⌜ r .count ≤ 8192 ⌝ }
+    ensures { λ r. ⌜ r .count ≤ 16384 ⌝ }
 {
     if sent.len() < ROOM {
         return plain(Word::Skip);

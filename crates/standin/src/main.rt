@@ -72,7 +72,7 @@ fn sbe(
     reply: &mut [u8],
     second: &mut [u8],
 ) -> Told
-    requires { ⌜ (count ≤ 8192) × (98310 ≤ length (now sent)) ⌝ }
+    requires { ⌜ (count ≤ 16384) × (106502 ≤ length (now sent)) ⌝ }
 {
     sbe_call::sbe(
         lent,
@@ -85,16 +85,23 @@ fn sbe(
 
 // The packets stand in that buffer too.
 fn find_plan(lent: &[u8], sent: &[u8], prepared: usize, wanted: u8, order: &mut [u8]) -> Told
-    requires { ⌜ 98310 ≤ length (now sent) ⌝ }
+    requires { ⌜ 106502 ≤ length (now sent) ⌝ }
 {
     plan::plan(lent, front(&sent[PACKETS..], prepared), wanted, order)
 }
 
 fn load(lent: &mut [u8], sent: &[u8]) -> Told
-    requires { ⌜ (length (now lent) ≡ imageLength) × (98310 ≤ length (now sent)) ⌝ }
+    requires { ⌜ (length (now lent) ≡ imageLength) × (106502 ≤ length (now sent)) ⌝ }
 {
     wire::copy(lent, 0, &sent[..layout::IMAGE]);
     inplace::answer_with(0, 0)
+}
+
+// The form stands in that buffer too.
+fn restore(lent: &mut [u8], sent: &[u8], count: usize) -> Told
+    requires { ⌜ (count ≤ 16384) × (106502 ≤ length (now sent)) ⌝ }
+{
+    saving::restore(lent, &sent[..count])
 }
 
 fn fresh(lent: &mut [u8]) -> Told {
@@ -111,7 +118,7 @@ fn carry_out(
     reply: &mut [u8],
     second: &mut [u8],
 ) -> Told
-    requires { ⌜ (length (now lent) ≡ imageLength) × (count ≤ 8192) × (98310 ≤ length (now sent)) ⌝ }
+    requires { ⌜ (length (now lent) ≡ imageLength) × (count ≤ 16384) × (106502 ≤ length (now sent)) ⌝ }
 {
     match call {
         Call::Occ => occ_call::occ(lent, sent[0], &sent[1..count + 1], reply),
@@ -124,6 +131,8 @@ fn carry_out(
         Call::Time(n) => time_call::time(lent, n),
         Call::Watch => watch_call::watch(lent),
         Call::Plan(n) => find_plan(lent, sent, b.prepared, n, reply),
+        Call::Save => saving::save(lent, reply),
+        Call::Restore => restore(lent, sent, count),
         Call::Fresh => fresh(lent),
     }
 }
@@ -139,6 +148,7 @@ enum Form {
     Bell,
     Passed,
     Plan,
+    Save,
     Ok,
 }
 
@@ -154,6 +164,8 @@ fn form_of(call: Call) -> Form {
         Call::Time(_) => Form::Bell,
         Call::Watch => Form::Answer,
         Call::Plan(_) => Form::Plan,
+        Call::Save => Form::Save,
+        Call::Restore => Form::Answer,
         Call::Fresh => Form::Ok,
     }
 }
@@ -198,6 +210,7 @@ fn put_told(
                 front(reply, told.beside as usize),
             )
         }
+        Form::Save => answers::saved(out, told.answer, reply),
         Form::Ok => answers::line(out, b"ok"),
     }
 }
@@ -216,12 +229,15 @@ fn whole(call: Call) -> usize
     if let Call::Sbe = call { 32 } else { 4096 }
 }
 
-// The bytes of reply buffer that a call gets. A plan's order goes there, and is no reply.
+// The bytes of reply buffer that a call gets. A plan's order and a save's form go there, and are no replies.
 fn reply_len(buffer: Buffer, call: Call) -> usize
     ensures { λ r. ⌜ r ≤ 8192 ⌝ }
 {
     if let Call::Plan(_) = call {
         return 5;
+    }
+    if let Call::Save = call {
+        return saving::SAVED;
     }
     let Buffer::Bytes(n) = buffer else {
         return whole(call);
@@ -266,7 +282,7 @@ fn call_with(
     sent: &mut [u8],
     out: &mut [u8],
 ) -> Said
-    requires { ⌜ (length (now lent) ≡ imageLength) × (count ≤ 8192) × (98310 ≤ length (now sent)) ⌝ }
+    requires { ⌜ (length (now lent) ≡ imageLength) × (count ≤ 16384) × (106502 ≤ length (now sent)) ⌝ }
     ensures { λ r. ⌜ Counts (r .length) (now (out .exit)) ⌝ }
 {
     let mut reply = reply_buffer();
@@ -345,7 +361,7 @@ fn put_other(lent: &[u8], order: Order, last: Told, out: &mut [u8]) -> usize
 }
 
 fn obey(lent: &mut [u8], order: Order, b: Bench, sent: &mut [u8], out: &mut [u8]) -> Said
-    requires { ⌜ (length (now lent) ≡ imageLength) × (order .count ≤ 8192) × (98310 ≤ length (now sent)) ⌝ }
+    requires { ⌜ (length (now lent) ≡ imageLength) × (order .count ≤ 16384) × (106502 ≤ length (now sent)) ⌝ }
     ensures { λ r. ⌜ Counts (r .length) (now (out .exit)) ⌝ }
 {
     let word = order.word;
@@ -380,7 +396,7 @@ fn next_buffer(word: Word, buffer: Buffer) -> Buffer {
 
 // The bytes that the SEEPROM's image has from now on. Those of a line that gives it are put in their place.
 fn next_seeprom(word: Word, count: usize, sent: &mut [u8], seeprom: usize) -> usize
-    requires { ⌜ (count ≤ 8192) × (98310 ≤ length (now sent)) ⌝ }
+    requires { ⌜ (count ≤ 16384) × (106502 ≤ length (now sent)) ⌝ }
 {
     let Word::Seeprom = word else {
         return seeprom;
@@ -395,7 +411,7 @@ fn next_seeprom(word: Word, count: usize, sent: &mut [u8], seeprom: usize) -> us
 
 // A byte of a slot: a line's, then zeros.
 fn slot_byte(sent: &[u8], count: usize, i: usize) -> u8
-    requires { ⌜ (count ≤ 8192) × (98310 ≤ length (now sent)) ⌝ }
+    requires { ⌜ (count ≤ 16384) × (106502 ≤ length (now sent)) ⌝ }
 {
     if i < count {
         return sent[i];
@@ -405,7 +421,7 @@ fn slot_byte(sent: &[u8], count: usize, i: usize) -> u8
 
 // A line's bytes become the slot that begins at `at`.
 fn fill_slot(sent: &mut [u8], count: usize, at: usize)
-    requires { ⌜ (count ≤ 8192) × (98310 ≤ length (now sent)) × (at ≤ 94214) ⌝ }
+    requires { ⌜ (count ≤ 16384) × (106502 ≤ length (now sent)) × (at ≤ 102406) ⌝ }
 {
     let mut i = 0;
     while i < orders::MOST_PACKET {
@@ -417,7 +433,7 @@ fn fill_slot(sent: &mut [u8], count: usize, at: usize)
 // The bytes that the prepared packets have from now on: the last slot ends with its packet. Without bytes all are dropped. That a slot is left isn't known
 // here, so it is tested.
 fn next_prepared(word: Word, count: usize, sent: &mut [u8], prepared: usize) -> usize
-    requires { ⌜ (count ≤ 8192) × (98310 ≤ length (now sent)) ⌝ }
+    requires { ⌜ (count ≤ 16384) × (106502 ≤ length (now sent)) ⌝ }
 {
     let Word::Packet = word else {
         return prepared;
@@ -435,8 +451,8 @@ fn next_prepared(word: Word, count: usize, sent: &mut [u8], prepared: usize) -> 
 
 // A packet after the sixth isn't taken.
 fn admitted(order: Order, prepared: usize) -> Order
-    requires { ⌜ order .count ≤ 8192 ⌝ }
-    ensures { λ r. ⌜ r .count ≤ 8192 ⌝ }
+    requires { ⌜ order .count ≤ 16384 ⌝ }
+    ensures { λ r. ⌜ r .count ≤ 16384 ⌝ }
 {
     let word = order.word;
     let Word::Packet = word else {
@@ -454,7 +470,7 @@ fn admitted(order: Order, prepared: usize) -> Order
 
 // The bench that a line is obeyed on.
 fn ready(b: Bench, order: Order, sent: &mut [u8]) -> Bench
-    requires { ⌜ (order .count ≤ 8192) × (98310 ≤ length (now sent)) ⌝ }
+    requires { ⌜ (order .count ≤ 16384) × (106502 ≤ length (now sent)) ⌝ }
 {
     let word = order.word;
     let held = b.buffer;
@@ -472,7 +488,7 @@ fn ready(b: Bench, order: Order, sent: &mut [u8]) -> Bench
 
 // An answer is written as soon as it is there.
 fn answer(lent: &mut [u8], b: Bench, line: &[u8], sent: &mut [u8], out: &mut [u8]) -> Bench
-    requires { ⌜ (length (now lent) ≡ imageLength) × (98310 ≤ length (now sent)) ⌝ }
+    requires { ⌜ (length (now lent) ≡ imageLength) × (106502 ≤ length (now sent)) ⌝ }
 {
     let asked = orders::read(line, sent);
     let order = admitted(asked, b.prepared);
@@ -525,7 +541,7 @@ fn serve_piece(
     sent: &mut [u8],
     out: &mut [u8],
 ) -> Served
-    requires { ⌜ (length (now lent) ≡ imageLength) × (98310 ≤ length (now sent)) ⌝ }
+    requires { ⌜ (length (now lent) ≡ imageLength) × (106502 ≤ length (now sent)) ⌝ }
 {
     let mut bench = b;
     let mut held = before;
@@ -585,7 +601,7 @@ fn serve(
     sent: &mut [u8],
     out: &mut [u8],
 )
-    requires { ⌜ (length (now lent) ≡ imageLength) × (1 ≤ length (now piece)) × (98310 ≤ length (now sent)) ⌝ }
+    requires { ⌜ (length (now lent) ≡ imageLength) × (1 ≤ length (now piece)) × (106502 ≤ length (now sent)) ⌝ }
 {
     let mut bench = Bench {
         sequence: 0,
@@ -613,7 +629,7 @@ fn serve(
 
 // The file that the argument names, as the SEEPROM's image at the start; an empty one where none is named.
 fn first_seeprom(sent: &mut [u8]) -> Got
-    requires { ⌜ 98310 ≤ length (now sent) ⌝ }
+    requires { ⌜ 106502 ≤ length (now sent) ⌝ }
 {
     if os::arg_count() < 2 {
         return Got {
@@ -628,7 +644,7 @@ fn first_seeprom(sent: &mut [u8]) -> Got
 
 // A line is held with a byte more than the longest and its carriage return, so that a longer one is seen.
 fn serve_fresh(sent: &mut [u8], seeprom: usize)
-    requires { ⌜ 98310 ≤ length (now sent) ⌝ }
+    requires { ⌜ 106502 ≤ length (now sent) ⌝ }
 {
     let mut lent = [0u8; layout::IMAGE];
     image::write(session::fresh(), &mut lent);

@@ -70,6 +70,18 @@ enum-told-11 c = search needs
 alone-requires-4 : tie.Need-alone-requires-4
 alone-requires-4 c κs = search needs
 
+enum-told-12 : tie.Need-enum-told-12
+enum-told-12 c = search needs
+
+plain-bytes-requires-2 : tie.Need-plain-bytes-requires-2
+plain-bytes-requires-2 c κs = search needs
+
+enum-told-13 : tie.Need-enum-told-13
+enum-told-13 c = search needs
+
+alone-requires-5 : tie.Need-alone-requires-5
+alone-requires-5 c κs = search needs
+
 same-length : tie.Need-same-length
 same-length c = search needs
 
@@ -126,6 +138,17 @@ returns-11 : tie.Need-returns-11
 unfolding callOf
 returns-11 c = (call-as _ _ _ (c .before .enum-told11 .given .1) (kept _ (c .alone4 .ensures .0)), search needs)
 
+same-length-5 : tie.Need-same-length-5
+same-length-5 c = search needs
+
+returns-12 : tie.Need-returns-12
+unfolding callOf
+returns-12 c = (call-as _ _ _ (c .before .before .before .before .enum-told12 .given .1) (c .before .before .plain-bytes2 .ensures .0), search needs)
+
+returns-13 : tie.Need-returns-13
+unfolding callOf
+returns-13 c = (call-as _ _ _ (c .before .enum-told13 .given .1) (kept _ (c .alone5 .ensures .0)), search needs)
+
 pub read-call-spec : {M : Type 1} → statement M
 read-call-spec =
     tie.close
@@ -152,6 +175,10 @@ read-call-spec =
     read-plan-requires
     enum-told-11
     alone-requires-4
+    enum-told-12
+    plain-bytes-requires-2
+    enum-told-13
+    alone-requires-5
     same-length
     returns
     same-length-2
@@ -166,4 +193,7 @@ read-call-spec =
     returns-8
     returns-9
     returns-10
-    returns-11)
+    returns-11
+    same-length-5
+    returns-12
+    returns-13)

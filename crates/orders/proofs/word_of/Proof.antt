@@ -115,12 +115,12 @@ returns-11 : tie.Need-returns-11
 unfolding wordOf
 returns-11 c = else-b _ _ (sym (c .before .before .before .before .before .before .before .before .before .before .before .before .before .before .before .before .before .before .before .before .before .before .before .before .before .before .before .before .before .before .before .same .ensures) ∙ c .before .before .before .before .before .before .before .before .before .before .before .before .before .before .before .before .before .before .before .before .before .before .before .before .before .before .before .before .before .before .if1 .left) (else-b _ _ (sym (c .before .before .before .before .before .before .before .before .before .before .before .before .before .before .before .before .before .before .before .before .before .before .before .before .before .before .before .before .same2 .ensures) ∙ c .before .before .before .before .before .before .before .before .before .before .before .before .before .before .before .before .before .before .before .before .before .before .before .before .before .before .before .if2 .left) (else-b _ _ (sym (c .before .before .before .before .before .before .before .before .before .before .before .before .before .before .before .before .before .before .before .before .before .before .before .before .before .same3 .ensures) ∙ c .before .before .before .before .before .before .before .before .before .before .before .before .before .before .before .before .before .before .before .before .before .before .before .before .if3 .left) (else-b _ _ (sym (c .before .before .before .before .before .before .before .before .before .before .before .before .before .before .before .before .before .before .before .before .before .before .same4 .ensures) ∙ c .before .before .before .before .before .before .before .before .before .before .before .before .before .before .before .before .before .before .before .before .before .if4 .left) (else-b _ _ (sym (c .before .before .before .before .before .before .before .before .before .before .before .before .before .before .before .before .before .before .before .same5 .ensures) ∙ c .before .before .before .before .before .before .before .before .before .before .before .before .before .before .before .before .before .before .if5 .left) (else-b _ _ (sym (c .before .before .before .before .before .before .before .before .before .before .before .before .before .before .before .before .same6 .ensures) ∙ c .before .before .before .before .before .before .before .before .before .before .before .before .before .before .before .if6 .left) (else-b _ _ (sym (c .before .before .before .before .before .before .before .before .before .before .before .before .before .same7 .ensures) ∙ c .before .before .before .before .before .before .before .before .before .before .before .before .if7 .left) (else-b _ _ (sym (c .before .before .before .before .before .before .before .before .before .before .same8 .ensures) ∙ c .before .before .before .before .before .before .before .before .before .if8 .left) (else-b _ _ (sym (c .before .before .before .before .before .before .before .same9 .ensures) ∙ c .before .before .before .before .before .before .if9 .left) (else-b _ _ (sym (c .before .before .before .before .same10 .ensures) ∙ c .before .before .before .if10 .left) (if-b _ _ (sym (c .before .same11 .ensures) ∙ c .if11 .taken) refl))))))))))
 
-given-of-requires : tie.Need-given-of-requires
-given-of-requires c κs = search needs
+kept-of-requires : tie.Need-kept-of-requires
+kept-of-requires c κs = search needs
 
 returns-12 : tie.Need-returns-12
 unfolding wordOf
-returns-12 c = else-b _ _ (sym (c .before .before .before .before .before .before .before .before .before .before .before .before .before .before .before .before .before .before .before .before .before .before .before .before .before .before .before .before .before .before .before .before .same .ensures) ∙ c .before .before .before .before .before .before .before .before .before .before .before .before .before .before .before .before .before .before .before .before .before .before .before .before .before .before .before .before .before .before .before .if1 .left) (else-b _ _ (sym (c .before .before .before .before .before .before .before .before .before .before .before .before .before .before .before .before .before .before .before .before .before .before .before .before .before .before .before .before .before .same2 .ensures) ∙ c .before .before .before .before .before .before .before .before .before .before .before .before .before .before .before .before .before .before .before .before .before .before .before .before .before .before .before .before .if2 .left) (else-b _ _ (sym (c .before .before .before .before .before .before .before .before .before .before .before .before .before .before .before .before .before .before .before .before .before .before .before .before .before .before .same3 .ensures) ∙ c .before .before .before .before .before .before .before .before .before .before .before .before .before .before .before .before .before .before .before .before .before .before .before .before .before .if3 .left) (else-b _ _ (sym (c .before .before .before .before .before .before .before .before .before .before .before .before .before .before .before .before .before .before .before .before .before .before .before .same4 .ensures) ∙ c .before .before .before .before .before .before .before .before .before .before .before .before .before .before .before .before .before .before .before .before .before .before .if4 .left) (else-b _ _ (sym (c .before .before .before .before .before .before .before .before .before .before .before .before .before .before .before .before .before .before .before .before .same5 .ensures) ∙ c .before .before .before .before .before .before .before .before .before .before .before .before .before .before .before .before .before .before .before .if5 .left) (else-b _ _ (sym (c .before .before .before .before .before .before .before .before .before .before .before .before .before .before .before .before .before .same6 .ensures) ∙ c .before .before .before .before .before .before .before .before .before .before .before .before .before .before .before .before .if6 .left) (else-b _ _ (sym (c .before .before .before .before .before .before .before .before .before .before .before .before .before .before .same7 .ensures) ∙ c .before .before .before .before .before .before .before .before .before .before .before .before .before .if7 .left) (else-b _ _ (sym (c .before .before .before .before .before .before .before .before .before .before .before .same8 .ensures) ∙ c .before .before .before .before .before .before .before .before .before .before .if8 .left) (else-b _ _ (sym (c .before .before .before .before .before .before .before .before .same9 .ensures) ∙ c .before .before .before .before .before .before .before .if9 .left) (else-b _ _ (sym (c .before .before .before .before .before .same10 .ensures) ∙ c .before .before .before .before .if10 .left) (else-b _ _ (sym (c .before .before .same11 .ensures) ∙ c .before .if11 .left) (c .given-of .ensures)))))))))))
+returns-12 c = else-b _ _ (sym (c .before .before .before .before .before .before .before .before .before .before .before .before .before .before .before .before .before .before .before .before .before .before .before .before .before .before .before .before .before .before .before .before .same .ensures) ∙ c .before .before .before .before .before .before .before .before .before .before .before .before .before .before .before .before .before .before .before .before .before .before .before .before .before .before .before .before .before .before .before .if1 .left) (else-b _ _ (sym (c .before .before .before .before .before .before .before .before .before .before .before .before .before .before .before .before .before .before .before .before .before .before .before .before .before .before .before .before .before .same2 .ensures) ∙ c .before .before .before .before .before .before .before .before .before .before .before .before .before .before .before .before .before .before .before .before .before .before .before .before .before .before .before .before .if2 .left) (else-b _ _ (sym (c .before .before .before .before .before .before .before .before .before .before .before .before .before .before .before .before .before .before .before .before .before .before .before .before .before .before .same3 .ensures) ∙ c .before .before .before .before .before .before .before .before .before .before .before .before .before .before .before .before .before .before .before .before .before .before .before .before .before .if3 .left) (else-b _ _ (sym (c .before .before .before .before .before .before .before .before .before .before .before .before .before .before .before .before .before .before .before .before .before .before .before .same4 .ensures) ∙ c .before .before .before .before .before .before .before .before .before .before .before .before .before .before .before .before .before .before .before .before .before .before .if4 .left) (else-b _ _ (sym (c .before .before .before .before .before .before .before .before .before .before .before .before .before .before .before .before .before .before .before .before .same5 .ensures) ∙ c .before .before .before .before .before .before .before .before .before .before .before .before .before .before .before .before .before .before .before .if5 .left) (else-b _ _ (sym (c .before .before .before .before .before .before .before .before .before .before .before .before .before .before .before .before .before .same6 .ensures) ∙ c .before .before .before .before .before .before .before .before .before .before .before .before .before .before .before .before .if6 .left) (else-b _ _ (sym (c .before .before .before .before .before .before .before .before .before .before .before .before .before .before .same7 .ensures) ∙ c .before .before .before .before .before .before .before .before .before .before .before .before .before .if7 .left) (else-b _ _ (sym (c .before .before .before .before .before .before .before .before .before .before .before .same8 .ensures) ∙ c .before .before .before .before .before .before .before .before .before .before .if8 .left) (else-b _ _ (sym (c .before .before .before .before .before .before .before .before .same9 .ensures) ∙ c .before .before .before .before .before .before .before .if9 .left) (else-b _ _ (sym (c .before .before .before .before .before .same10 .ensures) ∙ c .before .before .before .before .if10 .left) (else-b _ _ (sym (c .before .before .same11 .ensures) ∙ c .before .if11 .left) (c .kept-of .ensures)))))))))))
 
 pub word-of-spec : {M : Type 1} → statement M
 word-of-spec =
@@ -159,5 +159,5 @@ word-of-spec =
     slice-aggregate-same-11
     same-requires-11
     returns-11
-    given-of-requires
+    kept-of-requires
     returns-12)

@@ -93,6 +93,18 @@ find-plan-requires c κs = search needs
 enum-told-8 : tie.Need-enum-told-8
 enum-told-8 c = search needs
 
+save-requires : tie.Need-save-requires
+save-requires c κs = search needs
+
+enum-told-9 : tie.Need-enum-told-9
+enum-told-9 c = search needs
+
+restore-requires : tie.Need-restore-requires
+restore-requires c κs = search needs
+
+enum-told-10 : tie.Need-enum-told-10
+enum-told-10 c = search needs
+
 fresh-requires : tie.Need-fresh-requires
 fresh-requires c κs = search needs
 
@@ -189,8 +201,26 @@ returns-10 c = search needs
 same-length-21 : tie.Need-same-length-21
 same-length-21 c = search needs
 
+same-length-22 : tie.Need-same-length-22
+same-length-22 c = search needs
+
 returns-11 : tie.Need-returns-11
 returns-11 c = search needs
+
+same-length-23 : tie.Need-same-length-23
+same-length-23 c = search needs
+
+same-length-24 : tie.Need-same-length-24
+same-length-24 c = search needs
+
+returns-12 : tie.Need-returns-12
+returns-12 c = search needs
+
+same-length-25 : tie.Need-same-length-25
+same-length-25 c = search needs
+
+returns-13 : tie.Need-returns-13
+returns-13 c = search needs
 
 pub carry-out-spec : {M : Type 1} → statement M
 carry-out-spec =
@@ -225,6 +255,10 @@ carry-out-spec =
     enum-known-call-3
     find-plan-requires
     enum-told-8
+    save-requires
+    enum-told-9
+    restore-requires
+    enum-told-10
     fresh-requires
     same-length
     same-length-2
@@ -257,4 +291,10 @@ carry-out-spec =
     same-length-20
     returns-10
     same-length-21
-    returns-11)
+    same-length-22
+    returns-11
+    same-length-23
+    same-length-24
+    returns-12
+    same-length-25
+    returns-13)

@@ -11,7 +11,7 @@ use lib.Seq.{take-all}
 use Rattle.wire.specs.Wire.{pasted}
 use Rattle.wire.specs.laws.Cases.{if-b, else-b, if-lt, else-lt, if-eq, else-eq, if-not, else-not}
 use Rattle.inplace.specs.declared.Told.{Told}
-use Rattle.plan.specs.Plan.{packetsIn, isOrder, reaches, planOk, digitsOf, trimmed, orderOf, orders, leastFrom, leastPlan, answered, Planned, given}
+use Rattle.plan.specs.Plan.{packetsIn, isOrder, reaches, planOk, digitsOf, trimmed, orderOf, leastFrom, leastPlan, answered, Planned, given}
 use Rattle.plan.specs.declared.Trial.{Trial}
 use Rattle.plan.specs.laws.Orders.{of-more}
 

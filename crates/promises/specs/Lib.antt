@@ -9,6 +9,7 @@ pub mod History
 pub mod Sittings
 pub mod Isolation
 pub mod Plans
+pub mod Saves
 pub mod NoTrace
 pub mod Ids
 pub mod Marks

@@ -11,7 +11,7 @@ use Rattle.record.specs.Record.{freshRecord, workedOf}
 use Rattle.wire.specs.Conditions.{_and_}
 use Rattle.change.specs.Change.{putOf, timerAfter}
 use Rattle.change.specs.declared.Edit.{Edit}
-use Rattle.entries.specs.Entries.{Entry, bytesOf, written, between, entriesOf, readingOf}
+use Rattle.entries.specs.Entries.{Entry, bytesOf, written, between, entriesOf, readingOf, scanBy}
 use Rattle.journal.specs.Ways.{other}
 use Rattle.journal.specs.declared.Way.{Way}
 use Rattle.journal.specs.declared.Way.the-variants.{Before, After}
@@ -93,9 +93,11 @@ use Rattle.promises.specs.laws.Kept.{kept-session, handed-same}
 use Rattle.image.specs.Image.{imageOf, sessionOf}
 use Rattle.image.specs.laws.Typed.{typed-image}
 use Rattle.layout.specs.Layout.{imageLength}
+use Rattle.saving.specs.Forms.{baseOf, sessionOfBase, savedOf, partTable, partsOf, sessionOfSaved}
+use Rattle.saving.specs.Moves.{goesDown, baseReads, savedReads, putInto, saveTo, restoreTo, moveUpTo, moveDownTo, Allows}
 use Rattle.plan.specs.Conditions.{Order, FewestThenLeast}
-use Rattle.plan.specs.Plan.{packetsIn, answered, planOkCall, Planned, planCall, planOkOn, planOn, PlanAllows}
-use Rattle.bjargolsk.specs.Calls.{answerIn, freshOn, FreshReturns, OccReturns, SbeReturns, UndoReturns, RedoReturns, ForgetReturns, SeepromReturns, TimeReturns, WatchReturns, PlanReturns, PlanOkReturns}
+use Rattle.plan.specs.Plan.{packetsIn, answered, planOkCall, planCall, planOkOn, planOn, PlanAllows}
+use Rattle.bjargolsk.specs.Calls.{answerIn, freshOn, FreshReturns, OccReturns, SbeReturns, UndoReturns, RedoReturns, ForgetReturns, SeepromReturns, TimeReturns, WatchReturns, PlanReturns, PlanOkReturns, SaveReturns, RestoreReturns, MoveUpReturns, MoveDownReturns}
 use Rattle.promises.specs.laws.Lent.{every-image, every-byte, no-session, fresh-image, lent-run, lent-next}
 use Rattle.promises.specs.Lent.{lent, told as told-beside, carriedOver, lentRun, watchedOn}
 use Rattle.promises.specs.Passed.{MarksStand, PassedAsHeld}
@@ -106,7 +108,9 @@ use Rattle.promises.specs.Isolation.{AllShare, occsIn, occsHeard, OccsFi
 use Rattle.promises.specs.laws.Isolation.{occ-isolated, sbe-isolated}
 use Rattle.promises.specs.Plans.{PlanOkAnswer, PlanAnswer, PlanDue, trialSession, sentFrom, IsPlan, Accepted, planIn, Given, NoPlan}
 use Rattle.promises.specs.laws.Plans.{passes-exactly, trials-fit}
-use Rattle.promises.specs.laws.PlanDemands.{plan-ok-answers, plan-answers, plan-refused, accepted-exactly, accepted-due, given-due, given-some, given-passes, given-front, given-least, none-exactly, none-keeps, on-image-checked, on-image-planned, no-image-plans}
+use Rattle.promises.specs.laws.PlanDemands.{plan-ok-answers, plan-answers, plan-refused, accepted-exactly, given-due, given-some, given-passes, given-front, given-long, given-least, given-or-none, not-accepted, none-exactly, none-keeps, on-image-checked, on-image-planned, no-image-plans}
+use Rattle.promises.specs.Saves.{CanGoDown, BaseSave, NewSave, SaveAnswer, RestoreAnswer, MoveUpAnswer, MoveDownAnswer, Done, writtenBy, Written, LeftByUp, KeptBy}
+use Rattle.promises.specs.laws.Saves.{goes-down-exactly, base-save-exactly, new-save-exactly, save-exactly, restore-exactly, up-exactly, down-exactly, save-refused, restore-refused, up-refused, down-refused, up-written, up-down, up-leaves, down-written, down-up, save-written, save-restore, restored-parts, restore-save, restored-formed, restored-worked}
 use Rattle.promises.specs.Partings.{firstEntries, PlaysAsFirst}
 use Rattle.promises.specs.laws.Partings.{same-first, part-plays-as-first, part-plays-as-second}
 use Rattle.promises.specs.Examples.{All, holds, table}
@@ -267,6 +271,18 @@ one-outcome-of-plan-ok b p wanted o = one-value _
 pub one-outcome-of-plan : (b p : List ℕ) (wanted : ℕ) (d : List ℕ) → OneOutcome (λ (x : Told × List ℕ). PlanAllows b p wanted d (x .0) (x .1))
 one-outcome-of-plan b p wanted d = one-pair _ _
 
+pub one-outcome-of-save : (b out : List ℕ) → OneOutcome (λ (x : Told × List ℕ). Allows (saveTo b out) (x .0) (x .1))
+one-outcome-of-save b out = one-pair _ _
+
+pub one-outcome-of-restore : (saved d : List ℕ) → OneOutcome (λ (x : Told × List ℕ). Allows (restoreTo saved d) (x .0) (x .1))
+one-outcome-of-restore saved d = one-pair _ _
+
+pub one-outcome-of-move-up : (saved out : List ℕ) → OneOutcome (λ (x : Told × List ℕ). Allows (moveUpTo saved out) (x .0) (x .1))
+one-outcome-of-move-up saved out = one-pair _ _
+
+pub one-outcome-of-move-down : (saved out : List ℕ) → OneOutcome (λ (x : Told × List ℕ). Allows (moveDownTo saved out) (x .0) (x .1))
+one-outcome-of-move-down saved out = one-pair _ _
+
 pub one-outcome-of-fresh-for-c : (b : List ℕ) → OneOutcome (λ (o : ℕ × List ℕ). FreshReturns b (o .0) (o .1))
 one-outcome-of-fresh-for-c b = one-pair _ _
 
@@ -299,6 +315,18 @@ one-outcome-of-plan-for-c b p wanted d = one-pair _ _
 
 pub one-outcome-of-plan-ok-for-c : (b p : List ℕ) (wanted : ℕ) (o : List ℕ) → OneOutcome (λ (x : ℕ). PlanOkReturns b p wanted o x)
 one-outcome-of-plan-ok-for-c b p wanted o = one-value _
+
+pub one-outcome-of-save-for-c : (b out : List ℕ) → OneOutcome (λ (x : ℕ × List ℕ). SaveReturns b out (x .0) (x .1))
+one-outcome-of-save-for-c b out = one-pair _ _
+
+pub one-outcome-of-restore-for-c : (b saved : List ℕ) → OneOutcome (λ (x : ℕ × List ℕ). RestoreReturns b saved (x .0) (x .1))
+one-outcome-of-restore-for-c b saved = one-pair _ _
+
+pub one-outcome-of-move-up-for-c : (saved out : List ℕ) → OneOutcome (λ (x : ℕ × List ℕ). MoveUpReturns saved out (x .0) (x .1))
+one-outcome-of-move-up-for-c saved out = one-pair _ _
+
+pub one-outcome-of-move-down-for-c : (saved out : List ℕ) → OneOutcome (λ (x : ℕ × List ℕ). MoveDownReturns saved out (x .0) (x .1))
+one-outcome-of-move-down-for-c saved out = one-pair _ _
 
 pub one-outcome-of-step : (b : List ℕ) (number : ℕ) (e d : List ℕ) → OneOutcome (λ (o : ℕ × List ℕ × List ℕ). StepAllows b number e d (o .0) (o .1) (o .2))
 one-outcome-of-step b number e d = one-triple _ _ _
@@ -617,10 +645,11 @@ trials-never-lack-room s typed p b wanted due o d long = trials-fit s typed p b 
 -- the plan given passes the check, and stands at the front of the buffer, the bytes past it kept
 pub the-plan-given-passes : (s : Session) (p : List ℕ) (wanted : ℕ) (d : List ℕ) → Given (planCall s p wanted d)
     → Accepted (planOkCall s p wanted (planIn (planCall s p wanted d))) × (planCall s p wanted d .order ≡ atFront (planIn (planCall s p wanted d)) d)
+    × (planCall s p wanted d .told .beside ≡ length (planIn (planCall s p wanted d)))
 the-plan-given-passes s p wanted d g =
     let x = given-due s p wanted d (g .1) in
     let some = given-some s p wanted d (x .0) (x .1) (g .1) in
-    (given-passes s p wanted d (x .0) (x .1) some, given-front s p wanted d (x .0) (x .1) some)
+    (given-passes s p wanted d (x .0) (x .1) some, given-front s p wanted d (x .0) (x .1) some, given-long s p wanted d (x .0) (x .1) some)
 
 -- it is the one with the fewest packets, then the least in index order, of all that pass
 pub the-plan-given-is-least : (s : Session) (p : List ℕ) (wanted : ℕ) (d : List ℕ) → Given (planCall s p wanted d)
@@ -634,8 +663,106 @@ pub no-plan-exactly-when-none : (s : Session) (p : List ℕ) (wanted : ℕ) → 
     → NoPlan (planCall s p wanted d) ↔ ((o : List ℕ) → Accepted (planOkCall s p wanted o) → ⊥)
 no-plan-exactly-when-none s p wanted due d room = none-exactly s p wanted d due room
 
+-- "such an order": about the public call, as the check is said
+pub no-plan-exactly-when-no-order-leads-there : (s : Session) → TypedSession s → (p : List ℕ) → Bytes p → (wanted : ℕ) → PlanDue s p wanted → (d e : List ℕ) → 5 ≤ length d → 4096 ≤ length e
+    → NoPlan (planCall s p wanted d) ↔ ((o : List ℕ) → IsPlan s p wanted e o → ⊥)
+no-plan-exactly-when-no-order-leads-there s typed p b wanted due d e room long =
+    let none = no-plan-exactly-when-none s p wanted due d room in
+    let checked : (o : List ℕ) → Accepted (planOkCall s p wanted o) ↔ IsPlan s p wanted e o = λ o. a-plan-is-checked-exactly s typed p b wanted due o e long in
+    (λ h o l. none .0 h o (checked o .1 l), λ h. none .1 (λ o a. h o (checked o .0 a)))
+
+-- one of the two is told where no refusal is due; of a proposal that isn't accepted, and of a refusal, nothing beside the answer
+pub a-plan-or-none : (s : Session) (p : List ℕ) (wanted : ℕ) → PlanDue s p wanted → (d : List ℕ) → 5 ≤ length d → Given (planCall s p wanted d) ⊎ NoPlan (planCall s p wanted d)
+a-plan-or-none s p wanted due d room = given-or-none s p wanted d due room
+
+pub not-accepted-tells-no-more : (s : Session) (p : List ℕ) (wanted : ℕ) (o : List ℕ) → (Accepted (planOkCall s p wanted o) → ⊥)
+    → planOkCall s p wanted o ≡ answered (planOkCall s p wanted o .answer)
+not-accepted-tells-no-more = not-accepted
+
 pub no-plan-keeps : (s : Session) (p : List ℕ) (wanted : ℕ) (d : List ℕ) → NoPlan (planCall s p wanted d) → planCall s p wanted d .order ≡ d
 no-plan-keeps s p wanted d h = none-keeps s p wanted d (ap (λ (t : Told). t .small) h)
+
+-- ---- document 02, m: saved sessions. b is a lent session, saved any bytes, out and back any buffers (Saves.antt)
+
+-- "Refusals: 11 won't read or is ill formed .., 12 can't go down, 13 output buffer too short, in that order"
+pub answer-of-save : (b out : List ℕ) → Bytes b → (n : ℕ) → (saveTo b out .told .answer ≡ n) ↔ SaveAnswer b out n
+answer-of-save = save-exactly
+
+pub answer-of-restore : (saved d : List ℕ) (n : ℕ) → (restoreTo saved d .told .answer ≡ n) ↔ RestoreAnswer saved d n
+answer-of-restore = restore-exactly
+
+pub answer-of-move-up : (saved out : List ℕ) → Bytes saved → (n : ℕ) → (moveUpTo saved out .told .answer ≡ n) ↔ MoveUpAnswer saved out n
+answer-of-move-up = up-exactly
+
+pub answer-of-move-down : (saved out : List ℕ) → Bytes saved → (n : ℕ) → (moveDownTo saved out .told .answer ≡ n) ↔ MoveDownAnswer saved out n
+answer-of-move-down = down-exactly
+
+-- what is tested is what the conditions say
+pub a-base-save-exactly-when : (saved : List ℕ) → (baseReads saved ≡ true) ↔ BaseSave saved
+a-base-save-exactly-when = base-save-exactly
+
+pub a-new-save-exactly-when : (saved : List ℕ) → (savedReads saved ≡ true) ↔ NewSave saved
+a-new-save-exactly-when = new-save-exactly
+
+pub can-go-down-exactly-when : (s : Session) → (goesDown s ≡ true) ↔ CanGoDown s
+can-go-down-exactly-when = goes-down-exactly
+
+-- "the output buffer is kept in all three"
+pub refusal-of-save-keeps : (b out : List ℕ) → KeptBy out (saveTo b out)
+refusal-of-save-keeps = save-refused
+
+pub refusal-of-restore-keeps : (saved d : List ℕ) → KeptBy d (restoreTo saved d)
+refusal-of-restore-keeps = restore-refused
+
+pub refusal-of-move-up-keeps : (saved out : List ℕ) → KeptBy out (moveUpTo saved out)
+refusal-of-move-up-keeps = up-refused
+
+pub refusal-of-move-down-keeps : (saved out : List ℕ) → KeptBy out (moveDownTo saved out)
+refusal-of-move-down-keeps = down-refused
+
+-- what is written is the form of the session that was read, at the front of the buffer; the bytes past it are kept
+pub save-writes-the-new-form : (b out : List ℕ) → Done (saveTo b out) → Written (savedOf (sessionOf b)) out (saveTo b out)
+save-writes-the-new-form = save-written
+
+pub move-up-writes-the-new-form : (saved out : List ℕ) → Done (moveUpTo saved out) → Written (savedOf (sessionOfBase saved)) out (moveUpTo saved out)
+move-up-writes-the-new-form = up-written
+
+pub move-down-writes-the-base-form : (saved out : List ℕ) → Done (moveDownTo saved out) → Written (baseOf (sessionOfSaved saved)) out (moveDownTo saved out)
+move-down-writes-the-base-form = down-written
+
+-- "Up then down gives the same bytes"
+pub up-then-down-gives-the-same-bytes : (saved out : List ℕ) → Done (moveUpTo saved out) → Bytes saved → (back : List ℕ)
+    → moveDownTo (writtenBy (moveUpTo saved out)) back ≡ putInto saved back
+up-then-down-gives-the-same-bytes = up-down
+
+-- "down then up gives the same session": the same bytes of its new form
+pub down-then-up-gives-the-same-session : (saved out : List ℕ) → Done (moveDownTo saved out) → Bytes saved → (back : List ℕ)
+    → moveUpTo (writtenBy (moveDownTo saved out)) back ≡ putInto saved back
+down-then-up-gives-the-same-session = down-up
+
+-- "Moving up leaves redo empty, profile full and timer off, and works the marks out"
+pub moving-up-leaves : (saved out : List ℕ) → Done (moveUpTo saved out) → Bytes saved → LeftByUp saved (sessionOfSaved (writtenBy (moveUpTo saved out)))
+moving-up-leaves = up-leaves
+
+-- a session saved and restored, over whatever session stood there, and a save restored and saved
+pub save-then-restore-gives-the-same-session : (b out : List ℕ) → Done (saveTo b out) → Bytes b → (d : List ℕ) → length d ≡ imageLength
+    → restoreTo (writtenBy (saveTo b out)) d ≡ record { told = answered 0; out = b }
+save-then-restore-gives-the-same-session = save-restore
+
+pub restore-then-save-gives-the-same-bytes : (saved d : List ℕ) → Done (restoreTo saved d) → Bytes saved → (out : List ℕ) → saveTo (restoreTo saved d .out) out ≡ putInto saved out
+restore-then-save-gives-the-same-bytes = restore-save
+
+-- "each part one byte of kind and a body whose length the kind fixes": by the table of their lengths, what is restored reads as the seven parts of its session
+pub a-new-form-is-seven-parts : (saved d : List ℕ) → Done (restoreTo saved d) → Bytes saved → scanBy partTable saved ≡ between (partsOf (sessionOfSaved saved))
+a-new-form-is-seven-parts = restored-parts
+
+-- a session restored is well formed, and what is worked out is worked out
+pub a-restored-session-is-well-formed : (saved d : List ℕ) → Done (restoreTo saved d) → Bytes saved → wellFormed (sessionOf (restoreTo saved d .out)) ≡ true
+a-restored-session-is-well-formed = restored-formed
+
+pub worked-out-after-restore : (saved d : List ℕ) → Done (restoreTo saved d) → Bytes saved
+    → sessionOf (restoreTo saved d .out) .worked ≡ workedOf (sessionOf (restoreTo saved d .out) .held)
+worked-out-after-restore = restored-worked
 
 -- ---- every session handed in, right or damaged, at the bytes that are lent: b is any bytes, and those of an image's length are one of a session. So what is
 -- promised above of every session s with `TypedSession s` holds of every image, at `sessionOf b`

@@ -58,3 +58,4 @@ pub mod Answers
 pub mod Isolation
 pub mod Plans
 pub mod PlanDemands
+pub mod Saves

@@ -1,16 +1,14 @@
 -- The calls for C, one after the other on one lent image: what holds of sessions holds of images. Assumes nothing.
-use Prim.Native.Nat.{ℕ, suc, _+_, _^_, _<_}
+use Prim.Native.Nat.{ℕ, _+_}
 use mathlib.Core.Path.{_≡_, refl, sym, ap, subst, _∙_}
 use mathlib.Core.List.{List, [], _∷_}
 use native.Mathlib.Omega.{arith}
-use lib.Dec.{eqb, ltb}
+use lib.Dec.{eqb}
 use lib.ListN.{length}
 use Rattle.wire.specs.laws.Cases.{if-ne, else-ne, cond-elim}
-use Rattle.record.specs.Record.{clamped, limitOf, workedOf}
-use Rattle.record.specs.declared.Caps.{Caps}
+use Rattle.record.specs.Record.{workedOf}
 use Rattle.record.specs.declared.Record.{Record}
 use Rattle.change.specs.declared.Edit.{Edit}
-use Rattle.record.specs.Widths.{CapsFit}
 use Rattle.session.specs.Session.{freshSession, renewed}
 use Rattle.session.specs.laws.Timer.{Clock}
 use Rattle.session.specs.declared.Session.{Session}
@@ -33,6 +31,7 @@ use Rattle.inplace.specs.InPlace.{Left, rungLeft, onImage}
 use Rattle.inplace.specs.laws.InPlace.{on-image}
 use Rattle.bjargolsk.specs.Calls.{packed, answerIn, freshOn}
 use Rattle.bjargolsk.specs.laws.Calls.{occ-refused, sbe-refused, undo-refused, redo-refused, forget-refused, time-refused}
+use Rattle.saving.specs.laws.Record.{worked-fits}
 use Rattle.promises.specs.Calls.{Call, occ, sbe, undo, redo, forget, time, bufferOf, asks, said}
 use Rattle.promises.specs.Marks.{logsMade}
 use Rattle.promises.specs.History.{applied, keptOf, startOf, Run, did, next-run, run, AllOfBytes}
@@ -123,14 +122,6 @@ no-session b z (time n) = sym (ap as-lent (if-ne _ _ z refl))
 
 -- ---- every session of a history has what the types say
 
-limit-fits : (role got user : ℕ) (caps : Caps) → CapsFit caps → user < 256 ^ 2 → limitOf role got caps user < 256 ^ 2
-unfolding limitOf clamped
-limit-fits role got user caps f u =
-    let Small : ℕ → Type 0 = λ (n : ℕ). n < 256 ^ 2 in
-    cond-elim Small (eqb role 0) (omega arith)
-    (cond-elim Small (eqb got 0) (omega arith)
-    (cond-elim Small (eqb user 0) (f .max) (cond-elim Small (ltb user (caps .min)) (f .min) (cond-elim Small (ltb (caps .max) user) (f .max) u))))
-
 history-typed : (base : Record) (s : Session) → Clock (s .timer) → (es : List Edit) (next : ℕ) (rs : List Edit) → Sane base (s .profile) es next rs → Typed (byHistory base s es next rs)
 unfolding byHistory standing byWay renewed workedOf
 history-typed base s c es next rs g =
@@ -146,7 +137,7 @@ history-typed base s c es next rs g =
         marks = length-marks _;
         timer = c .fits;
       };
-      limit = limit-fits (r .role) (r .received .caps) (r .user) (r .caps) (g .typed .caps) (g .typed .user);
+      limit = worked-fits r (g .typed);
     }
 
 module _ (base : Record) (first : ℕ) where

@@ -10,7 +10,7 @@ use borrow.Author.Tests.{not-false, not-true, eqb-true, eqb-false, ltb-true, ltb
 use lib.Dec.{ltb, eqb}
 use lib.ListN.{length, take, drop}
 use lib.Seq.{take-at}
-use Rattle.wire.specs.Conditions.{_and_, is, row}
+use Rattle.wire.specs.Conditions.{is, row}
 use Rattle.wire.specs.Wire.{pasted}
 use Rattle.wire.specs.laws.Cases.{cond-cases, if-b, else-lt, if-ne, else-ne, if-eq, else-eq}
 use Rattle.wire.specs.laws.Chains.{holds, eq-holds, or-else, passed}
@@ -27,7 +27,7 @@ use Rattle.plan.specs.laws.Numbers.{numberOf, comes-first, number-order, order-
 use Rattle.plan.specs.laws.Orders.{of-more}
 use Rattle.plan.specs.laws.Refusals.{none-refused, no-refusal}
 use Rattle.promises.specs.Demand2.{atFront}
-use Rattle.promises.specs.Plans.{TooMany, Wanted, PlanOkAnswer, PlanAnswer, PlanDue, Accepted, planIn, NoPlan}
+use Rattle.promises.specs.Plans.{TooMany, Wanted, PlanOkAnswer, PlanAnswer, PlanDue, Accepted, planIn, Given, NoPlan}
 use Rattle.promises.specs.laws.Replies.{front-is}
 
 wanted-exactly : (wanted : ℕ) → (wantedOk wanted ≡ true) ↔ Wanted wanted
@@ -109,8 +109,13 @@ module _ (s : Session) (p : List ℕ) (wanted : ℕ) where
     pub accepted-exactly : PlanDue s p wanted → Accepted (planOkCall s p wanted o) ↔ (passes ≡ true)
     accepted-exactly q = (λ h. accepted-so h .1, so-accepted (so-due q))
 
-    pub accepted-due : Accepted (planOkCall s p wanted o) → PlanDue s p wanted
-    accepted-due h = due-so (accepted-so h .0)
+    -- else nothing is told beside the answer
+    abbrev Plain : Told → Type 0
+    Plain t = (Accepted t → ⊥) → t ≡ answered (t .answer)
+
+    pub not-accepted : Plain (planOkCall s p wanted o)
+    unfolding planOkCall
+    not-accepted = cond-cases Plain (not (eqb n 0)) (λ f z. refl) (λ f. cond-cases Plain passes (λ g z. absurd (z refl)) (λ g z. refl))
 
   -- ---- what passes is an order of five packets
 
@@ -163,7 +168,7 @@ module _ (s : Session) (p : List ℕ) (wanted : ℕ) where
         cond-cases Kept (not (eqb n 0)) (λ f z. (refl, refl, refl))
         (λ f. cond-cases Kept (ltb (length d) 5) (λ g z. (refl, refl, refl)) (λ g z. absurd (z given-answer)))
 
-    -- ---- where none is due
+    -- ---- where no refusal is due
 
     module _ (due : PlanDue s p wanted) (room : 5 ≤ length d) where
       is-given : q ≡ given least d
@@ -200,6 +205,9 @@ module _ (s : Session) (p : List ℕ) (wanted : ℕ) where
         pub given-front : q .order ≡ atFront (planIn q) d
         given-front = at-front ∙ ap (λ (o : List ℕ). atFront o d) (sym plan-in)
 
+        pub given-long : q .told .beside ≡ length (planIn q)
+        given-long = long-as ∙ ap length (sym plan-in)
+
         -- an order that passes has no smaller number
         pub given-least : (o : List ℕ) → planOk p wanted (startOf s) o ≡ true → FewestThenLeast (planIn q) o
         given-least o h =
@@ -231,6 +239,11 @@ module _ (s : Session) (p : List ℕ) (wanted : ℕ) where
 
       pub given-some : q .told .small ≡ 1 → least ≡ orders → ⊥
       given-some g e = let z : q .told .small ≡ 0 = ap (λ (x : Planned). x .told .small) (none-is e) in omega (arith, z, g)
+
+      pub given-or-none : Given q ⊎ NoPlan q
+      given-or-none =
+          ⊎-elim (λ e. inr (ap (λ (x : Planned). x .told) (none-is e)))
+          (λ some. let is = one-is some in inl (ap (λ (x : Planned). x .told .answer) is, ap (λ (x : Planned). x .told .small) is)) which
 
       pub none-exactly : NoPlan q ↔ ((o : List ℕ) → Accepted (planOkCall s p wanted o) → ⊥)
       none-exactly = (

@@ -21,22 +21,13 @@ use Rattle.journal.specs.laws.Ends.{length-entry}
 use Rattle.journal.specs.declared.Found.the-variants.{Good}
 use Rattle.journal.specs.declared.Way.{Way}
 use Rattle.session.specs.laws.Session.{Store}
+unfoldable pub use Rattle.saving.specs.Forms.{padded}
+pub use Rattle.saving.specs.laws.Base.{length-padded, take-padded}
 
 -- ---- 2,048 bytes of which the first ones are used
 
 abbrev pub zeros : ℕ → List ℕ
 zeros n = replicate n 0
-
-unfoldable pub padded : List ℕ → List ℕ
-padded l = l ++ replicate (2048 - length l) 0
-
-pub length-padded : (l : List ℕ) → length l ≤ 2048 → length (padded l) ≡ 2048
-unfolding padded
-length-padded l h = simp (length-append, length-replicate) (omega arith)
-
-pub take-padded : (l : List ℕ) → take (length l) (padded l) ≡ l
-unfolding padded
-take-padded l = take-append-seam l (zeros (2048 - length l))
 
 pub drop-padded : (l : List ℕ) → allAre 0 (drop (length l) (padded l)) ≡ true
 unfolding padded

@@ -176,6 +176,7 @@ def damaged(note, **fields):
     put("forget 0", "1")
     put("time 0", "1")
     put("plan 2", "1")
+    put("save", "1")
     put("watch", "1")
 
 
@@ -2819,10 +2820,131 @@ put("packet \t", "ok")
 plan(3, "0 no plan")
 fresh()
 
+def form(**fields):
+    """The new form of a session, part by part: record, next id, journal, redo store, marks, profile, timer."""
+    b = image(**fields)
+    parts = (b[:230], b[235:237], b[239:2287], b[2289:4337], b[4337:4401], b[4410:], b[4401:4410])
+    return b"".join(bytes([kind]) + part for kind, part in enumerate(parts, 1))
+
+
+def is_form(note=None, **fields):
+    if note:
+        say(note)
+    put("save", "save " + form(**fields).hex().upper())
+
+
+def restore(note, saved, want="0", journal=b""):
+    """journal is what the save has in it"""
+    global HELD
+    if note:
+        say(note)
+    put("restore " + saved.hex().upper(), want)
+    if want == "0":
+        HELD = entries(journal)
+
+
+title("Saves: a session in the form for keeping, and back")
+fresh()
+is_form("a fresh session: 4,409 bytes, with no used lengths and nothing that is worked out")
+is_image("saving changes nothing")
+restore("restored", form())
+is_image(None)
+role(1)
+caps(500, 1500, 100)
+is_form(None, role=1, caps=(500, 1500, 100), received=(1, 1, 0, 0), limit=1500, wanted=0x13, journal=BEFORE[0] + BEFORE[1])
+restore("all kinds in the journal: what is worked out is worked out again, the used length read off", form(journal=b"".join(BEFORE), **UP), journal=b"".join(BEFORE))
+is_image(None, journal=b"".join(BEFORE), **UP)
+is_form(None, journal=b"".join(BEFORE), **UP)
+put("undo", "0 0B 10")
+put("undo", "0 0A 9")
+is_form("what can be redone is kept", journal=b"".join(BEFORE[:9]), redo=AFTER[10] + AFTER[9], **dict(UP, ffdc=(0, 0), passing=(0, 0), deadman=(0, 0)))
+fresh()
+restore(None, form(journal=b"".join(BEFORE[:9]), redo=AFTER[10] + AFTER[9], **dict(UP, ffdc=(0, 0), passing=(0, 0), deadman=(0, 0))), journal=b"".join(BEFORE[:9]))
+redo(10)
+redo(11)
+redo(0)
+is_image(None, journal=b"".join(BEFORE), **UP)
+FULL = dict(journal=hexes("0201") * 1024, marks=TWOS)
+restore("a full journal has no 00 behind it; 32 marks", form(**FULL), journal=FULL["journal"])
+is_image(None, **FULL)
+is_form(None, **FULL)
+put("undo", "0 02 31")
+restore("a full redo store", form(redo=hexes("0203") * 1024))
+is_image(None, redo=hexes("0203") * 1024)
+is_form(None, redo=hexes("0203") * 1024)
+restore("both together full", form(journal=hexes("0201") * 512, redo=hexes("0203") * 512, marks=TWOS[:16]), journal=hexes("0201") * 512)
+is_image(None, journal=hexes("0201") * 512, redo=hexes("0203") * 512, marks=TWOS[:16])
+restore("bodies full of zeros: a role, a mask, an area, then the end", form(journal=hexes("030000 09 00000000") + BEFORE[10]), journal=hexes("030000 09 00000000") + BEFORE[10])
+is_image(None, journal=hexes("030000 09 00000000") + BEFORE[10])
+put("undo", "0 0B 2")
+restore("a timer that runs, in the session and in the journal", form(timer=(1, 900), journal=OFF + ran(5)), journal=OFF + ran(5))
+is_image(None, timer=(1, 900), journal=OFF + ran(5))
+is_form(None, timer=(1, 900), journal=OFF + ran(5))
+passes(899)
+passes(1, 2)
+restore("a watch-only session", form(journal=hexes("01000201"), **W), journal=hexes("01000201"))
+is_image(None, journal=hexes("01000201"), **W)
+is_form(None, journal=hexes("01000201"), **W)
+state(1, None, 0x16)
+put("undo", "0 01 0")
+restore("thresholds that only the later rule allows", form(thermal=hexes("FF5F05 FFFFFF FFFFFF"), received=(0, 0, 0, 1)))
+is_image(None, thermal=hexes("FF5F05 FFFFFF FFFFFF"), received=(0, 0, 0, 1))
+load("over a damaged session: whatever was there; it can't be saved", state=0)
+put("save", "1")
+restore(None, form())
+is_image(None)
+
+title("Saves: answer 11, and the session stays")
+HERE_IS = dict(journal=hexes("050000"), user=7)
+load(None, **HERE_IS)
+put("restore", "11")
+put("restore 01", "11")
+GOOD_FORM = form(journal=b"".join(BEFORE), **UP)
+for part, at in enumerate((0, 231, 234, 2283, 4332, 4397, 4399), 1):
+    for kind in (0, part + 1, 0x80 | part):
+        restore("part %d has kind %02X" % (part, kind), GOOD_FORM[:at] + bytes([kind]) + GOOD_FORM[at + 1:], "11")
+    restore("cut before part %d" % part, GOOD_FORM[:at], "11")
+    restore("and behind its kind", GOOD_FORM[:at + 1], "11")
+restore("one byte short", GOOD_FORM[:-1], "11")
+restore("one byte more", GOOD_FORM + b"\0", "11")
+restore("as many again", GOOD_FORM * 2, "11")
+restore("two parts turned round", GOOD_FORM[:4397] + GOOD_FORM[4399:] + GOOD_FORM[4397:4399], "11")
+is_image("the session is as it was", **HERE_IS)
+for note, fields in (
+        ("state 0", dict(state=0)), ("role 1, not received", dict(role=1)), ("an absent pair", dict(sets=b"\1")), ("thresholds out of order", dict(thermal=hexes("605F05 FFFFFF FFFFFF"), received=(0, 0, 0, 1))),
+        ("a log at the next id", dict(logs=[(1, 1)])), ("next id 0", dict(next_id=0)), ("next id 257", dict(next_id=257)),
+        ("kind 0D in the journal", dict(journal=hexes("0D"))), ("kind 0D behind an entry", dict(journal=hexes("0201 0D 00"))), ("a wrong body", dict(journal=hexes("0204"))),
+        ("a byte behind the first 00", dict(journal=hexes("0201 00 01"))), ("an entry behind it", dict(journal=hexes("0201 00 0201"))), ("the last byte", dict(journal=bytes(2047) + b"\1")),
+        ("a body that is cut at the end", dict(journal=hexes("0201") * 1023 + hexes("05 00"), marks=TWOS)),
+        ("kind 0D in the redo store", dict(redo=hexes("0D"))), ("a wrong body there", dict(redo=hexes("08 00 01"))), ("a byte behind the first 00 there", dict(redo=hexes("0203 00 00 09"))),
+        ("both stores too long together", dict(journal=hexes("0201") * 512, redo=hexes("0203") * 513, marks=TWOS[:16])),
+        ("a mark that isn't used", dict(marks=(0, 1))), ("a mark that is missing", dict(journal=hexes("0201") * 33)), ("a mark off by one", dict(journal=hexes("0201") * 33, marks=(0, 65))),
+        ("profile 2", dict(profile=2)), ("watch-only with a state", dict(profile=1, journal=hexes("0201"))), ("watch-only with a state to redo", dict(profile=1, redo=hexes("0201"))),
+        ("timer 2", dict(timer=(2, 0))), ("timer off with 1 left", dict(timer=(0, 1))), ("a timer's body in the journal", dict(journal=hexes("0C 00 0000000000000001")))):
+    restore(note, form(**fields), "11")
+is_image("the session is as it was", **HERE_IS)
+put("undo", "0 05 0")
+
+title("The words save and restore")
+put("save 1", "? nothing more expected at column 6")
+put("Save", "? unknown word at column 1")
+put("saved", "? unknown word at column 1")
+put("restore 0", "? hex digit expected at column 10")
+put("restore 01 0g", "? hex digit expected at column 13")
+put("restores", "? unknown word at column 1")
+role(3, "why is not touched", 0x13)
+restore(None, form())
+why("2 out of range")
+say("small letters, blanks between")
+put("restore" + hexed(form(user=7)).lower() + " ", "0")
+is_image(None, user=7)
+put("\tsave ", "save " + form(user=7).hex().upper())
+fresh()
+
 here = os.path.dirname(os.path.abspath(__file__))
 for name, lines in (("vectors.txt", OUT), ("vectors.out", WANT)):
     with open(os.path.join(here, name), "w") as file:
         file.write("\n".join(lines) + "\n")
 asked = [line for line in OUT if line and not line.startswith("#")]
-others = sum(want == "ok" or want[0] == "?" or want.startswith("image") or line.strip() == "why" for line, want in zip(asked, WANT))
+others = sum(want == "ok" or want[0] == "?" or want.startswith("image") or line.strip() == "why" or line.split()[0] in ("save", "restore") for line, want in zip(asked, WANT))
 print("%d calls, %d other lines" % (len(WANT) - others, others))

@@ -1,8 +1,9 @@
 //! The functions of bjargolsk.h by this program: a session is lent as its image and updated in place, results are packed.
 
-use crate::calls::{OccAnswer, Undone, DONE, NOT_WELL_FORMED};
+use crate::calls::{OccAnswer, Undone, DONE, NOT_WELL_FORMED, WONT_READ};
 use crate::image;
 use crate::plan::Order;
+use crate::save::{self, Moved};
 use crate::session::Session;
 
 /// The answer in bits 0 to 7, a small number in bits 8 to 15, one of 16 bits above.
@@ -96,6 +97,40 @@ pub fn plan(image: &mut [u8], packets: &[u8], wanted: u8, order: &mut [u8]) -> u
 
 pub fn plan_ok(image: &mut [u8], packets: &[u8], wanted: u8, order: &[u8]) -> u32 {
     on(image, |session| with_verdict(session.plan_ok(packets, wanted, order)))
+}
+
+/// How many bytes were written.
+pub fn with_length((answer, length): Moved) -> u32 {
+    packed(answer, 0, length as u16)
+}
+
+pub fn save(image: &mut [u8], output: &mut [u8]) -> u32 {
+    match image::read(image).filter(|session| session.well_formed()) {
+        Some(session) => with_length(save::hand_out(&save::write_new(&session), output)),
+        None => NOT_WELL_FORMED.into(),
+    }
+}
+
+/// Whatever session was there.
+pub fn restore(image: &mut [u8], saved: &[u8]) -> u32 {
+    if image.len() != image::IMAGE_LENGTH {
+        return NOT_WELL_FORMED.into();
+    }
+    match save::read_new(saved) {
+        Some(session) => {
+            image.copy_from_slice(&image::write(&session));
+            DONE.into()
+        }
+        None => WONT_READ.into(),
+    }
+}
+
+pub fn move_up(saved: &[u8], output: &mut [u8]) -> u32 {
+    with_length(save::move_up(saved, output))
+}
+
+pub fn move_down(saved: &[u8], output: &mut [u8]) -> u32 {
+    with_length(save::move_down(saved, output))
 }
 
 pub fn watch(image: &mut [u8]) -> u32 {

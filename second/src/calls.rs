@@ -24,6 +24,10 @@ pub const NOTHING_TO_REDO: u8 = 8;
 pub const NOT_SO_MANY: u8 = 9;
 /// More than five packets, or a wanted state other than 2 and 3.
 pub const NOTHING_TO_PLAN: u8 = 10;
+/// Of saved sessions: won't read or is ill formed; can't go down; output buffer too short.
+pub const WONT_READ: u8 = 11;
+pub const CANNOT_GO_DOWN: u8 = 12;
+pub const OUTPUT_TOO_SHORT: u8 = 13;
 
 /// What an OCC call gives beside the reply.
 #[derive(Clone, Copy, PartialEq, Eq, Debug)]

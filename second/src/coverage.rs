@@ -4,6 +4,7 @@
 use crate::journal::{entries, Change, Holding, MARKED};
 use crate::occ::command_packet;
 use crate::protocol::{for_each_line, parse, Order, Program};
+use crate::save::{move_down, write_new, LONGEST_BASE};
 use crate::session::{Session, WATCH_ONLY};
 use std::cmp::Ordering;
 use std::collections::BTreeMap;
@@ -62,6 +63,8 @@ fn count_order(counts: &mut Counts, program: &mut Program, order: Order) {
     let described = describe(&order, &before, program.packets.len());
     let loaded = matches!(order, Order::Load(_));
     let asked_why = order == Order::Why;
+    let saved = order == Order::Save;
+    let restored = matches!(order, Order::Restore(_));
     let named = match &described {
         Described::Occ(what)
         | Described::Sbe(what)
@@ -143,6 +146,13 @@ fn count_order(counts: &mut Counts, program: &mut Program, order: Order) {
     }
     if loaded {
         count_rules(counts, &program.session);
+    }
+    if saved {
+        let down = move_down(&write_new(&before), &mut [0; LONGEST_BASE]).0;
+        add(counts, format!("save answer {number}, down {down}"));
+    }
+    if restored {
+        add(counts, format!("restore answer {number}"));
     }
 }
 

@@ -5,6 +5,7 @@ use crate::journal::*;
 use crate::record::*;
 use crate::session::Session;
 
+pub const RECORD_LENGTH: usize = 230;
 /// All before the journal's bytes; the redo store's used length follows them.
 const HEAD_LENGTH: usize = 239;
 const REDO_AT: usize = HEAD_LENGTH + STORE_LENGTH;
@@ -36,12 +37,16 @@ fn write_head<B>(head: &mut [u8], session: &Session<B>) {
 
 fn write_tail<B>(tail: &mut [u8], session: &Session<B>) {
     let mut tail = Writer::new(tail);
-    session.marks.iter().for_each(|mark| tail.put(&mark.to_be_bytes()));
+    write_marks(&mut tail, &session.marks);
     write_timer(&mut tail, &session.timer);
     tail.put(&[session.profile]);
 }
 
-fn write_record(head: &mut Writer, record: &Record) {
+pub fn write_marks(bytes: &mut Writer, marks: &Marks) {
+    marks.iter().for_each(|mark| bytes.put(&mark.to_be_bytes()));
+}
+
+pub fn write_record(head: &mut Writer, record: &Record) {
     head.put(&[record.state, record.role]);
     write_caps(head, &record.caps);
     write_throttles(head, &record.throttles);
@@ -110,7 +115,7 @@ fn read_around<B>(head: &[u8], journal: B, redo: Store<B>, tail: &[u8]) -> Optio
     })
 }
 
-fn read_marks(tail: &mut Reader) -> Option<Marks> {
+pub fn read_marks(tail: &mut Reader) -> Option<Marks> {
     let mut marks = [0; MARKS];
     for mark in &mut marks {
         *mark = tail.u16()?;
@@ -118,7 +123,7 @@ fn read_marks(tail: &mut Reader) -> Option<Marks> {
     Some(marks)
 }
 
-fn read_record(rest: &mut Reader) -> Option<Record> {
+pub fn read_record(rest: &mut Reader) -> Option<Record> {
     Some(Record {
         state: rest.u8()?,
         role: rest.u8()?,

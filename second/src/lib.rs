@@ -13,6 +13,7 @@ pub mod part;
 pub mod plan;
 pub mod protocol;
 pub mod record;
+pub mod save;
 pub mod sbe;
 pub mod session;
 pub mod show;

@@ -1,6 +1,8 @@
 //! `second`: the line protocol on standard input and output; or traces; or the generators; or the coverage count.
 #![forbid(unsafe_code)]
 
+use second::calls::{DONE, WONT_READ};
+use second::save::{Moved, NEW_LENGTH};
 use second::sbe::SEEPROM_LENGTH;
 use std::io::{stdin, stdout, BufReader, BufWriter, Read, Write};
 use std::process::ExitCode;
@@ -13,6 +15,9 @@ const USAGE: &str = "usage: second
        second replay < TRACE
        second trace < LINES > TRACE
        second part TRACE TRACE
+       second move_up < SAVE > SAVE
+       second move_down < SAVE > SAVE
+       second generate-save SEED > SAVE
        second generate-trace SEED [ENTRIES] > TRACE
        second generate-pair SEED TRACE TRACE";
 
@@ -72,6 +77,33 @@ fn part(first: &str, second: &str) -> std::io::Result<ExitCode> {
     }
 }
 
+/// A saved session in the other form; a refusal goes to standard error, and nothing to standard output.
+fn move_across(make: fn(&[u8], &mut [u8]) -> Moved) -> std::io::Result<ExitCode> {
+    let (mut saved, mut output) = (Vec::new(), [0; NEW_LENGTH]);
+    // One byte more than either form has is enough to tell that it has too many.
+    stdin().lock().take(NEW_LENGTH as u64 + 1).read_to_end(&mut saved)?;
+    let (answer, length) = make(&saved, &mut output);
+    match answer {
+        DONE => {
+            let mut written = stdout().lock();
+            written.write_all(&output[..length])?;
+            written.flush()?;
+            return Ok(ExitCode::SUCCESS);
+        }
+        WONT_READ => eprintln!("{answer} won't read or is ill formed"),
+        _ => eprintln!("{answer} can't go down"),
+    }
+    Ok(ExitCode::FAILURE)
+}
+
+/// A saved session of either form, right or not.
+fn generate_save(seed: &str) -> std::io::Result<()> {
+    let Ok(seed) = seed.parse() else {
+        return Err(std::io::Error::other(USAGE));
+    };
+    stdout().lock().write_all(&second::generate::saves::any(seed))
+}
+
 fn generate_pair(seed: &str, first: &str, second: &str) -> std::io::Result<()> {
     let Ok(seed) = seed.parse() else {
         return Err(std::io::Error::other(USAGE));
@@ -109,6 +141,7 @@ fn run(arguments: &[&str]) -> std::io::Result<()> {
         ["replay"] => second::trace::replay(stdin().lock(), BufWriter::new(stdout().lock())),
         ["generate-trace", seed] => generate_trace(seed, None),
         ["generate-trace", seed, entries] => generate_trace(seed, Some(entries)),
+        ["generate-save", seed] => generate_save(seed),
         ["generate-pair", seed, first, second] => generate_pair(seed, first, second),
         _ => Err(std::io::Error::other(USAGE)),
     }
@@ -121,6 +154,8 @@ fn main() -> ExitCode {
     let ended = match arguments.as_slice() {
         ["trace"] => trace(),
         ["part", first, second] => part(first, second),
+        ["move_up"] => move_across(second::save::move_up),
+        ["move_down"] => move_across(second::save::move_down),
         _ => run(&arguments).map(|()| ExitCode::SUCCESS),
     };
     match ended {

@@ -1,10 +1,11 @@
 //! The line protocol: lines in, lines out.
 
 use crate::bytes::{hex, hex_spaced};
-use crate::calls::{OccAnswer, Undone, DONE, OCC_REPLY_LENGTH, SBE_REPLY_LENGTH};
+use crate::calls::{OccAnswer, Undone, DONE, NOT_WELL_FORMED, OCC_REPLY_LENGTH, SBE_REPLY_LENGTH, WONT_READ};
 use crate::image::{self, IMAGE_LENGTH};
 use crate::occ::{command_packet, Fault};
 use crate::plan::{slots, MOST_PACKETS, SLOT};
+use crate::save::{read_new, write_new};
 use crate::sbe::SEEPROM_LENGTH;
 use crate::session::Session;
 use crate::show::{journal_listing, show};
@@ -33,6 +34,8 @@ watch             go on with a watch-only session over this one
 fresh             begin again with a fresh session
 image             the session as {IMAGE_LENGTH} bytes
 load BYTES        go on with the session of such an image
+save              the session in the form for keeping
+restore BYTES     go on with the session of such a form
 send SS TT DATA   as occ: a packet of type TT, framed for you
 buffer N          reply buffers of N bytes; alone: whole ones again
 seeprom BYTES     lend these bytes as the SEEPROM's image
@@ -63,6 +66,8 @@ pub enum Order {
     Fresh,
     Image,
     Load(Vec<u8>),
+    Save,
+    Restore(Vec<u8>),
     Send {
         sender: u8,
         command_type: u8,
@@ -226,6 +231,9 @@ fn parse_words(rest: &mut Scanner) -> Result<Order, Complaint> {
             let microseconds = rest.number(u64::MAX)?;
             rest.nothing_more(Order::Time(microseconds))
         }
+        b"save" => rest.nothing_more(Order::Save),
+        // More than any line has: the form decides, not the line.
+        b"restore" => Ok(Order::Restore(rest.bytes(LONGEST_LINE, command_over)?)),
         b"packet" => Ok(Order::Packet(rest.bytes(SLOT, packet_over)?)),
         b"plan" => {
             let wanted = rest.number(u8::MAX.into())?;
@@ -317,6 +325,15 @@ impl Program {
             Order::Time(microseconds) => match self.session.time(microseconds) {
                 (DONE, bell) => format!("{DONE} bell {bell:04X}\n"),
                 (answer, _) => format!("{answer}\n"),
+            },
+            Order::Save if self.session.well_formed() => format!("save {}\n", hex(&write_new(&self.session))),
+            Order::Save => format!("{NOT_WELL_FORMED}\n"),
+            Order::Restore(saved) => match read_new(&saved) {
+                Some(session) => {
+                    self.session = session;
+                    format!("{DONE}\n")
+                }
+                None => format!("{WONT_READ}\n"),
             },
             Order::Packet(packet) => self.prepare(packet),
             Order::Plan(wanted) => self.plan(wanted),

@@ -75,6 +75,22 @@ pub fn plan_ok(image: &mut [u8], packets: &[u8], wanted: u8, order: &[u8]) -> u3
     unsafe { ffi::bjargolsk_plan_ok(session, length, packets.as_ptr(), packets.len(), wanted, from, count) }
 }
 
+pub fn save(image: &mut [u8], output: &mut [u8]) -> u32 {
+    unsafe { ffi::bjargolsk_save(image.as_ptr(), image.len(), output.as_mut_ptr(), output.len()) }
+}
+
+pub fn restore(image: &mut [u8], saved: &[u8]) -> u32 {
+    unsafe { ffi::bjargolsk_restore(image.as_mut_ptr(), image.len(), saved.as_ptr(), saved.len()) }
+}
+
+pub fn move_up(saved: &[u8], output: &mut [u8]) -> u32 {
+    unsafe { ffi::bjargolsk_move_up(saved.as_ptr(), saved.len(), output.as_mut_ptr(), output.len()) }
+}
+
+pub fn move_down(saved: &[u8], output: &mut [u8]) -> u32 {
+    unsafe { ffi::bjargolsk_move_down(saved.as_ptr(), saved.len(), output.as_mut_ptr(), output.len()) }
+}
+
 pub fn watch(image: &mut [u8]) -> u32 {
     unsafe { ffi::bjargolsk_watch(image.as_mut_ptr(), image.len()) }
 }

@@ -124,7 +124,7 @@ fn time_passing_is_no_change() {
                 }
                 assert!(Session { timer: before.timer, ..with.session.clone() } == before);
             }
-            Some(Ok(Order::Show | Order::Image | Order::Journal)) => {}
+            Some(Ok(Order::Show | Order::Image | Order::Journal | Order::Save)) => {}
             Some(Ok(order)) => {
                 let Some(Ok(same)) = parse(line.strip_suffix(b"\r").unwrap_or(line)) else { unreachable!() };
                 assert_eq!(with.obey(order), without.obey(same));

@@ -10,7 +10,7 @@ fn without_logs(record: &Record) -> Record {
     Record { logs: [Log::default(); 4], ..*record }
 }
 
-/// Random lines, with a watch-only session opened wherever a well-formed one is at hand: from there to the next `fresh` or `load`
+/// Random lines, with a watch-only session opened wherever a well-formed one is at hand: from there to the next `fresh`, `load` or `restore`
 /// only logs go and come back, and the profile stays.
 #[test]
 fn a_watch_only_session_keeps_all_but_its_logs() {
@@ -20,7 +20,7 @@ fn a_watch_only_session_keeps_all_but_its_logs() {
     let (mut opened, mut calls, mut accepted) = (None::<Session>, 0, 0);
     for line in lines.split(|byte| *byte == b'\n') {
         let Some(Ok(order)) = parse(line.strip_suffix(b"\r").unwrap_or(line)) else { continue };
-        let other = matches!(order, Order::Fresh | Order::Load(_));
+        let other = matches!(order, Order::Fresh | Order::Load(_) | Order::Restore(_));
         let before = program.session.journal.used;
         program.obey(order);
         if other {

@@ -1,9 +1,10 @@
 //! Episodes: what is done to one session, from `fresh` or a `load` on.
 
 use super::commands::About;
-use super::{commands, damage, malformed, requests, scene, Bench, Generator};
+use super::{commands, damage, malformed, requests, saves, scene, Bench, Generator};
 use crate::protocol::{Order, LONGEST_BUFFER};
 use crate::record::*;
+use crate::save::write_new;
 use crate::session::Session;
 
 /// The lengths of the entries that `change` makes: state, deadman, cores, areas, role, reset, user cap, clear,
@@ -46,6 +47,7 @@ impl<B: Bench> Generator<B> {
         self.every_shut();
         (0..if self.small { 2 } else { 8 }).for_each(|_| self.watching());
         (0..if self.small { 12 } else { 40 }).for_each(|_| self.plans());
+        (0..if self.small { 6 } else { 20 }).for_each(|_| self.saves());
         self.every_chiplet();
         self.every_seeprom();
         for _ in 0..if self.small { 2 } else { 6 } {
@@ -272,6 +274,39 @@ impl<B: Bench> Generator<B> {
         }
     }
 
+    /// Sessions saved and restored, their own and others', and saves moved up and down.
+    fn saves(&mut self) {
+        if self.random.one_in(2) {
+            let session = scene::session(&mut self.random);
+            self.load_session(&session);
+        }
+        self.give(Order::Save);
+        if self.session().well_formed() {
+            let own = write_new(self.session());
+            self.steps(1, 4);
+            self.restore(&own);
+            self.give(Order::Image);
+        }
+        for _ in 0..self.random.between(1, 3) {
+            let saved = saves::new_form(&mut self.random);
+            self.restore(&saved);
+            self.undo();
+            self.redo();
+            self.give(Order::Save);
+        }
+        self.steps(1, 6);
+        for _ in 0..self.random.between(2, 8) {
+            let up = self.random.one_in(2);
+            let saved = match self.random.below(8) {
+                0 if up => saves::new_form(&mut self.random),
+                0 => saves::base(&mut self.random),
+                _ if up => saves::base(&mut self.random),
+                _ => saves::new_form(&mut self.random),
+            };
+            self.bench.move_across(&mut self.random, up, saved);
+        }
+    }
+
     /// A watch-only session, opened over another or loaded: what is open, what is shut, and clears back and forth.
     fn watching(&mut self) {
         match self.random.below(4) {
@@ -436,7 +471,7 @@ impl<B: Bench> Generator<B> {
     }
 
     pub fn episode(&mut self) {
-        let loads = if self.small { 36 } else { 186 };
+        let loads = if self.small { 36 } else { 194 };
         match self.random.below(loads) {
             0..=9 => self.bring_up(),
             10..=13 => self.walk_from_fresh(),
@@ -445,7 +480,7 @@ impl<B: Bench> Generator<B> {
             22..=25 => self.back_and_forth_from_fresh(),
             26 => self.long_packets(3),
             27 => (0..10).for_each(|_| self.odd_line()),
-            28 if self.small => self.ids_near_their_end(),
+            28 if self.small => self.ids_of_any_number(),
             29 if self.small => self.scene(),
             30 if self.small => self.room_made(),
             31 if self.small => self.timers(),
@@ -453,7 +488,7 @@ impl<B: Bench> Generator<B> {
             33 if self.small => self.timers(),
             34 if self.small => self.watching(),
             35 if self.small => self.plans(),
-            28..=37 => self.ids_near_their_end(),
+            28..=37 => self.ids_of_any_number(),
             38..=53 => self.scene(),
             54..=59 => {
                 let (number, short) = (self.random.below(CHANGES), self.random.below(2));
@@ -485,6 +520,7 @@ impl<B: Bench> Generator<B> {
             157..=160 => self.lend(),
             161..=170 => self.watching(),
             171..=184 => self.plans(),
+            185..=192 => self.saves(),
             _ => self.bounds(),
         }
         if !self.small || self.random.one_in(4) {
@@ -806,9 +842,11 @@ impl<B: Bench> Generator<B> {
         }
     }
 
-    fn ids_near_their_end(&mut self) {
+    /// Resets and clears where the next id is anything, near its end as often as not.
+    fn ids_of_any_number(&mut self) {
         let mut session = scene::session(&mut self.random);
-        session.next_id = self.random.between(250, 256) as u16;
+        let lowest = self.random.pick(&[5, 250]);
+        session.next_id = self.random.between(lowest, 256) as u16;
         let count = self.random.below(5);
         let mut ids = self.random.distinct(count, usize::from(session.next_id) - 1);
         ids.sort_unstable();
@@ -869,6 +907,7 @@ impl<B: Bench> Generator<B> {
         self.pass_time();
         if !self.session().well_formed() || self.random.one_in(8) {
             self.plan(OBSERVATION);
+            self.give(Order::Save);
             self.watch();
         }
         if self.random.one_in(12) {

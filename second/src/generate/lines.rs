@@ -30,9 +30,10 @@ pub fn generate(count: u64, seed: u64, small: bool, output: &mut impl Write) -> 
 
 /// All but what looks at the session, puts another in its place or lends buffers.
 fn is_call(order: &Order) -> bool {
-    let looks = matches!(order, Order::Image | Order::Why | Order::Show | Order::Journal | Order::Help);
+    let looks =
+        matches!(order, Order::Image | Order::Save | Order::Why | Order::Show | Order::Journal | Order::Help);
     let lends = matches!(order, Order::Buffer(_) | Order::Seeprom(_) | Order::Packet(_));
-    !looks && !lends && !matches!(order, Order::Fresh | Order::Load(_))
+    !looks && !lends && !matches!(order, Order::Fresh | Order::Load(_) | Order::Restore(_))
 }
 
 impl Bench for Lines {
@@ -65,6 +66,8 @@ impl Bench for Lines {
             Order::Sbe(request) => self.line(random, "sbe", &[request]),
             Order::Load(image) => self.line(random, "load", &[image]),
             Order::Buffer(Some(length)) => self.number(random, "buffer", *length as u64),
+            Order::Save => self.line(random, "save", &[]),
+            Order::Restore(saved) => self.line(random, "restore", &[saved]),
             Order::Packet(packet) => self.line(random, "packet", &[packet]),
             Order::Plan(wanted) => self.number(random, "plan", u64::from(*wanted)),
             Order::Watch => self.line(random, "watch", &[]),

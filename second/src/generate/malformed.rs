@@ -4,6 +4,7 @@ use super::random::Random;
 use crate::image::IMAGE_LENGTH;
 use crate::plan::SLOT;
 use crate::protocol::{LONGEST_COMMAND, LONGEST_LINE, LONGEST_SEEPROM, LONGEST_SENT};
+use crate::save::NEW_LENGTH;
 
 const SHORT: &[&str] = &[
     "poll",
@@ -90,6 +91,14 @@ const SHORT: &[&str] = &[
     "plan 2,",
     "plan2",
     "planned 2",
+    "save 1",
+    "Save",
+    "saved",
+    "restore",
+    "restore 0",
+    "restore 0g",
+    "restore 01 02 03",
+    "restored",
     "watch 1",
     "watch\twatch",
     "Watch",
@@ -184,7 +193,7 @@ pub fn odd(random: &mut Random) -> Vec<u8> {
     line
 }
 
-const LONG_COUNT: usize = 29;
+const LONG_COUNT: usize = 32;
 
 /// Numbers that a small file can do without.
 pub const MORE_OF_THE_SAME: [usize; 7] = [0, 1, 5, 6, 7, 10, 24];
@@ -238,6 +247,9 @@ pub fn long(random: &mut Random, number: usize) -> Vec<u8> {
         25 => repeated("packet ", "5A", SLOT, " "),
         26 => repeated("packet ", "5A", SLOT, " z"),
         27 => repeated("packet", " 5A", SLOT, "5A"),
-        _ => b"packet".to_vec(),
+        28 => b"packet".to_vec(),
+        29 => repeated("restore ", "00", NEW_LENGTH, ""),
+        30 => repeated("restore ", "01", NEW_LENGTH + 1, " "),
+        _ => repeated("restore ", "01", 16380, ""),
     }
 }

@@ -8,6 +8,7 @@ mod lines;
 mod malformed;
 mod random;
 mod requests;
+pub mod saves;
 mod scene;
 mod spelling;
 pub mod traces;
@@ -32,6 +33,9 @@ pub trait Bench {
     /// The length of the SEEPROM's image that is lent, and of the longest that can be.
     fn seeprom(&self) -> usize;
     fn longest_seeprom(&self) -> usize;
+
+    /// A saved session to be moved up, or down: for a bench that has the calls, which no line makes.
+    fn move_across(&mut self, _random: &mut Random, _up: bool, _saved: Vec<u8>) {}
 
     /// A line that need not be an order: for a bench that reads lines.
     fn say(&mut self, _random: &mut Random, _line: &[u8]) {}
@@ -202,6 +206,10 @@ impl<B: Bench> Generator<B> {
         }
         packet.truncate(crate::plan::SLOT);
         packet
+    }
+
+    fn restore(&mut self, saved: &[u8]) {
+        self.give(Order::Restore(saved.to_vec()));
     }
 
     fn watch(&mut self) {

@@ -14,7 +14,8 @@ use std::rc::Rc;
 use std::time::{Duration, Instant};
 
 /// Reply buffers, and how often one of them is lent in place of a whole one.
-const ROOMS: [usize; 14] = [0, 1, 6, 7, 31, 32, 33, 67, 100, 4095, 4096, 4097, 8191, 8192];
+const ROOMS: [usize; 18] =
+    [0, 1, 6, 7, 31, 32, 33, 67, 100, 232, 2279, 4095, 4096, 4097, 4408, 4410, 8191, 8192];
 const ODD_ROOMS: usize = 16;
 /// How often a call is made on an image of another length too.
 const ODD_IMAGES: usize = 64;
@@ -167,7 +168,8 @@ impl Soak {
     fn room(&self, random: &mut Random, whole: usize) -> usize {
         if random.one_in(ODD_ROOMS) {
             let any = random.between(0, LONGEST_BUFFER as usize);
-            return if random.one_in(4) { any } else { random.pick(&ROOMS) };
+            let short = [any, whole.saturating_sub(1), whole + 1];
+            return if random.one_in(4) { random.pick(&short) } else { random.pick(&ROOMS) };
         }
         self.buffer.unwrap_or(whole)
     }
@@ -192,12 +194,13 @@ impl Soak {
         self.session = None;
         self.count(&call, result.ok());
         let fresh = matches!(call, Call::Fresh);
+        let anew = matches!(call, Call::Restore { .. });
         self.calls.push(call);
         match result {
             Err(difference) => {
                 self.give_up(difference, self.start.clone(), self.calls.clone(), self.before.clone())
             }
-            Ok(_) if fresh => {
+            Ok(result) if fresh || (anew && result == 0) => {
                 self.start.copy_from_slice(self.pair.image());
                 self.calls.clear();
             }
@@ -319,6 +322,11 @@ impl Bench for Soak {
         LONGEST_SEEPROM
     }
 
+    fn move_across(&mut self, random: &mut Random, up: bool, saved: Vec<u8>) {
+        let call = if up { Call::MoveUp { saved, room: 0 } } else { Call::MoveDown { saved, room: 0 } };
+        self.call(random, call);
+    }
+
     fn give(&mut self, random: &mut Random, order: Order) {
         match order {
             Order::Occ { sender, command } => self.call(random, Call::Occ { sender, command, room: 0 }),
@@ -333,6 +341,8 @@ impl Bench for Soak {
             }
             Order::Time(microseconds) => self.call(random, Call::Time(microseconds)),
             Order::Watch => self.call(random, Call::Watch),
+            Order::Save => self.call(random, Call::Save { room: 0 }),
+            Order::Restore(saved) => self.call(random, Call::Restore { saved }),
             Order::Packet(packet) if packet.is_empty() => self.packets.clear(),
             Order::Packet(packet) => self.packets.push(packet),
             Order::Plan(wanted) => self.plans(random, wanted),

@@ -5,6 +5,7 @@ use second::bytes::hex;
 use second::c;
 use second::calls::{OCC_REPLY_LENGTH, SBE_REPLY_LENGTH};
 use second::plan::{MOST_PACKETS, SLOT};
+use second::save::{LONGEST_BASE, NEW_LENGTH};
 use std::rc::Rc;
 
 /// Image, request, reply, the SEEPROM's image, the second buffer.
@@ -23,6 +24,10 @@ pub struct Library {
     watch: fn(&mut [u8]) -> u32,
     plan: fn(&mut [u8], &[u8], u8, &mut [u8]) -> u32,
     plan_ok: fn(&mut [u8], &[u8], u8, &[u8]) -> u32,
+    save: fn(&mut [u8], &mut [u8]) -> u32,
+    restore: fn(&mut [u8], &[u8]) -> u32,
+    move_up: fn(&[u8], &mut [u8]) -> u32,
+    move_down: fn(&[u8], &mut [u8]) -> u32,
 }
 
 pub const PROVED: Library = Library {
@@ -37,6 +42,10 @@ pub const PROVED: Library = Library {
     watch: proved::watch,
     plan: proved::plan,
     plan_ok: proved::plan_ok,
+    save: proved::save,
+    restore: proved::restore,
+    move_up: proved::move_up,
+    move_down: proved::move_down,
 };
 pub const SECOND: Library = Library {
     fresh: c::fresh,
@@ -50,6 +59,10 @@ pub const SECOND: Library = Library {
     watch: c::watch,
     plan: c::plan,
     plan_ok: c::plan_ok,
+    save: c::save,
+    restore: c::restore,
+    move_up: c::move_up,
+    move_down: c::move_down,
 };
 
 /// All that a call's outcome hangs on beside the session; `room` is the length of the reply buffer.
@@ -88,10 +101,40 @@ pub enum Call {
         wanted: u8,
         order: Vec<u8>,
     },
+    Save {
+        room: usize,
+    },
+    Restore {
+        saved: Vec<u8>,
+    },
+    /// These two take no session.
+    MoveUp {
+        saved: Vec<u8>,
+        room: usize,
+    },
+    MoveDown {
+        saved: Vec<u8>,
+        room: usize,
+    },
 }
 
-pub const NAMES: [&str; 11] =
-    ["fresh", "occ", "sbe", "undo", "redo", "forget", "sbe_seeprom", "time", "watch", "plan", "plan_ok"];
+pub const NAMES: [&str; 15] = [
+    "fresh",
+    "occ",
+    "sbe",
+    "undo",
+    "redo",
+    "forget",
+    "sbe_seeprom",
+    "time",
+    "watch",
+    "plan",
+    "plan_ok",
+    "save",
+    "restore",
+    "move_up",
+    "move_down",
+];
 
 pub const SBE_SEEPROM: usize = 6;
 
@@ -119,7 +162,15 @@ impl Call {
             Call::Watch => 8,
             Call::Plan { .. } => 9,
             Call::PlanOk { .. } => 10,
+            Call::Save { .. } => 11,
+            Call::Restore { .. } => 12,
+            Call::MoveUp { .. } => 13,
+            Call::MoveDown { .. } => 14,
         }
+    }
+
+    pub fn name(&self) -> &'static str {
+        NAMES[self.number()]
     }
 
     /// The bytes that it is lent to read.
@@ -129,6 +180,7 @@ impl Call {
             | Call::Sbe { request: bytes, .. }
             | Call::SbeSeeprom { request: bytes, .. } => bytes,
             Call::Plan { packets, .. } | Call::PlanOk { packets, .. } => packets,
+            Call::Restore { saved } | Call::MoveUp { saved, .. } | Call::MoveDown { saved, .. } => saved,
             _ => &[],
         }
     }
@@ -139,7 +191,10 @@ impl Call {
             Call::Occ { room, .. }
             | Call::Sbe { room, .. }
             | Call::SbeSeeprom { room, .. }
-            | Call::Plan { room, .. } => *room,
+            | Call::Plan { room, .. }
+            | Call::Save { room }
+            | Call::MoveUp { room, .. }
+            | Call::MoveDown { room, .. } => *room,
             _ => 0,
         }
     }
@@ -149,7 +204,10 @@ impl Call {
             Call::Occ { room, .. }
             | Call::Sbe { room, .. }
             | Call::SbeSeeprom { room, .. }
-            | Call::Plan { room, .. } => *room = length,
+            | Call::Plan { room, .. }
+            | Call::Save { room }
+            | Call::MoveUp { room, .. }
+            | Call::MoveDown { room, .. } => *room = length,
             _ => {}
         }
     }
@@ -177,6 +235,8 @@ impl Call {
             Call::Occ { .. } => OCC_REPLY_LENGTH,
             Call::Sbe { .. } | Call::SbeSeeprom { .. } => SBE_REPLY_LENGTH,
             Call::Plan { .. } => MOST_PACKETS,
+            Call::Save { .. } | Call::MoveUp { .. } => NEW_LENGTH,
+            Call::MoveDown { .. } => LONGEST_BASE,
             _ => 0,
         }
     }
@@ -194,6 +254,10 @@ impl Call {
             Call::SbeSeeprom { .. } => (library.sbe_seeprom)(image, input, reply, second_input, data),
             Call::Plan { wanted, .. } => (library.plan)(image, input, *wanted, reply),
             Call::PlanOk { wanted, .. } => (library.plan_ok)(image, input, *wanted, second_input),
+            Call::Save { .. } => (library.save)(image, reply),
+            Call::Restore { .. } => (library.restore)(image, input),
+            Call::MoveUp { .. } => (library.move_up)(input, reply),
+            Call::MoveDown { .. } => (library.move_down)(input, reply),
             Call::Time(microseconds) => (library.time)(image, *microseconds),
             Call::Watch => (library.watch)(image),
         }
@@ -210,7 +274,13 @@ impl Call {
                 format!("{}# is {order:?} a plan for {wanted}? No line asks that", prepared(packets))
             }
             Call::Forget(count) => format!("forget {count}"),
-            Call::Fresh | Call::Undo | Call::Redo | Call::Watch => NAMES[self.number()].to_string(),
+            Call::Restore { saved } => format!("restore {}", hex(saved)),
+            Call::MoveUp { saved, .. } | Call::MoveDown { saved, .. } => {
+                format!("# {} of this save, as a program of that name does: {}", self.name(), hex(saved))
+            }
+            Call::Fresh | Call::Undo | Call::Redo | Call::Watch | Call::Save { .. } => {
+                self.name().to_string()
+            }
         }
     }
 }

@@ -1,9 +1,11 @@
 //! Times of the proved library and of this program on the same calls, in one run. The proved library takes a session as its image and
 //! updates it in place; this program is measured the same way, and also on its own session value. `--stack`: the stack that a call uses.
 use second::c;
+use second::calls::{NOT_WELL_FORMED, WONT_READ};
 use second::image::{self, IMAGE_LENGTH};
 use second::occ::command_packet;
 use second::plan::{slots, SLOT};
+use second::save::{self, NEW_LENGTH};
 use second::session::Session;
 use std::hint::black_box;
 use std::time::{Duration, Instant};
@@ -17,6 +19,8 @@ mod proved;
 const ROUNDS: usize = 7;
 const ROUND: Duration = Duration::from_millis(150);
 const HTMGT: u8 = 0x10;
+/// For a reply or a save, whichever is longer.
+const ROOM: usize = NEW_LENGTH;
 /// An image that is lent.
 static SEEPROM: [u8; 65536] = [0x5A; 65536];
 
@@ -32,6 +36,11 @@ enum Call {
     Plan(Vec<u8>),
     /// Is that order one?
     PlanOk(Vec<u8>, Vec<u8>),
+    Save,
+    Restore(Vec<u8>),
+    /// These two take no session.
+    MoveUp(Vec<u8>),
+    MoveDown(Vec<u8>),
     /// With all of `SEEPROM` lent.
     Seeprom(Vec<u8>),
     /// Back to where the calls started: made along, but not counted.
@@ -62,6 +71,10 @@ fn proved(image: &mut [u8], call: &Call, reply: &mut [u8]) -> u32 {
         Call::Watch => proved::watch(image),
         Call::Plan(packets) => proved::plan(image, packets, 3, &mut reply[..5]),
         Call::PlanOk(packets, order) => proved::plan_ok(image, packets, 3, order),
+        Call::Save => proved::save(image, reply),
+        Call::Restore(saved) => proved::restore(image, saved),
+        Call::MoveUp(saved) => proved::move_up(saved, reply),
+        Call::MoveDown(saved) => proved::move_down(saved, reply),
         Call::Seeprom(request) => {
             let (reply, data) = reply.split_at_mut(32);
             proved::sbe_seeprom(image, request, reply, &SEEPROM, data)
@@ -84,6 +97,19 @@ fn on_value(session: &mut Session, call: &Call, reply: &mut [u8]) -> u32 {
         Call::Watch => session.watch().into(),
         Call::Plan(packets) => c::with_plan(session.plan(packets, 3, &mut reply[..5])),
         Call::PlanOk(packets, order) => c::with_verdict(session.plan_ok(packets, 3, order)),
+        Call::Save if session.well_formed() => {
+            c::with_length(save::hand_out(&save::write_new(session), reply))
+        }
+        Call::Save => NOT_WELL_FORMED.into(),
+        Call::Restore(saved) => match save::read_new(saved) {
+            Some(saved) => {
+                *session = saved;
+                0
+            }
+            None => WONT_READ.into(),
+        },
+        Call::MoveUp(saved) => c::move_up(saved, reply),
+        Call::MoveDown(saved) => c::move_down(saved, reply),
         Call::Seeprom(request) => {
             let (reply, data) = reply.split_at_mut(32);
             let told = session.sbe_seeprom(request, reply, &SEEPROM, data);
@@ -107,6 +133,10 @@ fn on_image(image: &mut [u8], call: &Call, reply: &mut [u8]) -> u32 {
         Call::Watch => c::watch(image),
         Call::Plan(packets) => c::plan(image, packets, 3, &mut reply[..5]),
         Call::PlanOk(packets, order) => c::plan_ok(image, packets, 3, order),
+        Call::Save => c::save(image, reply),
+        Call::Restore(saved) => c::restore(image, saved),
+        Call::MoveUp(saved) => c::move_up(saved, reply),
+        Call::MoveDown(saved) => c::move_down(saved, reply),
         Call::Seeprom(request) => {
             let (reply, data) = reply.split_at_mut(32);
             c::sbe_seeprom(image, request, reply, &SEEPROM, data)
@@ -121,7 +151,7 @@ fn on_image(image: &mut [u8], call: &Call, reply: &mut [u8]) -> u32 {
 /// An active master with caps, from fresh.
 fn brought_up() -> Session {
     let mut session = Session::fresh();
-    let mut reply = vec![0; 4096];
+    let mut reply = vec![0; ROOM];
     let sets = throttle_sets();
     for (kind, data) in [
         (0x21, vec![0x03, 1]),
@@ -156,7 +186,7 @@ fn repeated_pair() -> Vec<u8> {
 /// From fresh, that many times set to standby: an entry of two bytes each.
 fn with_entries(count: usize) -> Session {
     let mut session = Session::fresh();
-    let mut reply = vec![0; 4096];
+    let mut reply = vec![0; ROOM];
     for _ in 0..count {
         session.occ(HTMGT, &command_packet(1, 0x20, &[0, 1, 0]), &mut reply);
         assert_eq!(reply[2], 0, "set state was refused");
@@ -173,7 +203,7 @@ fn watched() -> Session {
 
 fn after(before: &Session, kind: u8, data: &[u8]) -> Session {
     let mut session = before.clone();
-    session.occ(HTMGT, &command_packet(1, kind, data), &mut [0; 4096]);
+    session.occ(HTMGT, &command_packet(1, kind, data), &mut [0; ROOM]);
     session
 }
 
@@ -268,6 +298,21 @@ fn works() -> Vec<Work> {
     works.push(work("plan: a bring-up of five, turned round", &fresh, vec![Call::Plan(bring_up_packets())]));
     let proposal = Call::PlanOk(bring_up_packets(), vec![5, 3, 4, 2, 1]);
     works.push(work("plan_ok: the same, proposed", &fresh, vec![proposal]));
+    // Saves, and the way back and across: a session that is restored is the one that was there.
+    for (saved, restored, start) in [
+        ("save, 1 entry", "restore, 1 entry", with_entries(1)),
+        ("save, 1,000 entries", "restore, 1,000 entries", full.clone()),
+    ] {
+        works.push(work(saved, &start, vec![Call::Save]));
+        works.push(work(restored, &start, vec![Call::Restore(save::write_new(&start))]));
+    }
+    for (moved_up, moved_down, start) in [
+        ("move up, 1 entry", "move down, 1 entry", with_entries(1)),
+        ("move up, 1,000 entries", "move down, 1,000 entries", full.clone()),
+    ] {
+        works.push(work(moved_up, &fresh, vec![Call::MoveUp(save::write_base(&start))]));
+        works.push(work(moved_down, &fresh, vec![Call::MoveDown(save::write_new(&start))]));
+    }
     // Forgetting and opening don't lead back, so the session is copied back each time; the time has that copy in it.
     for (name, call) in [
         ("forget 1 of 1,000 entries, copied back", Call::Forget(1)),
@@ -284,7 +329,7 @@ fn works() -> Vec<Work> {
 fn work(name: &'static str, before: &Session, calls: Vec<Call>) -> Work {
     let mut start = before.clone();
     for call in &calls {
-        on_value(&mut start, call, &mut [0; 4096]);
+        on_value(&mut start, call, &mut [0; ROOM]);
     }
     Work { name, start, calls }
 }
@@ -294,7 +339,7 @@ fn check(work: &Work) {
     let start = image::write(&work.start);
     let (mut ours, mut theirs) = (start.clone(), start.clone());
     for call in &work.calls {
-        let (mut r, mut q) = (vec![0xEE; 4096], vec![0xEE; 4096]);
+        let (mut r, mut q) = (vec![0xEE; ROOM], vec![0xEE; ROOM]);
         assert_eq!(
             on_image(&mut ours, call, &mut r),
             proved(&mut theirs, call, &mut q),
@@ -350,7 +395,7 @@ fn times() {
     for work in works() {
         check(&work);
         let start = image::write(&work.start);
-        let (mut lent, mut reply) = (start.clone(), vec![0; 4096]);
+        let (mut lent, mut reply) = (start.clone(), vec![0; ROOM]);
         let a = time(&work.calls, |c| {
             black_box(proved(black_box(&mut lent), black_box(c), &mut reply));
         });
@@ -389,11 +434,15 @@ fn stacks() {
         ("undo", capped, Call::Undo),
         ("redo", undone, Call::Redo),
         ("plan: a bring-up of five, turned round", Session::fresh(), Call::Plan(bring_up_packets())),
+        ("save", full.clone(), Call::Save),
+        ("restore", full.clone(), Call::Restore(save::write_new(&full))),
+        ("move_up", full.clone(), Call::MoveUp(save::write_base(&full))),
+        ("move_down", full.clone(), Call::MoveDown(save::write_new(&full))),
         ("forget: 500 of 1,000 entries", full.clone(), Call::Forget(500)),
         ("watch: over 1,000 entries", full, Call::Watch),
     ] {
         let used = |make: fn(&mut [u8], &Call, &mut [u8]) -> u32| {
-            let (mut image, mut reply) = (image::write(&start), [0; 4096]);
+            let (mut image, mut reply) = (image::write(&start), [0; ROOM]);
             assert_eq!(make(&mut image.clone(), &call, &mut reply) & 0xFF, 0, "{name}: refused");
             stack::used_by(|| {
                 black_box(make(black_box(&mut image), black_box(&call), black_box(&mut reply)));

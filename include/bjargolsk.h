@@ -8,11 +8,12 @@
  * result nor of the bytes in them.
  *
  * A call that changes nothing writes nothing to the session: polls, SBE requests that make no entry (D1 02, D3 01, D7 03), error replies, every answer
- * but 0, plans and their checks. That its bytes stay is proved; that nothing is stored at all is tried, on memory that can't be written
- * (examples/c/edges.c). Polls and plans may so share a session; a call that changes it needs it alone, and so do forgetting no changes, which stores the
- * bytes that stand there, every time report, and opening a watch-only session again over one.
+ * but 0, plans and their checks, saves. That its bytes stay is proved; that nothing is stored at all is tried, on memory that can't be written
+ * (examples/c/edges.c). Polls, plans and saves may so share a session; a call that changes it needs it alone, and so do forgetting no changes, which stores the
+ * bytes that stand there, every time report, opening a watch-only session again over one, and restoring.
  *
- * The archive takes memcpy and memset from the C library, or from you, and nothing else. A call takes under 4 KB of stack.
+ * The archive takes memcpy and memset from the C library, or from you, and nothing else. A call takes under 4 KB of stack; to restore a save and to
+ * move one up or down, which work on an image of their own, under 12 KB.
  *
  * On x86-64 valgrind finds nothing. In the archive that tools/native-archive makes for Arm it was seen to report a conditional jump on uninitialised
  * bytes after an accepted D1 03: the compiler merged two compares, and the result depends on neither of those bytes.
@@ -33,7 +34,10 @@
  *   8  nothing to redo
  *   9  fewer changes are held than are to be forgotten
  *  10  more than five packets for a plan, or a wanted state other than 2 and 3
- * After any answer but 0 the session, the reply buffer, the buffer for data and the one for an order hold the bytes that they held before.
+ *  11  a saved session won't read or is ill formed; one in the base version's form by the rule of thresholds of that version
+ *  12  a saved session can't go down: the base version has no form for it
+ *  13  the buffer for a saved session is too short
+ * After any answer but 0 the session and every buffer that is lent to be written hold the bytes that they held before.
  *
  * The doorbell is a number of 16 bits, bit 0 the most significant: 0x8000 response (bit 0), 0x4000 acknowledge (bit 1), 0x0002 the timer has expired
  * (bit 14). The first two are rung by SBE calls as the request's flags ask, with every answer 0, whatever the status; the third by a time report.
@@ -49,7 +53,7 @@ extern "C" {
 #endif
 
 /* Goes up with every change of a function, a constant or the image's bytes. */
-#define BJARGOLSK_VERSION 6
+#define BJARGOLSK_VERSION 7
 
 enum {
     BJARGOLSK_SESSION = 4411, /* the image's length */
@@ -57,6 +61,8 @@ enum {
     BJARGOLSK_SBE_REPLY = 32,
     BJARGOLSK_SLOT = 4096, /* the place of a packet among those for a plan */
     BJARGOLSK_ORDER = 5, /* the longest plan */
+    BJARGOLSK_SAVED = 4409, /* a saved session's length */
+    BJARGOLSK_BASE_SAVED = 2280, /* the longest of the base version; the shortest has 232 */
     BJARGOLSK_HTMGT = 0x10,
     BJARGOLSK_BMC = 0x20
 };
@@ -148,6 +154,28 @@ uint32_t bjargolsk_plan(const uint8_t *session, size_t session_length, const uin
  * number that names no packet, or comes twice, makes it none. Answers 0, 1 and 10. */
 uint32_t bjargolsk_plan_ok(const uint8_t *session, size_t session_length, const uint8_t *packets, size_t packets_length, uint8_t wanted,
                            const uint8_t *order, size_t order_length);
+
+/* Writes the session in the form for keeping, BJARGOLSK_SAVED bytes (docs/SAVES.md); the buffer past them is kept. An image is bytes to work on, and
+ * another version may have another one; the form for keeping is what later versions take. Used lengths and what is worked out aren't in it. Answers 0, 1 and
+ * 13, tested in the order 1, 13; the high 16 bits are the number of bytes written. */
+uint32_t bjargolsk_save(const uint8_t *session, size_t session_length, uint8_t *out, size_t out_length);
+
+/* Makes the session the one that was saved, journal, what can be redone, timer and profile too. The bytes need not be a session before. Answers 0; 1 if the
+ * session isn't BJARGOLSK_SESSION bytes long; then 11 if the save isn't BJARGOLSK_SAVED bytes long, doesn't read as its parts, or its session isn't well
+ * formed. Nothing stands beside the answer. */
+uint32_t bjargolsk_restore(uint8_t *session, size_t session_length, const uint8_t *saved, size_t saved_length);
+
+/* Writes a session that the base version saved (record, next id, used journal) in the form for keeping: nothing can be redone, the profile is full, the
+ * timer off, and the marks are worked out. Answers 0; 11 if it won't read or isn't a session that the base version holds to be well formed: thresholds by its
+ * rule, DVFS at most ERROR even where one is 0xFF, now and in the journal; then 13. The high 16 bits are the number of bytes written, BJARGOLSK_SAVED; the
+ * buffer past them is kept. Neither this nor the next function takes a session. */
+uint32_t bjargolsk_move_up(const uint8_t *saved, size_t saved_length, uint8_t *out, size_t out_length);
+
+/* Writes a saved session in the base version's form. Answers 0; 11 as bjargolsk_restore; 12 if something can be redone, the profile is watch-only, the
+ * timer runs, the journal has an entry of the timer (kind 0x0C), or a threshold, now or in the journal, is one that the base version's rule forbids; then
+ * 13. The high 16 bits are the number of bytes written: 232 and those of the used journal, BJARGOLSK_BASE_SAVED at most; the buffer past them is kept. Up
+ * and then down gives the same bytes, and so does down and then up. */
+uint32_t bjargolsk_move_down(const uint8_t *saved, size_t saved_length, uint8_t *out, size_t out_length);
 
 #ifdef __cplusplus
 }

@@ -2,7 +2,7 @@
 
 /// As in bjargolsk.h: goes up with every change of a function, a constant or the image's bytes.
 #[allow(dead_code)]
-pub const BJARGOLSK_VERSION: u32 = 6;
+pub const BJARGOLSK_VERSION: u32 = 7;
 /// The image's length.
 #[allow(dead_code)]
 pub const BJARGOLSK_SESSION: usize = 4411;
@@ -61,4 +61,14 @@ extern "C" {
         order: *const u8,
         order_length: usize,
     ) -> u32;
+    pub fn bjargolsk_save(session: *const u8, session_length: usize, out: *mut u8, out_length: usize) -> u32;
+    pub fn bjargolsk_restore(
+        session: *mut u8,
+        session_length: usize,
+        saved: *const u8,
+        saved_length: usize,
+    ) -> u32;
+    pub fn bjargolsk_move_up(saved: *const u8, saved_length: usize, out: *mut u8, out_length: usize) -> u32;
+    pub fn bjargolsk_move_down(saved: *const u8, saved_length: usize, out: *mut u8, out_length: usize)
+        -> u32;
 }

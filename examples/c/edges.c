@@ -1,5 +1,5 @@
 /* What bjargolsk.h says of its callers' buffers, tried: any alignment, NULL with length 0, sessions that calls which change nothing leave unwritten, watch-only ones too, data that a
- * read of the SEEPROM gives and what it keeps, orders that plans write, proposals. */
+ * read of the SEEPROM gives and what it keeps, orders that plans write, proposals, saves. */
 #define _DEFAULT_SOURCE /* mmap's MAP_ANONYMOUS */
 #include <stdio.h>
 #include <sys/mman.h>
@@ -15,6 +15,7 @@ static const uint8_t read_request[BJARGOLSK_SBE_REPLY] = {0, 0, 1, 0, 0, 1, 0xD7
 static uint8_t reply[BJARGOLSK_OCC_REPLY + 64];
 static uint8_t image[24 + 64], data[17 + 64];
 static uint8_t packets[6 * BJARGOLSK_SLOT + 64], order[6 + 64];
+static uint8_t saved[BJARGOLSK_SAVED + 64], moved[BJARGOLSK_SAVED + 1 + 64];
 static int failures;
 
 static void expect(const char *what, uint32_t result, uint32_t answer)
@@ -68,7 +69,7 @@ static void reads(uint8_t *session, size_t shift)
     }
 }
 
-static void expect_plan(const char *what, uint32_t result, uint32_t due)
+static void expect_result(const char *what, uint32_t result, uint32_t due)
 {
     if (result != due) {
         printf("%s: result %X, not %X\n", what, (unsigned)result, (unsigned)due);
@@ -108,7 +109,7 @@ static void plans(const uint8_t *session, size_t shift)
         for (unsigned wanted = 2; wanted <= 3; wanted++) {
             for (size_t i = 0; i < sizeof order; i++)
                 order[i] = 0xEE;
-            expect_plan("plan, any alignment", plan(session, shift, 3 * BJARGOLSK_SLOT, wanted, room), room < 5 ? 3 : wanted == 2 ? 0x30100 : 0);
+            expect_result("plan, any alignment", plan(session, shift, 3 * BJARGOLSK_SLOT, wanted, room), room < 5 ? 3 : wanted == 2 ? 0x30100 : 0);
             for (size_t i = 0; i < sizeof order; i++)
                 if (order[i] != (room >= 5 && wanted == 2 && i >= shift && i < shift + 3 ? due[i - shift] : 0xEE)) {
                     printf("plan for %u, order of %u at %u: byte %u is %02X\n", wanted, (unsigned)room, (unsigned)shift, (unsigned)i, order[i]);
@@ -123,22 +124,73 @@ static void planned(const uint8_t *session)
     static const uint8_t least[] = {2, 3, 1}, other[] = {3, 2, 1}, zero[] = {0, 2, 3, 1}, six[] = {2, 3, 1, 6}, twice[] = {2, 3, 3, 1}, early[] = {1, 2, 3};
     static const uint8_t longer[] = {2, 3, 1, 2, 3, 1};
     prepare(0);
-    expect_plan("plan, read-only", plan(session, 0, 3 * BJARGOLSK_SLOT, 2, 5), 0x30100);
-    expect_plan("no plan, read-only", plan(session, 0, 3 * BJARGOLSK_SLOT, 3, 5), 0);
-    expect_plan("plan with the state cut", plan(session, 0, 8, 2, 5), 0);
-    expect_plan("five packets", plan(session, 0, 5 * BJARGOLSK_SLOT, 2, 5), 0x30100);
-    expect_plan("a sixth of one byte", plan(session, 0, 5 * BJARGOLSK_SLOT + 1, 2, 5), 10);
-    expect_plan("six packets, short order", plan(session, 0, 6 * BJARGOLSK_SLOT, 2, 4), 10);
-    expect_plan("state 1, short order", plan(session, 0, 0, 1, 4), 10);
-    expect_plan("state 255", plan(session, 0, 0, 255, 5), 10);
-    expect_plan("proposal", check(session, least, sizeof least), 0x100);
-    expect_plan("another proposal", check(session, other, sizeof other), 0x100);
-    expect_plan("proposal with 0", check(session, zero, sizeof zero), 0);
-    expect_plan("proposal with 6", check(session, six, sizeof six), 0);
-    expect_plan("proposal with 3 twice", check(session, twice, sizeof twice), 0);
-    expect_plan("proposal with the state first", check(session, early, sizeof early), 0);
-    expect_plan("proposal of six", check(session, longer, sizeof longer), 0);
-    expect_plan("empty proposal", check(session, NULL, 0), 0);
+    expect_result("plan, read-only", plan(session, 0, 3 * BJARGOLSK_SLOT, 2, 5), 0x30100);
+    expect_result("no plan, read-only", plan(session, 0, 3 * BJARGOLSK_SLOT, 3, 5), 0);
+    expect_result("plan with the state cut", plan(session, 0, 8, 2, 5), 0);
+    expect_result("five packets", plan(session, 0, 5 * BJARGOLSK_SLOT, 2, 5), 0x30100);
+    expect_result("a sixth of one byte", plan(session, 0, 5 * BJARGOLSK_SLOT + 1, 2, 5), 10);
+    expect_result("six packets, short order", plan(session, 0, 6 * BJARGOLSK_SLOT, 2, 4), 10);
+    expect_result("state 1, short order", plan(session, 0, 0, 1, 4), 10);
+    expect_result("state 255", plan(session, 0, 0, 255, 5), 10);
+    expect_result("proposal", check(session, least, sizeof least), 0x100);
+    expect_result("another proposal", check(session, other, sizeof other), 0x100);
+    expect_result("proposal with 0", check(session, zero, sizeof zero), 0);
+    expect_result("proposal with 6", check(session, six, sizeof six), 0);
+    expect_result("proposal with 3 twice", check(session, twice, sizeof twice), 0);
+    expect_result("proposal with the state first", check(session, early, sizeof early), 0);
+    expect_result("proposal of six", check(session, longer, sizeof longer), 0);
+    expect_result("empty proposal", check(session, NULL, 0), 0);
+}
+
+/* With a byte too few (answer 13) all is kept, with one more the byte past it; which bytes are written, the way up and down tells. */
+static void kept_past(const char *what, size_t shift, size_t length)
+{
+    for (size_t i = 0; i < sizeof moved; i++)
+        if ((i < shift || i >= shift + length) && moved[i] != 0xEE) {
+            printf("%s at %u: byte %u is %02X\n", what, (unsigned)shift, (unsigned)i, moved[i]);
+            failures++;
+        }
+    for (size_t i = 0; i < sizeof moved; i++)
+        moved[i] = 0xEE;
+}
+
+static void saves(uint8_t *session, size_t shift)
+{
+    uint8_t *from = saved + shift, *to = moved + shift;
+    kept_past("before", 0, sizeof moved);
+    for (size_t more = 0; more <= 2; more++) {
+        size_t due = more == 0 ? 0 : BJARGOLSK_SAVED, base = more == 0 ? 0 : 232;
+        uint32_t answer = more == 0 ? 13 : 0;
+        expect_result("save, any alignment", bjargolsk_save(session, BJARGOLSK_SESSION, to, BJARGOLSK_SAVED - 1 + more), (uint32_t)due << 16 | answer);
+        kept_past("save", shift, due);
+        expect("save to move", bjargolsk_save(session, BJARGOLSK_SESSION, from, BJARGOLSK_SAVED), 0);
+        expect_result("down, any alignment", bjargolsk_move_down(from, BJARGOLSK_SAVED, to, 231 + more), (uint32_t)base << 16 | answer);
+        kept_past("down", shift, base);
+        expect("base to move", bjargolsk_move_down(from, BJARGOLSK_SAVED, to, 232), 0);
+        for (size_t i = 0; i < 232; i++)
+            from[i] = to[i];
+        kept_past("down again", shift, 232);
+        expect_result("up, any alignment", bjargolsk_move_up(from, 232, to, BJARGOLSK_SAVED - 1 + more), (uint32_t)due << 16 | answer);
+        if (more != 0)
+            expect("restore, any alignment", bjargolsk_restore(session, BJARGOLSK_SESSION, to, BJARGOLSK_SAVED), 0);
+        kept_past("up", shift, due);
+    }
+}
+
+/* On a page that can't be written: saves, and refusals of a restore. The order is 1, 13; 1, 11; 11, 12, 13. A timer that runs can't go down. */
+static void kept(uint8_t *session)
+{
+    expect_result("save, read-only", bjargolsk_save(session, BJARGOLSK_SESSION, saved, BJARGOLSK_SAVED), (uint32_t)BJARGOLSK_SAVED << 16);
+    expect("save, no session, no room", bjargolsk_save(session, BJARGOLSK_SESSION - 1, NULL, 0), 1);
+    expect("restore, short session, short save", bjargolsk_restore(session, BJARGOLSK_SESSION - 1, saved, BJARGOLSK_SAVED - 1), 1);
+    expect("restore, short, read-only", bjargolsk_restore(session, BJARGOLSK_SESSION, saved, BJARGOLSK_SAVED - 1), 11);
+    expect("restore, long, read-only", bjargolsk_restore(session, BJARGOLSK_SESSION, saved, BJARGOLSK_SAVED + 1), 11);
+    saved[4400] = 1;
+    expect("down with a timer, no room", bjargolsk_move_down(saved, BJARGOLSK_SAVED, NULL, 0), 12);
+    saved[0] = 2;
+    expect("restore, damaged, read-only", bjargolsk_restore(session, BJARGOLSK_SESSION, saved, BJARGOLSK_SAVED), 11);
+    expect("down, damaged, with a timer, no room", bjargolsk_move_down(saved, BJARGOLSK_SAVED, NULL, 0), 11);
+    expect("up of a new form, no room", bjargolsk_move_up(saved, BJARGOLSK_SAVED, NULL, 0), 11);
 }
 
 static void nulls(uint8_t *session)
@@ -164,6 +216,12 @@ static void nulls(uint8_t *session)
     expect("plan, no order", bjargolsk_plan(session, BJARGOLSK_SESSION, NULL, 0, 2, NULL, 0), 3);
     expect("check, no session", bjargolsk_plan_ok(NULL, 0, NULL, 0, 2, NULL, 0), 1);
     expect("check, no packets, no order", bjargolsk_plan_ok(session, BJARGOLSK_SESSION, NULL, 0, 2, NULL, 0), 0);
+    expect("save, no session", bjargolsk_save(NULL, 0, saved, BJARGOLSK_SAVED), 1);
+    expect("save, no room", bjargolsk_save(session, BJARGOLSK_SESSION, NULL, 0), 13);
+    expect("restore, no session, no save", bjargolsk_restore(NULL, 0, NULL, 0), 1);
+    expect("restore, no save", bjargolsk_restore(session, BJARGOLSK_SESSION, NULL, 0), 11);
+    expect("up, no save, no room", bjargolsk_move_up(NULL, 0, NULL, 0), 11);
+    expect("down, no save, no room", bjargolsk_move_down(NULL, 0, NULL, 0), 11);
 }
 
 /* On a page that can't be written: a call that wrote would end the program. */
@@ -242,6 +300,7 @@ int main(void)
         expect("time, any alignment", bjargolsk_time(pages + shift, BJARGOLSK_SESSION, 1), 0);
         reads(pages + shift, shift);
         plans(pages + shift, shift);
+        saves(pages + shift, shift);
         expect("watch, any alignment", bjargolsk_watch(pages + shift, BJARGOLSK_SESSION), 0);
     }
     bjargolsk_fresh(pages, BJARGOLSK_SESSION);
@@ -253,5 +312,6 @@ int main(void)
     mprotect(pages, ROOM, PROT_READ);
     unwritten(pages);
     planned(pages);
+    kept(pages);
     return failures != 0;
 }

@@ -1,5 +1,6 @@
 /* A master OCC brought up and capped; changes taken back, one step too far, and one put in again; a cap that is too high; the oldest changes forgotten; the
- * SBE's timer; a part of its SEEPROM read; a session that can only be watched; a plan for a bring-up. */
+ * SBE's timer; a part of its SEEPROM read; a session that can only be watched; a plan for a bring-up; a session
+ * saved, moved to the base version's form and back, and restored. */
 #include <stdio.h>
 
 #include "bjargolsk.h"
@@ -123,6 +124,21 @@ static void check(unsigned wanted, const uint8_t *proposal, size_t length)
     printf(": answer %u %s\n", (unsigned)BJARGOLSK_ANSWER(result), BJARGOLSK_PLANNED(result) ? "accepted" : "not accepted");
 }
 
+/* The session in the form for keeping, twice, and in the base version's. */
+static uint8_t saved[BJARGOLSK_SAVED], again[BJARGOLSK_SAVED], base[BJARGOLSK_BASE_SAVED];
+
+static size_t moved(const char *name, uint32_t result)
+{
+    printf("%s: answer %u bytes %u\n", name, (unsigned)BJARGOLSK_ANSWER(result), (unsigned)BJARGOLSK_HIGH(result));
+    return BJARGOLSK_HIGH(result);
+}
+
+static void restore(void)
+{
+    uint32_t result = bjargolsk_restore(session, sizeof session, saved, sizeof saved);
+    printf("restore: answer %u\n", (unsigned)BJARGOLSK_ANSWER(result));
+}
+
 int main(void)
 {
     static const uint8_t poll[] = {0x10};
@@ -203,5 +219,20 @@ int main(void)
         sent("planned", BJARGOLSK_HTMGT, packets + (order[i] - 1) * BJARGOLSK_SLOT, BJARGOLSK_SLOT);
     plan(3);
     plan(4);
+    /* Saved, and the state taken back. It could be redone, and the base version has no place for that: saved now, the session can't go down. The first save can,
+     * and up again it has the same bytes; cut by a byte it won't read. Restored, the state is active again. */
+    moved("save", bjargolsk_save(session, sizeof session, saved, sizeof saved));
+    undo();
+    moved("save", bjargolsk_save(session, sizeof session, again, sizeof again));
+    moved("move down", bjargolsk_move_down(again, sizeof again, base, sizeof base));
+    size_t length = moved("move down", bjargolsk_move_down(saved, sizeof saved, base, sizeof base));
+    moved("move up", bjargolsk_move_up(base, length, again, sizeof again));
+    size_t same = 0;
+    while (same < sizeof saved && saved[same] == again[same])
+        same++;
+    printf("same: bytes %u\n", (unsigned)same);
+    moved("move up", bjargolsk_move_up(base, length - 1, again, sizeof again));
+    restore();
+    occ("poll", BJARGOLSK_BMC, 0x00, poll, sizeof poll);
     return 0;
 }

@@ -1,5 +1,6 @@
 """A master OCC brought up and capped; changes taken back, one step too far, and one put in again; a cap that is too high; the oldest changes forgotten; the
-SBE's timer; a part of its SEEPROM read; a session that can only be watched; a plan for a bring-up.
+SBE's timer; a part of its SEEPROM read; a session that can only be watched; a plan for a bring-up; a session saved, moved to the base version's form and back,
+and restored.
 
 usage: python3 main.py LIBRARY, the shared object that is made from the archive
 """
@@ -9,6 +10,7 @@ import sys
 HTMGT, BMC = 0x10, 0x20
 SESSION = 4411  # BJARGOLSK_SESSION of bjargolsk.h
 SLOT, ORDER = 4096, 5  # BJARGOLSK_SLOT, BJARGOLSK_ORDER
+SAVED, BASE_SAVED = 4409, 2280  # BJARGOLSK_SAVED, BJARGOLSK_BASE_SAVED
 
 
 def load(path):
@@ -26,7 +28,11 @@ def load(path):
     lib.bjargolsk_watch.argtypes = buffer
     lib.bjargolsk_plan.argtypes = buffer + buffer + [ctypes.c_uint8] + buffer
     lib.bjargolsk_plan_ok.argtypes = buffer + buffer + [ctypes.c_uint8] + buffer
-    for name in ("fresh", "occ", "sbe", "sbe_seeprom", "time", "undo", "redo", "forget", "watch", "plan", "plan_ok"):
+    lib.bjargolsk_save.argtypes = buffer + buffer
+    lib.bjargolsk_restore.argtypes = buffer + buffer
+    lib.bjargolsk_move_up.argtypes = buffer + buffer
+    lib.bjargolsk_move_down.argtypes = buffer + buffer
+    for name in ("fresh", "occ", "sbe", "sbe_seeprom", "time", "undo", "redo", "forget", "watch", "plan", "plan_ok", "save", "restore", "move_up", "move_down"):
         getattr(lib, "bjargolsk_" + name).restype = ctypes.c_uint32
     return lib
 
@@ -112,6 +118,28 @@ class Bench:
         told = "accepted" if result >> 8 & 0xFF else "not accepted"
         print("proposal%s: answer %d %s" % ("".join(" %d" % n for n in proposal), result & 0xFF, told))
 
+    def save(self):
+        out = ctypes.create_string_buffer(SAVED)
+        return moved("save", self.lib.bjargolsk_save(self.session, SESSION, out, SAVED), out)
+
+    def restore(self, saved):
+        result = self.lib.bjargolsk_restore(self.session, SESSION, saved, len(saved))
+        print("restore: answer %d" % (result & 0xFF))
+
+    def move_up(self, saved):
+        out = ctypes.create_string_buffer(SAVED)
+        return moved("move up", self.lib.bjargolsk_move_up(saved, len(saved), out, SAVED), out)
+
+    def move_down(self, saved):
+        out = ctypes.create_string_buffer(BASE_SAVED)
+        return moved("move down", self.lib.bjargolsk_move_down(saved, len(saved), out, BASE_SAVED), out)
+
+
+def moved(name, result, out):
+    """Of a saved session: the bytes that were written."""
+    print("%s: answer %d bytes %d" % (name, result & 0xFF, result >> 16))
+    return out.raw[:result >> 16]
+
 
 def main():
     if len(sys.argv) != 2:
@@ -181,6 +209,17 @@ def main():
         bench.sent("planned", HTMGT, packets[(number - 1) * SLOT:number * SLOT])
     bench.plan(packets, 3)
     bench.plan(packets, 4)
+    # Saved, and the state taken back. It could be redone, and the base version has no place for that: saved now, the session can't go down. The first save can,
+    # and up again it has the same bytes; cut by a byte it won't read. Restored, the state is active again.
+    saved = bench.save()
+    bench.undo()
+    bench.move_down(bench.save())
+    base = bench.move_down(saved)
+    again = bench.move_up(base)
+    print("same: bytes %d" % (len(saved) if again == saved else 0))
+    bench.move_up(base[:-1])
+    bench.restore(saved)
+    bench.occ("poll", BMC, 0x00, [0x10])
 
 
 main()

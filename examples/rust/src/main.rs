@@ -1,5 +1,6 @@
 //! A master OCC brought up and capped; changes taken back, one step too far, and one put in again; a cap that is too high; the oldest changes forgotten; the
-//! SBE's timer; a part of its SEEPROM read; a session that can only be watched; a plan for a bring-up.
+//! SBE's timer; a part of its SEEPROM read; a session that can only be watched; a plan for a bring-up; a session saved, moved to the base version's form and back,
+//! and restored.
 
 #[path = "../../../include/bjargolsk.rs"]
 mod ffi;
@@ -7,6 +8,8 @@ mod ffi;
 const HTMGT: u8 = 0x10;
 const BMC: u8 = 0x20;
 const SLOT: usize = 4096;
+const SAVED: usize = 4409;
+const BASE_SAVED: usize = 2280;
 
 /// A session's image, and the buffer for replies.
 struct Bench {
@@ -200,6 +203,53 @@ impl Bench {
         };
         println!("proposal{}: answer {answer} {told}", listed(proposal));
     }
+
+    fn save(&self) -> Vec<u8> {
+        let mut out = vec![0; SAVED];
+        let result = unsafe {
+            ffi::bjargolsk_save(
+                self.session.as_ptr(),
+                self.session.len(),
+                out.as_mut_ptr(),
+                out.len(),
+            )
+        };
+        moved("save", result, out)
+    }
+
+    fn restore(&mut self, saved: &[u8]) {
+        let result = unsafe {
+            ffi::bjargolsk_restore(
+                self.session.as_mut_ptr(),
+                self.session.len(),
+                saved.as_ptr(),
+                saved.len(),
+            )
+        };
+        println!("restore: answer {}", result & 0xFF);
+    }
+}
+
+fn move_up(saved: &[u8]) -> Vec<u8> {
+    let mut out = vec![0; SAVED];
+    let result =
+        unsafe { ffi::bjargolsk_move_up(saved.as_ptr(), saved.len(), out.as_mut_ptr(), out.len()) };
+    moved("move up", result, out)
+}
+
+fn move_down(saved: &[u8]) -> Vec<u8> {
+    let mut out = vec![0; BASE_SAVED];
+    let result = unsafe {
+        ffi::bjargolsk_move_down(saved.as_ptr(), saved.len(), out.as_mut_ptr(), out.len())
+    };
+    moved("move down", result, out)
+}
+
+/// Of a saved session: the bytes that were written.
+fn moved(name: &str, result: u32, mut out: Vec<u8>) -> Vec<u8> {
+    println!("{name}: answer {} bytes {}", result & 0xFF, result >> 16);
+    out.truncate((result >> 16) as usize);
+    out
 }
 
 fn listed(numbers: &[u8]) -> String {
@@ -303,4 +353,18 @@ fn main() {
     }
     bench.plan(&packets, 3);
     bench.plan(&packets, 4);
+    // Saved, and the state taken back. It could be redone, and the base version has no place for that: saved now, the session can't go down. The first save can,
+    // and up again it has the same bytes; cut by a byte it won't read. Restored, the state is active again.
+    let saved = bench.save();
+    bench.undo();
+    move_down(&bench.save());
+    let base = move_down(&saved);
+    let again = move_up(&base);
+    println!(
+        "same: bytes {}",
+        if again == saved { saved.len() } else { 0 }
+    );
+    move_up(&base[..base.len() - 1]);
+    bench.restore(&saved);
+    bench.occ("poll", BMC, 0x00, &[0x10]);
 }

@@ -12,8 +12,8 @@
  * (examples/c/edges.c). Polls, plans and saves may so share a session; a call that changes it needs it alone, and so do forgetting no changes, which stores the
  * bytes that stand there, every time report, opening a watch-only session again over one, and restoring.
  *
- * The archive takes memcpy and memset from the C library, or from you, and nothing else. A call takes under 4 KB of stack; to restore a save and to
- * move one up or down, which work on an image of their own, under 12 KB.
+ * The archive takes memcpy, memmove and memset from the C library, or from you, and nothing else. A call takes under 4 KB of stack; a restore, and a
+ * save moved up or down, under 12 KB.
  *
  * On x86-64 valgrind finds nothing. In the archive that tools/native-archive makes for Arm it was seen to report a conditional jump on uninitialised
  * bytes after an accepted D1 03: the compiler merged two compares, and the result depends on neither of those bytes.
@@ -24,7 +24,7 @@
  *   1  the session isn't BJARGOLSK_SESSION bytes long, or isn't well formed
  *   2  the OCC sender is neither BJARGOLSK_HTMGT nor BJARGOLSK_BMC
  *   3  the reply buffer is too short: under BJARGOLSK_OCC_REPLY or BJARGOLSK_SBE_REPLY bytes; or a plan's buffer for the order is under
- *      BJARGOLSK_ORDER bytes
+ *      BJARGOLSK_ORDER bytes; or the one for where two traces part under BJARGOLSK_PART
  *   4  the command is too short: under 4 bytes for the OCC, under 32 for the SBE
  *   5  the journal has no room for the change
  *   6  nothing to undo
@@ -61,6 +61,7 @@ enum {
     BJARGOLSK_SBE_REPLY = 32,
     BJARGOLSK_SLOT = 4096, /* the place of a packet among those for a plan */
     BJARGOLSK_ORDER = 5, /* the longest plan */
+    BJARGOLSK_PART = 118, /* the longest text of where two traces part */
     BJARGOLSK_SAVED = 4409, /* a saved session's length */
     BJARGOLSK_BASE_SAVED = 2280, /* the longest of the base version; the shortest has 232 */
     BJARGOLSK_HTMGT = 0x10,
@@ -176,6 +177,12 @@ uint32_t bjargolsk_move_up(const uint8_t *saved, size_t saved_length, uint8_t *o
  * 13. The high 16 bits are the number of bytes written: 232 and those of the used journal, BJARGOLSK_BASE_SAVED at most; the buffer past them is kept. Up
  * and then down gives the same bytes, and so does down and then up. */
 uint32_t bjargolsk_move_down(const uint8_t *saved, size_t saved_length, uint8_t *out, size_t out_length);
+
+/* Tells where two recorded traces part, in the lines that the program part prints (docs/INTERFACE.md): how many whole entries both begin with, how many bytes
+ * these have, and the number of the entry after them; then, if the first entry of one won't read, why. Each line ends in LF. They stand at the front of the
+ * text's buffer, whose bytes past them are kept. Takes no session; neither trace is played. Answers 0; 3 if that buffer is under BJARGOLSK_PART bytes, and
+ * it is kept. The high 16 bits are the number of bytes written. */
+uint32_t bjargolsk_part(const uint8_t *first, size_t first_length, const uint8_t *second, size_t second_length, uint8_t *text, size_t text_length);
 
 #ifdef __cplusplus
 }

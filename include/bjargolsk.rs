@@ -71,4 +71,12 @@ extern "C" {
     pub fn bjargolsk_move_up(saved: *const u8, saved_length: usize, out: *mut u8, out_length: usize) -> u32;
     pub fn bjargolsk_move_down(saved: *const u8, saved_length: usize, out: *mut u8, out_length: usize)
         -> u32;
+    pub fn bjargolsk_part(
+        first: *const u8,
+        first_length: usize,
+        second: *const u8,
+        second_length: usize,
+        text: *mut u8,
+        text_length: usize,
+    ) -> u32;
 }

@@ -1,5 +1,5 @@
 /* What bjargolsk.h says of its callers' buffers, tried: any alignment, NULL with length 0, sessions that calls which change nothing leave unwritten, watch-only ones too, data that a
- * read of the SEEPROM gives and what it keeps, orders that plans write, proposals, saves. */
+ * read of the SEEPROM gives and what it keeps, orders that plans write, proposals, saves, the text of where two traces part. */
 #define _DEFAULT_SOURCE /* mmap's MAP_ANONYMOUS */
 #include <stdio.h>
 #include <sys/mman.h>
@@ -16,6 +16,7 @@ static uint8_t reply[BJARGOLSK_OCC_REPLY + 64];
 static uint8_t image[24 + 64], data[17 + 64];
 static uint8_t packets[6 * BJARGOLSK_SLOT + 64], order[6 + 64];
 static uint8_t saved[BJARGOLSK_SAVED + 64], moved[BJARGOLSK_SAVED + 1 + 64];
+static uint8_t text[BJARGOLSK_PART + 64];
 static int failures;
 
 static void expect(const char *what, uint32_t result, uint32_t answer)
@@ -193,6 +194,24 @@ static void kept(uint8_t *session)
     expect("up of a new form, no room", bjargolsk_move_up(saved, BJARGOLSK_SAVED, NULL, 0), 11);
 }
 
+/* Two undos, and one with a cut entry behind it: the text stands at the front of the buffer, and the bytes past it are kept; with a byte too few (answer 3) all are. */
+static void parts(size_t shift)
+{
+    static const uint8_t undos[] = {4, 4}, cut[] = {4, 1};
+    static const char due[] = "shared 1 entries, 1 bytes; next 2\n";
+    for (size_t room = BJARGOLSK_PART - 1; room <= BJARGOLSK_PART; room++) {
+        size_t length = room < BJARGOLSK_PART ? 0 : sizeof due - 1;
+        for (size_t i = 0; i < sizeof text; i++)
+            text[i] = 0xEE;
+        expect_result("part, any alignment", bjargolsk_part(undos, sizeof undos, cut, sizeof cut, text + shift, room), length ? (uint32_t)length << 16 : 3);
+        for (size_t i = 0; i < sizeof text; i++)
+            if (text[i] != (i >= shift && i < shift + length ? (uint8_t)due[i - shift] : 0xEE)) {
+                printf("part, buffer of %u at %u: byte %u is %02X\n", (unsigned)room, (unsigned)shift, (unsigned)i, text[i]);
+                failures++;
+            }
+    }
+}
+
 static void nulls(uint8_t *session)
 {
     expect("fresh, no session", bjargolsk_fresh(NULL, 0), 1);
@@ -222,6 +241,8 @@ static void nulls(uint8_t *session)
     expect("restore, no save", bjargolsk_restore(session, BJARGOLSK_SESSION, NULL, 0), 11);
     expect("up, no save, no room", bjargolsk_move_up(NULL, 0, NULL, 0), 11);
     expect("down, no save, no room", bjargolsk_move_down(NULL, 0, NULL, 0), 11);
+    expect("part, no traces", bjargolsk_part(NULL, 0, NULL, 0, text, BJARGOLSK_PART), 0);
+    expect("part, no traces, no text", bjargolsk_part(NULL, 0, NULL, 0, NULL, 0), 3);
 }
 
 /* On a page that can't be written: a call that wrote would end the program. */
@@ -301,6 +322,7 @@ int main(void)
         reads(pages + shift, shift);
         plans(pages + shift, shift);
         saves(pages + shift, shift);
+        parts(shift);
         expect("watch, any alignment", bjargolsk_watch(pages + shift, BJARGOLSK_SESSION), 0);
     }
     bjargolsk_fresh(pages, BJARGOLSK_SESSION);

@@ -4,7 +4,7 @@ use mathlib.Core.Bool.{cond, not}
 use mathlib.Core.List.{List, []}
 use mathlib.Core.Path.{_≡_}
 use lib.ListN.{length}
-use lib.Dec.{eqb}
+use lib.Dec.{eqb, ltb}
 use Rattle.wire.specs.Conditions.{_and_}
 use Rattle.session.specs.Session.{freshSession}
 use Rattle.image.specs.Image.{imageOf}
@@ -18,6 +18,7 @@ use Rattle.forget_call.specs.Forget.{forgetOn}
 use Rattle.time_call.specs.Time.{timeOn}
 use Rattle.watch_call.specs.Watch.{watchOn}
 use Rattle.plan.specs.Plan.{planOkOn, planOn}
+use Rattle.parting.specs.Lines.{longest, told, toldLength}
 use Rattle.saving.specs.Moves.{saveTo, restoreTo, moveUpTo, moveDownTo}
 
 -- the answer in bits 0 to 7, the small number in bits 8 to 15, the other in bits 16 to 31
@@ -31,6 +32,11 @@ answerIn result = result % 256
 unfoldable pub freshOn : List ℕ → Left
 freshOn b =
     cond (not (eqb (length b) imageLength)) (noImage b []) (record { told = record { answer = 0; small = 0; beside = 0 }; image = imageOf freshSession; reply = [] })
+
+-- two traces t and u parted: what is told with the buffer d
+unfoldable pub partOn : List ℕ → List ℕ → List ℕ → Told
+partOn t u d =
+    cond (ltb (length d) longest) (record { answer = 3; small = 0; beside = 0 }) (record { answer = 0; small = 0; beside = toldLength t u d })
 
 -- ---- what the contracts allow: the result, and the lent bytes and the reply buffer as they are left
 
@@ -72,6 +78,10 @@ PlanOkReturns b p wanted o result = result ≡ packed (planOkOn b p wanted o)
 -- with the order's buffer d as it is left
 abbrev pub PlanReturns : List ℕ → List ℕ → ℕ → List ℕ → ℕ → List ℕ → Type 0
 PlanReturns b p wanted d result order = (result ≡ packed (planOn b p wanted d .told)) and (order ≡ planOn b p wanted d .order)
+
+-- with the text's buffer d as it is left
+abbrev pub PartReturns : List ℕ → List ℕ → List ℕ → ℕ → List ℕ → Type 0
+PartReturns t u d result text = (result ≡ packed (partOn t u d)) and (text ≡ told t u d)
 
 -- document 02, m: the buffer that is written to as it is left; of `restore` that is the session's
 abbrev pub SaveReturns : List ℕ → List ℕ → ℕ → List ℕ → Type 0

@@ -1,7 +1,7 @@
-// The calls for C: those of `occ_call`, `sbe_call`, `undo_call`, `forget_call`, `time_call`, `watch_call`, `plan` and `saving` under C names. A result has the answer in bits 0 to 7, a small number beside
+// The calls for C: those of `occ_call`, `sbe_call`, `undo_call`, `forget_call`, `time_call`, `watch_call`, `plan`, `parting` and `saving` under C names. A result has the answer in bits 0 to 7, a small number beside
 // it in bits 8 to 15, and one of 16 bits above.
 ghost use mathlib.Core.Path.{_≡_};
-ghost use Rattle.bjargolsk.specs.Calls.{packed, FreshReturns, OccReturns, SbeReturns, SeepromReturns, UndoReturns, RedoReturns, ForgetReturns, TimeReturns, WatchReturns, PlanReturns, PlanOkReturns, SaveReturns, RestoreReturns, MoveUpReturns, MoveDownReturns};
+ghost use Rattle.bjargolsk.specs.Calls.{packed, FreshReturns, OccReturns, SbeReturns, SeepromReturns, UndoReturns, RedoReturns, ForgetReturns, TimeReturns, WatchReturns, PlanReturns, PlanOkReturns, SaveReturns, RestoreReturns, MoveUpReturns, MoveDownReturns, PartReturns};
 use inplace::Told;
 
 fn pack(t: Told) -> u32
@@ -111,6 +111,18 @@ pub extern "C" fn bjargolsk_plan_ok(lent: &[u8], packets: &[u8], wanted: u8, ord
     ensures { λ x. ⌜ PlanOkReturns (now (lent .entry)) (now (packets .entry)) wanted (now (order .entry)) x ⌝ }
 {
     pack(plan::plan_ok(lent, packets, wanted, order))
+}
+
+// Where two traces part, in one or two lines at the front of the buffer; the high 16 bits are their length. A buffer too short for the longest is answered by 3 and kept.
+#[no_mangle]
+pub extern "C" fn bjargolsk_part(first: &[u8], second: &[u8], text: &mut [u8]) -> u32
+    ensures { λ x. ⌜ PartReturns (now (first .entry)) (now (second .entry)) (now (text .entry)) x (now (text .exit)) ⌝ }
+{
+    if text.len() < parting::LONGEST {
+        return pack(inplace::answer_with(3, 0));
+    }
+    let length = parting::tell(first, second, text);
+    pack(inplace::answer_with(0, length as u16))
 }
 
 // A session in the form for keeping; the high 16 bits are how many bytes were written.

@@ -96,22 +96,22 @@ pub refusal-put : (p : Sheet) {q : Sheet} {r : Refusal} (x : Refusal) (words : L
 refusal-put p x words e is f = last-piece p words f ∙ ap (putAll p) (e ∙ ap refusalLine (sym is))
 
 module _ (t u d : List ℕ) where
-  pub told-none : length d < longest → (0 ≡ toldLength t u d) × ((d ≡ told t u d) × Counts 0 d)
+  pub told-none : length d < longest → (0 ≡ toldLength t u d) × ((d ≡ told t u d) × (Counts 0 d × (0 ≤ longest)))
   unfolding told toldLength
-  told-none h = (if-lt _ _ h refl, (if-lt _ _ h refl, (omega arith, refl)))
+  told-none h = (if-lt _ _ h refl, (if-lt _ _ h refl, ((omega arith, refl), omega arith)))
 
   -- x is what was found, q the sheet after the first line
   pub told-put : {x : Parting} {part d′ : List ℕ} {q : Sheet} {end : ℕ} → longest ≤ length d → x ≡ partingOf t u → part ≡ sharedPart t u
       → q ≡ putAll (sheet d 0) (sharedLine (x .entries) (length part) (x .next))
       → length (joined (sharedLine (x .entries) (length part) (x .next))) ≤ 91
       → sheet d′ end ≡ putAll q (refusalLine (x .refusal))
-      → (end ≡ toldLength t u d) × ((d′ ≡ told t u d) × Counts end d′)
+      → (end ≡ toldLength t u d) × ((d′ ≡ told t u d) × (Counts end d′ × (end ≤ longest)))
   unfolding told toldLength textOf piecesOf
-  told-put {x} {part} h e f first short second =
+  told-put {x} {part} h e f first line-short second =
       let line = sharedLine (x .entries) (length part) (x .next) in
       let both : line ++ refusalLine (x .refusal) ≡ piecesOf t u =
       ap₂ (λ (y : Parting) (l : List ℕ). sharedLine (y .entries) (length l) (y .next) ++ refusalLine (y .refusal)) e f in
-      let fits : length (joined (piecesOf t u)) ≤ length d =
+      let short : length (joined (piecesOf t u)) ≤ longest =
       omega (
         arith,
         ap (λ (ps : List (List ℕ)). length (joined ps)) both,
@@ -119,5 +119,5 @@ module _ (t u d : List ℕ) where
         length-append (joined line) (joined (refusalLine (x .refusal))),
         length-refusal (x .refusal),
       ) in
-      let put = fitting (piecesOf t u) d fits (pieces (sheet d 0) line (refusalLine (x .refusal)) first second ∙ ap (putAll (sheet d 0)) both) in
-      (else-lt _ _ h (put .0), (else-lt _ _ h (put .1 .0), put .1 .1))
+      let put = fitting (piecesOf t u) d (omega (arith, short, h)) (pieces (sheet d 0) line (refusalLine (x .refusal)) first second ∙ ap (putAll (sheet d 0)) both) in
+      (else-lt _ _ h (put .0), (else-lt _ _ h (put .1 .0), (put .1 .1, omega (arith, put .0, short))))

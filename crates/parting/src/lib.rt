@@ -154,6 +154,7 @@ pub fn tell(first: &[u8], second: &[u8], out: &mut [u8]) -> usize
     ensures { λ r. ⌜ r ≡ toldLength (now (first .entry)) (now (second .entry)) (now (out .entry)) ⌝ }
     ensures { λ r. ⌜ now (out .exit) ≡ told (now (first .entry)) (now (second .entry)) (now (out .entry)) ⌝ }
     ensures { λ r. ⌜ Counts r (now (out .exit)) ⌝ }
+    ensures { λ r. ⌜ r ≤ 118 ⌝ }
 {
     if out.len() < LONGEST {
         return 0;

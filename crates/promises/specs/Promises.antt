@@ -97,7 +97,7 @@ use Rattle.saving.specs.Forms.{baseOf, sessionOfBase, savedOf, partTable, parts
 use Rattle.saving.specs.Moves.{goesDown, baseReads, savedReads, putInto, saveTo, restoreTo, moveUpTo, moveDownTo, Allows}
 use Rattle.plan.specs.Conditions.{Order, FewestThenLeast}
 use Rattle.plan.specs.Plan.{packetsIn, answered, planOkCall, planCall, planOkOn, planOn, PlanAllows}
-use Rattle.bjargolsk.specs.Calls.{answerIn, freshOn, FreshReturns, OccReturns, SbeReturns, UndoReturns, RedoReturns, ForgetReturns, SeepromReturns, TimeReturns, WatchReturns, PlanReturns, PlanOkReturns, SaveReturns, RestoreReturns, MoveUpReturns, MoveDownReturns}
+use Rattle.bjargolsk.specs.Calls.{answerIn, freshOn, FreshReturns, OccReturns, SbeReturns, UndoReturns, RedoReturns, ForgetReturns, SeepromReturns, TimeReturns, WatchReturns, PlanReturns, PlanOkReturns, SaveReturns, RestoreReturns, MoveUpReturns, MoveDownReturns, PartReturns}
 use Rattle.promises.specs.laws.Lent.{every-image, every-byte, no-session, fresh-image, lent-run, lent-next}
 use Rattle.promises.specs.Lent.{lent, told as told-beside, carriedOver, lentRun, watchedOn}
 use Rattle.promises.specs.Passed.{MarksStand, PassedAsHeld}
@@ -315,6 +315,9 @@ one-outcome-of-plan-for-c b p wanted d = one-pair _ _
 
 pub one-outcome-of-plan-ok-for-c : (b p : List ℕ) (wanted : ℕ) (o : List ℕ) → OneOutcome (λ (x : ℕ). PlanOkReturns b p wanted o x)
 one-outcome-of-plan-ok-for-c b p wanted o = one-value _
+
+pub one-outcome-of-part-for-c : (t u d : List ℕ) → OneOutcome (λ (x : ℕ × List ℕ). PartReturns t u d (x .0) (x .1))
+one-outcome-of-part-for-c t u d = one-pair _ _
 
 pub one-outcome-of-save-for-c : (b out : List ℕ) → OneOutcome (λ (x : ℕ × List ℕ). SaveReturns b out (x .0) (x .1))
 one-outcome-of-save-for-c b out = one-pair _ _

@@ -1,10 +1,10 @@
-// Puts page.html, page.css, the modules and the WebAssembly into one file. usage: bundle.mjs SRC LIBRARY.wasm OUT.html
+// Puts page.html, page.css, the modules and the WebAssembly into one file. usage: bundle.mjs SRC LIBRARY.wasm MADE-BY OUT.html
 // Why not imports: a page opened from a file may not fetch another file. The modules become one script, each before those that import it, so a name
 // may be declared by one module only.
 import fs from 'node:fs';
 import path from 'node:path';
 
-const [src, wasm, out] = process.argv.slice(2);
+const [src, wasm, madeBy, out] = process.argv.slice(2);
 const IMPORT = /^import\s+(?:\{[^}]*\}\s+from\s+)?'\.\/([a-z-]+\.js)';\n/gm;
 const DECLARED = /^(?:export )?(?:async )?(?:function|const|let|class)\s+(?:([A-Za-z0-9_$]+)|\{([^}]*)\})/gm;
 
@@ -57,7 +57,8 @@ function bundled() {
     library: fs.readFileSync(wasm).toString('base64').replace(/.{120}/g, '$&\n'),
     script: `'use strict';\n${script}`,
   };
-  return textOf('page.html').replace(/^[ \t]*\{\{(\w+)\}\}\n/gm, (_, place) => `${places[place].trimEnd()}\n`);
+  const page = textOf('page.html').replace('{{made by}}', () => madeBy.replace(/[^\w .,-]/g, ''));
+  return page.replace(/^[ \t]*\{\{(\w+)\}\}\n/gm, (_, place) => `${places[place].trimEnd()}\n`);
 }
 
 fs.writeFileSync(out, bundled());

@@ -1,10 +1,10 @@
 // The bench: prepared commands with their fields, free bytes, and lines. Each gives orders; carrying them out is the page's.
-import { hexOf, readBytes, wrongInWords } from './bytes.js';
+import { hexOf, readBytes, wrongInWords, counted } from './bytes.js';
 import { byId, el, fill, sayWrong, markedText, chosen } from './dom.js';
 import { GROUPS, preparedBy, mailboxed, readField } from './commands.js';
-import { readLine } from './lines.js';
+import { readLine, preparedAfter } from './lines.js';
 import { occOrder } from './bench.js';
-import { COMMAND_MOST } from './library.js';
+import { COMMAND_MOST, PACKET_MOST } from './library.js';
 
 const fieldId = (prepared, field) => `field-${prepared.id}-${field.id}`;
 const wrongPlace = (input) => byId(`${input.id}-wrong`);
@@ -41,6 +41,7 @@ export function showFields(typed) {
   const prepared = current();
   byId('sender-switch').hidden = prepared.request !== undefined;
   byId('flags').hidden = prepared.request === undefined;
+  byId('add-prepared').hidden = prepared.request !== undefined;
   const list = el('div', { class: 'fields' }, prepared.fields.map((field) => fieldView(prepared, field, typed)));
   fill(byId('command-fields'), prepared.fields.length ? list : []);
 }
@@ -90,7 +91,7 @@ export function showWay(way) {
 }
 
 export function showPart() {
-  byId('free-sender-field').hidden = chosen('part') !== 'occ';
+  for (const id of ['free-sender-field', 'add-free']) byId(id).hidden = chosen('part') !== 'occ';
 }
 
 function readSender() {
@@ -115,6 +116,17 @@ export function freeOrder() {
   if (read.wrong) byId('free-bytes').setSelectionRange(read.at, read.at + 1);
   if (read.wrong || sender === null) return null;
   return toOcc ? { name: 'occ', sender, bytes: read.bytes } : { name: 'sbe', bytes: read.bytes };
+}
+
+// The free bytes as a packet for a plan, whose sender is HTMGT always.
+export function freePacket() {
+  const read = checkFree();
+  const area = byId('free-bytes');
+  if (read.wrong) area.setSelectionRange(read.at, read.at + 1);
+  else if (read.bytes.length === 0 || read.bytes.length > PACKET_MOST) {
+    sayWrong(area, byId('free-wrong'), `A packet for a plan has 1 to ${counted(PACKET_MOST)} bytes; here are ${counted(read.bytes.length)}.`);
+  } else return { name: 'occ', sender: 0x10, bytes: read.bytes };
+  return null;
 }
 
 // An order's bytes as free ones, to be changed.
@@ -144,17 +156,21 @@ function wrongLine(lines, number, read) {
 }
 
 // The orders of all lines; null where one isn't understood. What `show` and its like would print stands on the page, so they are passed over.
-export function lineOrders() {
+// `prepared` are the packets that are there before the first line.
+export function lineOrders(prepared) {
   const area = byId('line-text');
   const lines = area.value.split('\n').map((line) => line.replace(/\r$/, ''));
   sayWrong(area, byId('lines-wrong'));
   const orders = [];
+  let packets = prepared;
   for (const [number, line] of lines.entries()) {
     const order = barOfLine(readLine(line));
-    if (order?.wrong) {
-      wrongLine(lines, number, order);
+    const after = order?.name === 'packet' ? preparedAfter(packets, order) : { packets };
+    if (order?.wrong || after.wrong) {
+      wrongLine(lines, number, order.wrong ? order : after);
       return null;
     }
+    packets = after.packets;
     if (order && !SHOWN_BY_THE_PAGE.includes(order.name)) orders.push(order);
   }
   return orders;

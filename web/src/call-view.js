@@ -1,8 +1,8 @@
 // What was sent, and what came back: bytes, and field by field.
 import { hexOf, hex, counted } from './bytes.js';
 import { el, fill } from './dom.js';
-import { ANSWERS, REASONS, SENDERS, bellWords, sbeStatus } from './words.js';
-import { sentFields, replyFields, orderTitle, statusName, sbeStatusName, whyWords } from './fields.js';
+import { answerWords, REASONS, SENDERS, bellWords, sbeStatus } from './words.js';
+import { sentFields, replyFields, orderTitle, packetTitle, statusName, sbeStatusName, whyWords } from './fields.js';
 import { faultOf, bellOf } from './bench.js';
 import { kindWords } from './entries.js';
 
@@ -14,13 +14,17 @@ const STEPS = [
 const SHOWN = 512; // bytes; a packet may have thousands, and none that is marked stands so far behind
 const ROWS_SHOWN = 200;
 
-const answerWords = (answer) => `${answer}: ${ANSWERS[answer] ?? 'unknown'}`;
-
 const isGood = ({ order, heard }) => {
   if (heard.answer !== 0) return false;
+  if (order.name === 'plan') return heard.found !== null;
   if (order.name === 'occ') return heard.reply[2] === 0;
   return order.name !== 'sbe' || sbeStatus(heard.reply) === '00/00';
 };
+
+function planWords({ found }) {
+  if (!found) return 'no plan';
+  return found.length ? `plan ${found.join(' ')}` : 'the empty plan';
+}
 
 function statusWords(order, heard) {
   if (order.name === 'occ') return `status ${hex(heard.reply[2])} ${statusName(heard.reply[2])}`;
@@ -29,6 +33,7 @@ function statusWords(order, heard) {
   if (order.name === 'redo') return `put in again: ${kindWords(heard.high)}`;
   if (order.name === 'time') return heard.high ? 'the timer has expired' : 'no bell';
   if (order.name === 'watch') return 'opened, both stores empty';
+  if (order.name === 'plan') return planWords(heard);
   return 'forgotten';
 }
 
@@ -111,6 +116,17 @@ function replyView(order, heard) {
   ];
 }
 
+// The packets of a plan that was found, in its order; else those that were tried.
+function planView(order, heard) {
+  if (order.name !== 'plan') return [];
+  const numbers = heard.found ?? order.packets.map((_, at) => at + 1);
+  const named = numbers.map((number) => `${number} ${packetTitle(order.packets[number - 1])}`);
+  return named.length ? [el('p', {}, `${heard.found ? 'In this order' : 'The packets'}: ${named.join('; ')}.`)] : [];
+}
+
+// A packet by its number and words.
+export const packetWords = (number, bytes) => [el('span', { class: 'number' }, String(number)), el('span', {}, packetTitle(bytes))];
+
 function dataView(heard) {
   if (!heard?.data) return [];
   return [el('h3', {}, 'Read from the SEEPROM'), el('p', { class: 'bytes', id: 'data' }, hexOf(heard.data.slice(0, SHOWN)) || 'no byte')];
@@ -129,5 +145,5 @@ export function showCall(place, item, number) {
     el('p', { class: `verdict ${good ? 'good' : 'bad'}`, id: 'verdict' }, words),
     heard?.answer === 0 ? el('p', { class: 'quiet', id: 'answer' }, `Session answer ${answerWords(heard.answer)}`) : null,
     faultView(fault, order.bytes ? sentFields(order) : []),
-    heard ? whyView(order, heard) : null, bellView(order, heard), dataView(heard), sentView(order, fault), replyView(order, heard));
+    heard ? whyView(order, heard) : null, bellView(order, heard), planView(order, heard), dataView(heard), sentView(order, fault), replyView(order, heard));
 }

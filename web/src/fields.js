@@ -168,8 +168,15 @@ const TITLES = {
   forget: ({ number }) => `forget the ${counted(number)} oldest`,
   time: ({ number }) => `${counted(number)} µs pass`,
   watch: () => 'open watch-only',
+  plan: ({ number, packets }) => `a plan of ${packets.length} ${packets.length === 1 ? 'packet' : 'packets'} for state ${number} ${named(STATES, number)}`,
   seeprom: ({ bytes }) => `SEEPROM lent, ${counted(bytes.length)} bytes`,
 };
+
+// A prepared packet in a few words; its sender is always HTMGT.
+export function packetTitle(bytes) {
+  const title = occTitle({ sender: 0x10, bytes }).replace(' (HTMGT)', '');
+  return title[0].toUpperCase() + title.slice(1);
+}
 
 export function orderTitle(order) {
   const title = TITLES[order.name](order);

@@ -1,17 +1,26 @@
 // The proved library. Everything that answers on this page answers through here; the rest of the page sends, shows and keeps.
-import { number16, number32 } from './bytes.js';
+import { number16, number32, joined } from './bytes.js';
 
-export const VERSION = 6; // BJARGOLSK_VERSION of include/bjargolsk.h
+export const VERSION = 7; // BJARGOLSK_VERSION of include/bjargolsk.h
 export const SESSION = 4411;
 const OCC_REPLY = 4096;
 const SBE_REPLY = 32;
 export const COMMAND_MOST = 8192;
 export const SEEPROM_MOST = 65536;
+export const PACKET_MOST = 4096; // BJARGOLSK_SLOT
+export const PACKETS_MOST = 6; // one more than a plan takes, as in `standin`
+const ORDER = 5;
+const PART = 118;
+export const SAVED = 4409;
+export const BASE_SAVED = { least: 232, most: 2280 };
+export const PART_MOST = 1048576; // bytes of a trace, as in `part`
 
 // Lent buffers stand in pages of their own, behind what the module uses itself.
 const PAGE = 65536;
-const AT = { session: 0, command: 8192, reply: 16384, seeprom: PAGE, data: 2 * PAGE };
-const PAGES = 3;
+const AT = {
+  session: 0, command: 8192, reply: 16384, packets: 24576, order: 49152, text: 49408, out: 57344, seeprom: PAGE, data: 2 * PAGE, first: 3 * PAGE, second: 3 * PAGE + PART_MOST,
+};
+const PAGES = 3 + (2 * PART_MOST) / PAGE;
 
 export async function openLibrary(wasm) {
   const { instance } = await WebAssembly.instantiate(wasm, {});
@@ -54,9 +63,21 @@ function sbe(library, session, length, order, room, image) {
     seeprom, BigInt(image.length), data, BigInt(SEEPROM_MOST));
 }
 
+// Each packet in its slot, filled up with zeros; the last slot ends with its packet.
+const slotted = (packets) => joined(...packets.map((packet, at) =>
+  (at === packets.length - 1 ? packet : joined(packet, new Uint8Array(PACKET_MOST - packet.length)))));
+
+function plan(library, session, length, order) {
+  const slots = slotted(order.packets);
+  const packets = lend(library, AT.packets, slots);
+  const numbers = lendEmpty(library, AT.order, ORDER);
+  return library.calls.bjargolsk_plan(session, length, packets, BigInt(slots.length), Number(order.number), numbers, BigInt(ORDER));
+}
+
 const made = {
   occ,
   sbe,
+  plan,
   undo: (library, session, length) => library.calls.bjargolsk_undo(session, length),
   redo: (library, session, length) => library.calls.bjargolsk_redo(session, length),
   forget: (library, session, length, order) => library.calls.bjargolsk_forget(session, length, Number(order.number)),
@@ -80,6 +101,9 @@ function dataOf(library, order, reply) {
   return read ? taken(library, AT.data, number32(order.bytes, 12)) : null;
 }
 
+// The numbers of the packets in the order that was found; null where none was.
+const orderOf = (library, order, result) => (order.name === 'plan' && smallOf(result) === 1 ? Array.from(taken(library, AT.order, highOf(result))) : null);
+
 // Makes one call on a copy of the image. `room` is the reply buffer's length, whole unless said.
 export function call(library, image, order, { seeprom = new Uint8Array(), room } = {}) {
   const session = lend(library, AT.session, image);
@@ -87,7 +111,44 @@ export function call(library, image, order, { seeprom = new Uint8Array(), room }
   const answer = answerOf(result);
   const reply = replyOf(library, order, answer);
   const data = dataOf(library, order, reply);
-  return { answer, small: smallOf(result), high: highOf(result), reply, data, image: taken(library, AT.session, image.length) };
+  const found = orderOf(library, order, result);
+  return { answer, small: smallOf(result), high: highOf(result), reply, data, found, image: taken(library, AT.session, image.length) };
+}
+
+// Whether an order of packets is a plan on this session.
+export function isPlan(library, image, { packets, number }, order) {
+  const session = lend(library, AT.session, image);
+  const slots = slotted(packets);
+  const result = library.calls.bjargolsk_plan_ok(session, BigInt(image.length), lend(library, AT.packets, slots), BigInt(slots.length), Number(number),
+    lend(library, AT.order, order), BigInt(order.length));
+  return smallOf(result) === 1;
+}
+
+// The lines that `part` prints of two traces.
+export function partLines(library, first, second) {
+  const text = lendEmpty(library, AT.text, PART);
+  const result = library.calls.bjargolsk_part(lend(library, AT.first, first), BigInt(first.length), lend(library, AT.second, second), BigInt(second.length),
+    text, BigInt(PART));
+  return String.fromCharCode(...taken(library, AT.text, highOf(result))).trimEnd().split('\n');
+}
+
+// ---- saved sessions
+
+export function save(library, image) {
+  const session = lend(library, AT.session, image);
+  const result = library.calls.bjargolsk_save(session, BigInt(image.length), lendEmpty(library, AT.out, SAVED), BigInt(SAVED));
+  return { answer: answerOf(result), bytes: taken(library, AT.out, highOf(result)) };
+}
+
+export function moveUp(library, saved) {
+  const result = library.calls.bjargolsk_move_up(lend(library, AT.first, saved), BigInt(saved.length), lendEmpty(library, AT.out, SAVED), BigInt(SAVED));
+  return { answer: answerOf(result), bytes: taken(library, AT.out, highOf(result)) };
+}
+
+export function restore(library, saved) {
+  const session = lendEmpty(library, AT.session, SESSION);
+  const result = library.calls.bjargolsk_restore(session, BigInt(SESSION), lend(library, AT.first, saved), BigInt(saved.length));
+  return { answer: answerOf(result), image: taken(library, AT.session, SESSION) };
 }
 
 export function freshImage(library) {

@@ -1,10 +1,10 @@
 // The lines of `standin` (docs/PROTOCOL.md): read into orders, and written of calls, so that a bug report can go both ways.
-import { hex, hexOf, readBytes, asBytes, joined } from './bytes.js';
-import { COMMAND_MOST, SESSION } from './library.js';
+import { hex, hexOf, readBytes, asBytes, joined, same } from './bytes.js';
+import { COMMAND_MOST, PACKET_MOST, PACKETS_MOST, SESSION } from './library.js';
 
 const LONGEST = 32768;
-const ALONE = ['undo', 'redo', 'watch', 'fresh', 'image', 'why', 'show', 'journal', 'help'];
-const NUMBER_MOST = { forget: 4294967295n, time: 18446744073709551615n, buffer: 8192n };
+const ALONE = ['undo', 'redo', 'watch', 'fresh', 'image', 'save', 'why', 'show', 'journal', 'help'];
+const NUMBER_MOST = { forget: 4294967295n, time: 18446744073709551615n, buffer: 8192n, plan: 255n };
 
 const complaint = (words, at) => ({ wrong: words, at });
 const BLANKS = ' \t';
@@ -72,9 +72,27 @@ function loadLine(line, at) {
   return { name: 'load', bytes: read.bytes };
 }
 
+// Of whatever length: the library judges it.
+function restoreLine(line, at) {
+  const read = bytesFrom(line, at, Infinity, 'save');
+  return read.wrong ? read : { name: 'restore', bytes: read.bytes };
+}
+
 function seepromLine(line, at, most) {
   const read = bytesFrom(line, at, most, 'seeprom');
   return read.wrong ? read : { name: 'seeprom', bytes: read.bytes };
+}
+
+function packetLine(line, at) {
+  const read = bytesFrom(line, at, PACKET_MOST, 'packet');
+  return read.wrong ? read : { name: 'packet', bytes: read.bytes };
+}
+
+// The packets that are prepared after an order: a packet more, or none where it is empty. `wrong` where there is no place for it.
+export function preparedAfter(packets, order) {
+  if (order.name !== 'packet') return { packets };
+  if (order.bytes.length === 0) return { packets: [] };
+  return packets.length === PACKETS_MOST ? { wrong: 'six packets at most' } : { packets: [...packets, order.bytes] };
 }
 
 function numberLine(line, at, name) {
@@ -99,7 +117,9 @@ export function readLine(line, { seepromMost = 8192 } = {}) {
   if (word === 'sbe') return sbeLine(line, end);
   if (word === 'send') return sendLine(line, end);
   if (word === 'load') return loadLine(line, end);
+  if (word === 'restore') return restoreLine(line, end);
   if (word === 'seeprom') return seepromLine(line, end, seepromMost);
+  if (word === 'packet') return packetLine(line, end);
   if (Object.hasOwn(NUMBER_MOST, word)) return numberLine(line, end, word);
   if (ALONE.includes(word)) return aloneLine(line, end, word);
   return complaint('unknown word', begin);
@@ -123,9 +143,16 @@ const LINE = {
   forget: (order) => `forget ${order.number}`,
   time: (order) => `time ${order.number}`,
   seeprom: (order) => `seeprom ${hexOf(order.bytes)}`.trimEnd(),
+  plan: (order) => `plan ${order.number}`,
 };
 
 export const lineOf = (order) => LINE[order.name]?.(order) ?? order.name;
+
+// The lines that take the packets prepared from those to these; none where they are the same.
+export function packetLines(from, to) {
+  const kept = from.length <= to.length && from.every((packet, at) => same(packet, to[at]));
+  return [...(kept ? [] : ['packet']), ...to.slice(kept ? from.length : 0).map((packet) => `packet ${hexOf(packet)}`)];
+}
 
 // ---- of what was heard
 
@@ -144,7 +171,10 @@ const HEARD = {
   forget: () => '',
   time: bellText,
   watch: () => '',
+  plan: ({ found }) => (found ? ` plan${found.map((number) => ` ${number}`).join('')}` : ' no plan'),
 };
 
 // The answer line that `standin` gives.
 export const heardLine = (order, heard) => `${heard.answer}${heard.answer === 0 ? HEARD[order.name](heard) : ''}`;
+
+export const savedLine = ({ answer, bytes }) => (answer === 0 ? `save ${hexOf(bytes, '')}` : String(answer));

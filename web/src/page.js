@@ -1,28 +1,30 @@
 // The page: one bench, drawn anew after every call.
 import { byId, el, fill, saveFile, copyText, bytesOfFile, chosen, sayWrong } from './dom.js';
 import { hexOf, counted } from './bytes.js';
-import { openLibrary, isWellFormed, SEEPROM_MOST } from './library.js';
+import { openLibrary, isWellFormed, partLines, save, restore, PACKETS_MOST, SEEPROM_MOST, PART_MOST } from './library.js';
 import {
-  newBench, carryOut, benchOf, keptText, hasSomething, losesByWatch, imagesAround, numbersOf, pointOf, reportLines, reportTrace, playTrace, traceLines,
-  readImage, imageLine, occOrder,
+  newBench, carryOut, carryLine, benchOf, keptText, hasSomething, losesByWatch, imagesAround, numbersOf, pointOf, reportLines, reportTrace, playTrace, traceLines,
+  readKept, imageLine, occOrder, prepare, putAway, planOrder, askedPlan, sendPlan,
 } from './bench.js';
-import { heardLine } from './lines.js';
+import { heardLine, savedLine } from './lines.js';
+import { answerWords } from './words.js';
 import { readTrace } from './trace.js';
-import { orderTitle } from './fields.js';
+import { orderTitle, packetTitle } from './fields.js';
 import { BRING_UP, preparedBy, readNumber } from './commands.js';
 import { keepCalls, keptCalls, keepTyped, keptTyped } from './keep.js';
 import { showCall, outcome } from './call-view.js';
 import { showSession, showStacks } from './session-view.js';
 import { showChart, showLegend } from './chart.js';
+import { showPlan } from './plan-view.js';
 import {
-  fillCommands, showFields, formOrder, showPreview, focusWrong, showWay, showPart, checkFree, freeOrder, editAsFree, lineOrders,
+  fillCommands, showFields, formOrder, showPreview, focusWrong, showWay, showPart, checkFree, freeOrder, freePacket, editAsFree, lineOrders,
 } from './bench-view.js';
 
 const LIST_MOST = 300;
 const REPORT_MOST = 600;
 const TRACE_MOST = 20000; // entries; more would fill what the browser keeps
 
-const app = { library: null, bench: null, around: null, seen: null, typed: {} };
+const app = { library: null, bench: null, around: null, seen: null, typed: {}, parted: { first: null, second: null } };
 
 function notice(words) {
   byId('notice').hidden = !words;
@@ -80,9 +82,10 @@ function drawList(numbers) {
   fill(byId('call-list'), shown.length ? [...shown, ...older] : el('li', { class: 'quiet' }, 'none'));
 }
 
-function traceWords({ bytes, entries, bar }) {
+function traceWords({ bytes, entries, of, bar }) {
   if (!bar) return `${counted(entries)} entries, ${counted(bytes.length)} bytes.`;
-  return `Only the first ${counted(entries)} of ${counted(app.bench.items.length)} can stand in a trace: ${bar}.`;
+  if (entries === 0) return `None: ${bar}.`;
+  return `Only the first ${counted(entries)} of ${counted(of)} can stand in a trace: ${bar}.`;
 }
 
 function drawReport() {
@@ -98,13 +101,18 @@ function drawFiles() {
   const { bench } = app;
   byId('trace-lines').hidden = !bench.trace;
   byId('trace-lines').textContent = bench.trace ? traceLines(bench).join('\n') : '';
+  byId('loaded-said').textContent = bench.loaded ?? '';
   byId('seeprom-said').textContent = bench.seeprom.length ? `${counted(bench.seeprom.length)} bytes are lent.` : 'None is lent, that is, an empty one.';
+}
+
+function sayHeard(words, good) {
+  byId('heard').className = `heard ${good ? 'good' : 'bad'}`;
+  byId('heard').textContent = words;
 }
 
 function drawHeard(item, number) {
   const { words, good } = item ? outcome(item) : { words: '', good: true };
-  byId('heard').className = `heard ${good ? 'good' : 'bad'}`;
-  byId('heard').textContent = item ? `${number ? `Call ${number}, ` : ''}${orderTitle(item.order)}: ${words}` : '';
+  sayHeard(item ? `${number ? `Call ${number}, ` : ''}${orderTitle(item.order)}: ${words}` : '', good);
 }
 
 function draw() {
@@ -120,6 +128,7 @@ function draw() {
   drawList(numbers);
   drawReport();
   drawFiles();
+  showPlan(app.bench, removePacket);
   showPreview(app.bench);
   byId('bring-up').className = items.length ? '' : 'main';
 }
@@ -141,6 +150,7 @@ function keep() {
 
 function done() {
   app.seen = null;
+  sayFull(false);
   keep();
   draw();
 }
@@ -183,8 +193,11 @@ async function mayWatch() {
   return ask(`A watch-only session opens over this one. ${lost}`, 'Open watch-only');
 }
 
+// What is prepared for a plan is the bench's, and stays.
+const anew = (start) => Object.assign(newBench(app.library, start), { packets: app.bench.packets });
+
 async function fresh() {
-  if (await mayBegin('A fresh session begins.')) begin(newBench(app.library));
+  if (await mayBegin('A fresh session begins.')) begin(anew());
 }
 
 async function watch() {
@@ -214,28 +227,84 @@ function sendFree(event) {
   else focusWrong(byId('free'));
 }
 
-// `fresh` and `load` begin anew, and the calls before them aren't kept.
-function carryLine(order) {
-  if (order.name === 'fresh') app.bench = newBench(app.library);
-  else if (order.name === 'load') app.bench = newBench(app.library, order.bytes);
-  else return carryOut(app.bench, order.name === 'send' ? occOrder(app.bench, order.sender, order.type, order.data) : order);
-  return null;
+// ---- a plan
+
+function addPacket(order, form) {
+  const full = app.bench.packets.length === PACKETS_MOST;
+  if (!order) return focusWrong(form);
+  if (full) return sayFull(true);
+  prepare(app.bench, order);
+  done();
+  sayHeard(`Packet ${app.bench.packets.length} of the plan: ${packetTitle(order.bytes)}`, true);
+}
+
+function sayFull(full) {
+  byId('add-wrong').hidden = !full;
+  byId('add-wrong').textContent = full ? `${PACKETS_MOST} packets are prepared, one more than a plan takes: remove one first.` : '';
+}
+
+// The list was drawn anew; the focus stays in it, at what took the place of what went.
+function removePacket(at) {
+  putAway(app.bench, at);
+  done();
+  const buttons = byId('packets').querySelectorAll('button');
+  (buttons[Math.min(at, buttons.length - 1)] ?? byId('plan-number')).focus();
+}
+
+function askPlan(event) {
+  event.preventDefault();
+  carry(planOrder(app.bench, byId('plan-number').value));
+}
+
+function sendFound() {
+  const item = askedPlan(app.bench);
+  const sent = sendPlan(app.bench, item);
+  app.around = null;
+  done();
+  const refused = `Packet ${item.heard.found[sent - 1]} wasn’t accepted; those after it weren’t sent.`;
+  byId('ask-plan').focus();
+  if (sent < item.heard.found.length) byId('plan-said').append(el('p', { class: 'wrong' }, refused));
+}
+
+function dropPackets() {
+  app.bench.packets = [];
+  done();
+  byId('plan-number').focus();
+}
+
+// ---- lines
+
+function restoreLine({ bytes }) {
+  const { answer, image } = restore(app.library, bytes);
+  if (answer === 0) app.bench = anew(image);
+  return String(answer);
 }
 
 const answerText = (item) => (item?.heard ? heardLine(item.order, item.heard) : 'ok');
 
+// The answer to a line. `fresh`, `load` and `restore` begin anew, and the calls before them aren't kept.
+function runLine(order) {
+  if (order.name === 'save') return savedLine(save(app.library, app.bench.image));
+  if (order.name === 'restore') return restoreLine(order);
+  if (order.name !== 'fresh' && order.name !== 'load') {
+    return answerText(carryLine(app.bench, order.name === 'send' ? occOrder(app.bench, order.sender, order.type, order.data) : order));
+  }
+  app.bench = anew(order.bytes);
+  return 'ok';
+}
+
 // Lines ask for what they would lose of the session that is here.
 async function mayRun(orders) {
   const names = orders.map(({ name }) => name);
-  if (names.includes('fresh') || names.includes('load')) return mayBegin('The lines begin anew.');
+  if (['fresh', 'load', 'restore'].some((name) => names.includes(name))) return mayBegin('The lines begin anew.');
   return names.includes('watch') ? mayWatch() : true;
 }
 
 async function sendLines(event) {
   event.preventDefault();
-  const orders = lineOrders();
+  const orders = lineOrders(app.bench.packets);
   if (!orders?.length || !(await mayRun(orders))) return;
-  const answers = orders.map((order) => answerText(carryLine(order)));
+  const answers = orders.map(runLine);
   app.around = null;
   byId('line-answers').hidden = false;
   byId('line-answers').textContent = answers.join('\n');
@@ -254,23 +323,50 @@ function sendNumber(event, name, most) {
 
 // ---- files
 
-async function playFile(bytes) {
+async function playFile(bytes, name) {
   const read = readTrace(bytes);
+  partFrom('first', bytes, name);
   if (read.orders.length > TRACE_MOST) notice(`The trace has ${counted(read.orders.length)} entries; this page plays ${counted(TRACE_MOST)} at most.`);
-  else if (await mayBegin('The trace plays on a fresh session.')) begin(playTrace(app.library, read));
+  else if (await mayBegin('The trace plays on a fresh session.')) begin(playTrace(app.library, read, app.bench.packets));
 }
 
-async function loadImage(bytes) {
-  const read = readImage(bytes);
-  if (read.wrong) notice(read.wrong);
-  else if (await mayBegin('Another session is loaded.')) begin(newBench(app.library, read.image));
+// ---- where two traces part
+
+const partName = (which) => (app.parted[which] ? `${app.parted[which].name}, ${counted(app.parted[which].bytes.length)} bytes` : 'none yet');
+
+function drawParted() {
+  const { first, second } = app.parted;
+  byId('part-said').textContent = first || second ? `First: ${partName('first')}. Second: ${partName('second')}.` : '';
+  byId('part-lines').hidden = !first || !second;
+  byId('part-lines').textContent = first && second ? partLines(app.library, first.bytes, second.bytes).join('\n') : '';
+}
+
+function partFrom(which, bytes, name) {
+  const long = bytes.length > PART_MOST;
+  sayWrong(byId(`part-${which}`), byId('part-wrong'), ...(long ? [`${name} has ${counted(bytes.length)} bytes; ${counted(PART_MOST)} are taken at most.`] : []));
+  app.parted[which] = long ? null : { bytes, name };
+  drawParted();
+}
+
+async function loadSession(bytes) {
+  const read = readKept(app.library, bytes);
+  sayWrong(byId('image-file'), byId('image-wrong'), ...(read.wrong ? [read.wrong] : []));
+  if (read.wrong || !(await mayBegin('Another session is loaded.'))) return;
+  begin(Object.assign(anew(read.image), { loaded: read.words }));
+}
+
+// A session that isn't well formed has no save; its image holds all.
+function saveSession(button) {
+  const { answer, bytes } = save(app.library, app.bench.image);
+  sayWrong(button, byId('save-wrong'), ...(answer === 0 ? [] : [`Answer ${answerWords(answer)}. Its image can be saved.`]));
+  if (answer === 0) saveFile('bjargolsk.save', bytes);
 }
 
 const lendSeeprom = (bytes) => carry({ name: 'seeprom', bytes: bytes.slice(0, SEEPROM_MOST) });
 
 function onFile(id, take) {
   byId(id).addEventListener('change', async ({ target }) => {
-    if (target.files.length) await take(await bytesOfFile(target.files[0]));
+    if (target.files.length) await take(await bytesOfFile(target.files[0]), target.files[0].name);
     target.value = '';
   });
 }
@@ -287,11 +383,14 @@ function wireFiles() {
   onClick('copy-lines', (button) => copy(button, `${reportLines(app.bench, byId('with-answers').checked).join('\n')}\n`));
   onClick('copy-trace', (button) => copy(button, hexOf(reportTrace(app.bench).bytes, '')));
   onClick('save-trace', () => saveFile('bjargolsk.trace', reportTrace(app.bench).bytes));
+  onClick('save-session', saveSession);
   onClick('save-image', () => saveFile('bjargolsk.image', app.bench.image));
   onClick('copy-image', (button) => copy(button, imageLine(app.bench.image)));
   byId('with-answers').addEventListener('change', drawReport);
   onFile('trace-file', playFile);
-  onFile('image-file', loadImage);
+  onFile('part-first', (bytes, name) => partFrom('first', bytes, name));
+  onFile('part-second', (bytes, name) => partFrom('second', bytes, name));
+  onFile('image-file', loadSession);
   onFile('seeprom-file', lendSeeprom);
 }
 
@@ -321,6 +420,11 @@ function wireBench() {
   byId('prepared').addEventListener('submit', sendPrepared);
   byId('free').addEventListener('submit', sendFree);
   byId('lines').addEventListener('submit', sendLines);
+  byId('plan-form').addEventListener('submit', askPlan);
+  onClick('add-prepared', () => addPacket(formOrder(app.bench), byId('prepared')));
+  onClick('add-free', () => addPacket(freePacket(), byId('free')));
+  onClick('send-plan', sendFound);
+  onClick('drop-packets', dropPackets);
   byId('forget-form').addEventListener('submit', (event) => sendNumber(event, 'forget', 0xffffffffn));
   byId('time-form').addEventListener('submit', (event) => sendNumber(event, 'time', 0xffffffffffffffffn));
   onClick('undo', () => carry({ name: 'undo' }));

@@ -5,14 +5,19 @@ export const ANSWERS = {
   0: 'done',
   1: 'the session isn’t well formed',
   2: 'the sender is neither 10 (HTMGT) nor 20 (BMC)',
-  3: 'the reply buffer is too short',
+  3: 'the buffer for the reply, or for a plan’s order, is too short',
   4: 'the command is too short: under 4 bytes for the OCC, under 32 for the SBE',
   5: 'the journal has no room for the change',
   6: 'nothing to undo: the journal is empty',
   7: 'the newest entry can’t be put in: the record would be ill formed',
   8: 'nothing to redo: the redo store is empty',
   9: 'fewer changes are held than are to be forgotten',
+  10: 'more than five packets, or a wanted state other than 2 and 3',
+  11: 'the save won’t read or is ill formed',
+  13: 'the buffer for the save is too short',
 };
+
+export const answerWords = (answer) => `${answer}: ${ANSWERS[answer] ?? 'unknown'}`;
 
 export const OCC_STATUSES = {
   0x00: ['success', ''],

@@ -1,7 +1,7 @@
 // The line protocol over the WebAssembly: what the page uses, put together as `standin` puts it, so that the stored cases can be run.
 import { hex, hexOf } from '../src/bytes.js';
-import { call, freshImage, isCall } from '../src/library.js';
-import { readLine, complaintLine, heardLine, framed } from '../src/lines.js';
+import { call, freshImage, isCall, save, restore } from '../src/library.js';
+import { readLine, complaintLine, heardLine, preparedAfter, savedLine, framed } from '../src/lines.js';
 import { readSession, sessionParts, pairsOf, pairName, coresOf } from '../src/session.js';
 import { readStore, entryLine, kindWords, wouldRestore } from '../src/entries.js';
 import { sentFields, replyFields, orderTitle, statusName, sbeStatusName, whyWords } from '../src/fields.js';
@@ -58,10 +58,12 @@ function journalLines(image) {
 
 // A bench as `standin` has one. `counts` is what was called, for the report.
 export function newStandin(library, helpLines, seeprom = new Uint8Array()) {
-  return { library, helpLines, image: freshImage(library), seeprom, room: undefined, sequence: 1, why: '0', counts: {} };
+  return { library, helpLines, image: freshImage(library), seeprom, room: undefined, packets: [], sequence: 1, why: '0', counts: {} };
 }
 
-function framedOrder(standin, order) {
+// An order as it is carried out: a packet framed, a plan with its packets.
+function wholeOrder(standin, order) {
+  if (order.name === 'plan') return { ...order, packets: standin.packets };
   if (order.name !== 'send') return order;
   const bytes = framed(standin.sequence, order.type, order.data);
   standin.sequence = (standin.sequence + 1) & 255;
@@ -101,13 +103,17 @@ function holdStatus(order, heard, line) {
   if (whyWords(order, heard).includes('watch-only') !== denied) throw new Error(`the profile is told wrongly as the reason: ${line}`);
 }
 
+function count(standin, name) {
+  standin.counts[name] = (standin.counts[name] ?? 0) + 1;
+}
+
 function called(standin, order, line) {
   const heard = call(standin.library, standin.image, order, { seeprom: standin.seeprom, room: standin.room });
   holdKept(standin.image, heard, line);
   holdShown(order, heard, line);
   holdStatus(order, heard, line);
   standin.image = heard.image;
-  standin.counts[order.name] = (standin.counts[order.name] ?? 0) + 1;
+  count(standin, order.name);
   if (order.name === 'occ') standin.why = heard.small ? `${heard.high} ${REASONS[heard.small]}` : '0';
   return [heardLine(order, heard)];
 }
@@ -129,6 +135,21 @@ const said = {
     standin.room = order.number === null ? undefined : Number(order.number);
     return ['ok'];
   },
+  packet: (standin, order) => {
+    const after = preparedAfter(standin.packets, order);
+    if (!after.wrong) standin.packets = after.packets;
+    return [after.wrong ? complaintLine(after) : 'ok'];
+  },
+  save: (standin) => {
+    count(standin, 'save');
+    return [savedLine(save(standin.library, standin.image))];
+  },
+  restore: (standin, order) => {
+    count(standin, 'restore');
+    const { answer, image } = restore(standin.library, order.bytes);
+    if (answer === 0) standin.image = image;
+    return [String(answer)];
+  },
   image: (standin) => [`image ${hexOf(standin.image, '')}`],
   why: (standin) => [standin.why],
   show: (standin) => showLines(standin.image),
@@ -141,6 +162,5 @@ export function answerTo(standin, line) {
   const order = readLine(line);
   if (order === null) return [];
   if (order.wrong) return [complaintLine(order)];
-  const framedOne = framedOrder(standin, order);
-  return isCall(framedOne) ? called(standin, framedOne, line) : said[order.name](standin, order);
+  return isCall(order) || order.name === 'send' ? called(standin, wholeOrder(standin, order), line) : said[order.name](standin, order);
 }

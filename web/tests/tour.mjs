@@ -4,11 +4,13 @@ import os from 'node:os';
 import path from 'node:path';
 import { pathToFileURL } from 'node:url';
 import { openBrowser, run, devtools, click, type, choose, press, focused, textOf, picture, look } from './browser.mjs';
+import { VERSION } from '../src/library.js';
 
 const [top, built] = process.argv.slice(2);
 const shots = process.env.SHOTS;
 const browser = await openBrowser();
 let steps = 0;
+const TRIES = 400; // a machine that does other things too gets ten seconds
 const soon = () => new Promise((settle) => { setTimeout(settle, 25); });
 
 function hold(right, words) {
@@ -20,7 +22,7 @@ function hold(right, words) {
 async function holdText(selector, wanted) {
   const right = (text) => text !== null && text.includes(wanted);
   let text = await textOf(browser, selector);
-  for (let tries = 0; tries < 40 && !right(text); tries++) {
+  for (let tries = 0; tries < TRIES && !right(text); tries++) {
     await soon();
     text = await textOf(browser, selector);
   }
@@ -28,7 +30,7 @@ async function holdText(selector, wanted) {
 }
 
 const ready = async () => {
-  for (let tries = 0; tries < 200; tries++) {
+  for (let tries = 0; tries < TRIES; tries++) {
     if (await run(browser, 'return document.documentElement.dataset.ready === "yes"')) return;
     await soon();
   }
@@ -38,6 +40,14 @@ const ready = async () => {
 const opened = async () => {
   await browser.at('POST', '/url', { url: pathToFileURL(built).href });
   await ready();
+};
+
+const isAsking = () => run(browser, 'return document.getElementById("ask").open');
+
+// A question may come a moment later, as after a file was read.
+const sayYes = async () => {
+  for (let tries = 0; tries < TRIES && !(await isAsking()); tries++) await soon();
+  await click(browser, '#ask-yes');
 };
 
 const choosePrepared = (id) => run(browser, `const one = document.getElementById('command'); one.value = arguments[0];
@@ -148,13 +158,14 @@ const runLines = async (text) => {
 // The report runs as lines, and gives the same session.
 async function lines() {
   const report = await run(browser, 'return document.getElementById("report").textContent');
-  const image = await run(browser, 'return localStorage.getItem("bjargolsk-6-calls")');
+  const kept = () => run(browser, 'return JSON.parse(localStorage.getItem(`bjargolsk-${arguments[0]}-calls`)).items.join()', VERSION);
+  const before = await kept();
   await click(browser, 'input[name=way][value=lines]');
   await runLines(`fresh\n${report}`);
   await holdText('#ask-words', 'is lost then');
-  await click(browser, '#ask-yes');
-  const again = await run(browser, 'return JSON.parse(localStorage.getItem("bjargolsk-6-calls")).items.join()');
-  hold(again === JSON.parse(image).items.join(), 'the lines of the report give the same calls');
+  await sayYes();
+  await holdText('#line-answers', 'ok');
+  hold((await kept()) === before, 'the lines of the report give the same calls');
   await runLines('undo\nocc 10 0');
   await holdText('#lines-wrong', 'Line 2, column 9: hex digit expected.');
 }
@@ -186,12 +197,10 @@ async function freshAsks() {
   await press(browser, 'escape');
   await holdText('#is-state', '3 active');
   await click(browser, '#fresh');
-  await click(browser, '#ask-yes');
+  await sayYes();
   await holdText('#is-state', '1 standby');
   await holdText('#call-list', 'none');
 }
-
-const isAsking = () => run(browser, 'return document.getElementById("ask").open');
 
 // Nothing is asked of a fresh session, and nothing of a watch-only one with empty stores: neither loses anything.
 async function watchOnlyAtOnce() {
@@ -203,7 +212,7 @@ async function watchOnlyAtOnce() {
   }
   await click(browser, '#fresh');
   await holdText('#ask-yes', 'Begin anew');
-  await click(browser, '#ask-yes');
+  await sayYes();
   await holdText('#is-profile', 'full');
 }
 
@@ -216,7 +225,7 @@ async function watchOnlyAsks() {
   await holdText('#is-profile', 'full');
   await holdText('#undo-next', '6 held');
   await click(browser, '#watch');
-  await click(browser, '#ask-yes');
+  await sayYes();
   await holdText('#is-profile', 'watch-only');
   await holdText('#is-profile', 'changed; was full');
   await holdText('#watch-only', 'nothing but the pending logs');
@@ -259,7 +268,7 @@ async function watchOnlyKept() {
   const shown = await textOf(browser, '#session-body');
   await click(browser, 'input[name=way][value=lines]');
   await runLines(`fresh\n${report}`);
-  await click(browser, '#ask-yes');
+  await sayYes();
   await holdText('#line-answers', '0 07 22 16');
   hold((await textOf(browser, '#session-body')) === shown, 'the lines of the report give the same watch-only session');
 }
@@ -267,66 +276,224 @@ async function watchOnlyKept() {
 // A line asks as the button does.
 async function watchLineAsks() {
   await runLines('fresh\nsend 10 21 03 01');
-  await click(browser, '#ask-yes');
+  await sayYes();
   await runLines('watch\nsend 10 21 03 00');
   await holdText('#ask-yes', 'Open watch-only');
   await click(browser, '#ask-no');
   await holdText('#is-profile', 'full');
   await click(browser, '#send-lines');
-  await click(browser, '#ask-yes');
+  await sayYes();
   await holdText('#line-answers', '0\n0 02 21 16 00 01 00 00 3A');
   await holdText('#is-profile', 'watch-only');
 }
+
+// ---- a plan
+
+const addPrepared = async (id, field, value) => {
+  await choosePrepared(id);
+  if (field) await choosePreparedField(`field-${id}-${field}`, value);
+  await click(browser, '#add-prepared');
+};
+const choosePreparedField = (id, value) => run(browser, `const one = document.getElementById(arguments[0]); one.value = arguments[1];
+  one.dispatchEvent(new Event('input', { bubbles: true }))`, id, value);
+const choosePlanned = (value) => choosePreparedField('plan-number', value);
+const isDisabled = (selector) => run(browser, 'return document.querySelector(arguments[0]).disabled', selector);
+const countOf = (selector) => run(browser, 'return document.querySelectorAll(arguments[0]).length', selector);
+
+// Five packets in the wrong order; the plan, sent.
+async function planned() {
+  await runLines('fresh');
+  await sayYes();
+  await holdText('#is-profile', 'full');
+  await click(browser, 'input[name=way][value=prepared]');
+  hold(!(await run(browser, 'return document.getElementById("plan-fold").open')), 'without a packet the plan is folded');
+  await addPrepared('state', 'state', '3');
+  for (const id of ['throttles', 'caps', 'thermal', 'role']) await addPrepared(id);
+  await holdText('#packets li:nth-child(3)', 'Caps 500 W to 1,500 W');
+  await holdText('#call-list', 'none');
+  await click(browser, '#ask-plan');
+  await holdText('#plan-said', 'To state 3 active, in this order:');
+  hold((await textOf(browser, '#plan-order')).replace(/\s+/g, ' ') === '2 Throttles 4 Thermal thresholds 5 Role master 3 Caps 500 W to 1,500 W 1 Set state active', 'the order in words');
+  await holdText('#verdict', 'plan 2 4 5 3 1');
+  await holdText('#is-state', '1 standby');
+  await shot('plan-light');
+  await click(browser, '#send-plan');
+  await holdText('#is-state', '3 active');
+  await holdText('#is-limit', '1,500 W');
+  await holdText('#plan-said', 'ask again');
+  hold(await isDisabled('#send-plan'), 'a plan that was sent can’t be sent again');
+  hold((await countOf('#call-list li')) === 6, 'the plan and its five packets are calls');
+  await holdText('#trace-said', '5 entries');
+}
+
+// The empty plan, none, and a refusal; packets removed and too many; kept over a reload.
+async function plannedElse() {
+  await click(browser, '#ask-plan');
+  await holdText('#plan-said', 'The plan is empty: state 3 active is there already.');
+  await choosePlanned('2');
+  await click(browser, '#ask-plan');
+  await holdText('#plan-said', 'No plan: no order of these packets leads to state 2 observation');
+  await holdText('#heard', 'no plan');
+  await choosePlanned('4');
+  await click(browser, '#ask-plan');
+  await holdText('#plan-said', 'Answer 10: more than five packets, or a wanted state other than 2 and 3.');
+  await click(browser, '#packets li:nth-child(2) button');
+  hold((await countOf('#packets li')) === 4, 'a packet is removed');
+  await holdText('#packets li:nth-child(2)', 'Caps');
+  hold((await textOf(browser, '#plan-said')) === '', 'what was said of other packets goes');
+  await click(browser, 'input[name=way][value=free]');
+  await type(browser, '#free-bytes', '01 0');
+  await click(browser, '#add-free');
+  await holdText('#free-wrong', 'Byte 2: its second hex digit is missing.');
+  await type(browser, '#free-bytes', '01 20 00 03 00 02 00 00 26');
+  await click(browser, '#add-free');
+  await holdText('#packets li:nth-child(5)', 'Set state observation');
+  await click(browser, '#add-free');
+  await holdText('#heard', 'Packet 6 of the plan: Set state observation');
+  await click(browser, '#add-free');
+  await holdText('#add-wrong', '6 packets are prepared, one more than a plan takes: remove one first.');
+  await holdSameAfterReload();
+  await holdText('#packets li:nth-child(6)', 'Set state observation');
+}
+
+// The report and lines with packets and plans.
+async function plannedLines() {
+  const report = await run(browser, 'return document.getElementById("report").textContent');
+  hold(report.includes('\nplan 3\n#   answered 0 plan 2 4 5 3 1\n'), 'the report has the plan');
+  await click(browser, 'input[name=way][value=lines]');
+  await runLines('packet 00');
+  await holdText('#lines-wrong', 'six packets at most');
+  await runLines('packet\npacket 05 21 00 02 03 00 00 2B\npacket 04 21 00 07 13 10 01 00 55 5F 05 01 09\npacket 01 20 00 03 00 02 00 00 26\nfresh\nplan 2\nplan 256');
+  await holdText('#lines-wrong', 'Line 7, column 6: number over 255.');
+  await runLines('packet\npacket 05 21 00 02 03 00 00 2B\npacket 04 21 00 07 13 10 01 00 55 5F 05 01 09\npacket 01 20 00 03 00 02 00 00 26\nfresh\nplan 2');
+  await sayYes();
+  await holdText('#line-answers', 'ok\nok\nok\nok\nok\n0 plan 1 2 3');
+  await holdText('#plan-order li:nth-child(1)', 'Role slave');
+  await click(browser, '#drop-packets');
+  await holdText('#packets', 'none yet');
+}
+
+// ---- traces
 
 async function trace(name, folder) {
   await choose(browser, '#trace-file', path.join(top, folder, `${name}.trace`));
   const lines = fs.readFileSync(path.join(top, folder, `${name}.lines`), 'latin1').trimEnd();
   if (await isAsking()) await click(browser, '#ask-yes');
-  for (let tries = 0; tries < 80 && (await textOf(browser, '#trace-lines')).trimEnd() !== lines; tries++) {
+  for (let tries = 0; tries < TRIES && (await textOf(browser, '#trace-lines')).trimEnd() !== lines; tries++) {
     if (await isAsking()) await click(browser, '#ask-yes');
     await soon();
   }
   hold((await textOf(browser, '#trace-lines')).trimEnd() === lines, `the lines of ${name}.trace are those of replay`);
 }
 
+// A trace that was played is the first; a second beside it, and both by themselves.
+async function parted() {
+  const folder = path.join(top, 'second/cases/parts');
+  const linesOf = (name) => fs.readFileSync(path.join(folder, `${name}.lines`), 'latin1').trimEnd();
+  await holdText('#part-said', 'First: undo-300-times.trace, 300 bytes. Second: none yet.');
+  for (const name of ['off-at-34', 'cut-first', 'unknown-second', 'equal']) {
+    for (const which of ['first', 'second']) await choose(browser, `#part-${which}`, path.join(folder, `${name}.${which}`));
+    await holdText('#part-said', `First: ${name}.first`);
+    await holdText('#part-lines', linesOf(name));
+  }
+  const long = path.join(fs.mkdtempSync(path.join(os.tmpdir(), 'web-tour-')), 'long.trace');
+  fs.writeFileSync(long, new Uint8Array(1048577).fill(4));
+  await choose(browser, '#part-second', long);
+  await holdText('#part-wrong', 'long.trace has 1,048,577 bytes; 1,048,576 are taken at most.');
+  fs.writeFileSync(long, new Uint8Array(1048576).fill(4));
+  for (const which of ['first', 'second']) await choose(browser, `#part-${which}`, long);
+  await holdText('#part-lines', 'shared 1048576 entries, 1048576 bytes; next 1048577');
+  fs.rmSync(path.dirname(long), { recursive: true });
+}
+
+const shownSession = () =>
+  run(browser, 'return [...document.querySelectorAll("#session-body dd, #journal li, #redo-store li")].map((one) => one.firstChild.textContent).join()');
+
 // An image saved is the session: loaded again it shows the same, and the next id and what can be undone too.
 async function saveAndLoad() {
   const folder = fs.mkdtempSync(path.join(os.tmpdir(), 'web-tour-'));
   await devtools(browser, 'Browser.setDownloadBehavior', { behavior: 'allow', downloadPath: folder });
-  const shown = () => run(browser, 'return [...document.querySelectorAll("#session-body dd, #journal li, #redo-store li")].map((one) => one.firstChild.textContent).join()');
   await click(browser, '#bring-up');
   await click(browser, '#undo');
-  const before = await shown();
+  const before = await shownSession();
   const file = path.join(folder, 'bjargolsk.image');
   await click(browser, '#save-image');
-  for (let tries = 0; tries < 80 && !fs.existsSync(file); tries++) await soon();
+  for (let tries = 0; tries < TRIES && !fs.existsSync(file); tries++) await soon();
   hold(fs.readFileSync(file).length === 4411, 'the image that was saved has 4,411 bytes');
   await click(browser, '#fresh');
-  await click(browser, '#ask-yes');
-  hold((await shown()) !== before, 'the fresh session is another one');
+  await sayYes();
+  await holdText('#call-list', 'none');
+  hold((await shownSession()) !== before, 'the fresh session is another one');
   await choose(browser, '#image-file', file);
-  for (let tries = 0; tries < 80 && (await shown()) !== before; tries++) await soon();
-  hold((await shown()) === before, 'the image that was loaded shows the session that was saved');
+  for (let tries = 0; tries < TRIES && (await shownSession()) !== before; tries++) await soon();
+  hold((await shownSession()) === before, 'the image that was loaded shows the session that was saved');
   await holdText('#trace-said', 'this one was loaded');
   await click(browser, '#copy-lines');
-  for (let tries = 0; tries < 40 && (await textOf(browser, '#copy-lines')) !== 'Copied'; tries++) await soon();
+  for (let tries = 0; tries < TRIES && (await textOf(browser, '#copy-lines')) !== 'Copied'; tries++) await soon();
   await holdText('#copy-lines', 'Copied');
   fs.rmSync(folder, { recursive: true });
+}
+
+const loadFile = async (file, wanted) => {
+  await choose(browser, '#image-file', file);
+  await sayYes();
+  await holdText('#loaded-said', wanted);
+};
+
+// A save of a session with something to redo is that session again, after a reload too.
+async function saveAndRestore() {
+  const folder = fs.mkdtempSync(path.join(os.tmpdir(), 'web-tour-'));
+  await devtools(browser, 'Browser.setDownloadBehavior', { behavior: 'allow', downloadPath: folder });
+  const file = path.join(folder, 'bjargolsk.save');
+  const before = await shownSession();
+  await click(browser, '#save-session');
+  for (let tries = 0; tries < TRIES && !fs.existsSync(file); tries++) await soon();
+  hold(fs.readFileSync(file).length === 4409, 'the save has 4,409 bytes');
+  await click(browser, '#undo');
+  await loadFile(file, 'This session came from a save.');
+  hold((await shownSession()) === before, 'the save that was restored shows the session that was saved');
+  await holdSameAfterReload();
+  await holdText('#loaded-said', 'This session came from a save.');
+  fs.rmSync(folder, { recursive: true });
+}
+
+// An old save is moved up; one that isn't taken is told so, and the session stays.
+async function oldSaves() {
+  await loadFile(path.join(top, 'saves/every-kind.base'), 'bytes, moved up, then restored.');
+  await loadFile(path.join(top, 'saves/every-kind.new'), 'This session came from a save.');
+  const before = await shownSession();
+  await choose(browser, '#image-file', path.join(top, 'saves/unset-dvfs.base'));
+  await holdText('#image-wrong', 'As a save of the base version, 257 bytes, it can’t be moved up. Answer 11: the save won’t read or is ill formed.');
+  hold((await shownSession()) === before, 'a save that is refused leaves the session');
+  await run(browser, 'document.getElementById("image-wrong").scrollIntoView({ block: "center" })');
+  await shot('refused-save');
+}
+
+async function saveLines() {
+  await click(browser, 'input[name=way][value=lines]');
+  await runLines('restore 01\nsave\nfresh\nsave');
+  await sayYes();
+  await holdText('#line-answers', '11\nsave 01');
+  const saved = (await textOf(browser, '#line-answers')).split('\n')[1];
+  await runLines(`restore ${saved.slice(5)}\nsave`);
+  await holdText('#line-answers', `0\n${saved}`);
 }
 
 async function imageAndSeeprom() {
   const damaged = path.join(fs.mkdtempSync(path.join(os.tmpdir(), 'web-tour-')), 'damaged.image');
   fs.writeFileSync(damaged, new Uint8Array(4411));
   await choose(browser, '#image-file', damaged);
-  await click(browser, '#ask-yes');
+  await sayYes();
   await holdText('#session-body', 'isn’t well formed');
   await click(browser, '#undo');
   await holdText('#verdict', 'answer 1: the session isn’t well formed');
+  await click(browser, '#save-session');
+  await holdText('#save-wrong', 'Answer 1: the session isn’t well formed. Its image can be saved.');
   fs.writeFileSync(damaged, 'too short');
   await choose(browser, '#image-file', damaged);
-  await holdText('#notice', 'An image has 4411 bytes');
+  await holdText('#image-wrong', 'Here are 9 bytes: a save has 4,409');
   await click(browser, '#fresh');
-  await click(browser, '#ask-yes');
+  await sayYes();
   fs.writeFileSync(damaged, Uint8Array.from({ length: 20 }, (_, at) => at));
   await choose(browser, '#seeprom-file', damaged);
   await holdText('#seeprom-said', '20 bytes are lent');
@@ -338,11 +505,12 @@ async function imageAndSeeprom() {
   fs.rmSync(path.dirname(damaged), { recursive: true });
 }
 
-// Nothing but keys: a role from the top of the page on, then undo, redo, and watch-only with its question.
+// Nothing but keys: a role from the top of the page on, the same for a plan, then undo, redo, and watch-only with its question.
 async function keysAlone() {
   await click(browser, '#fresh');
-  await click(browser, '#ask-yes');
+  await sayYes();
   await choosePrepared('role');
+  await choosePlanned('2');
   await run(browser, 'document.activeElement.blur(); window.scrollTo(0, 0)');
   const reach = async (wanted) => {
     for (let presses = 0; presses < 40; presses++) {
@@ -355,6 +523,16 @@ async function keysAlone() {
   await reach('send-prepared');
   await press(browser, 'enter');
   await holdText('#is-role', 'master');
+  await reach('add-prepared');
+  await press(browser, 'enter');
+  await holdText('#packets li', 'Role master');
+  await reach('ask-plan');
+  await press(browser, 'enter');
+  await holdText('#plan-said', 'No plan');
+  await reach('drop-packets');
+  await press(browser, 'space');
+  await holdText('#packets', 'none yet');
+  hold((await focused(browser)) === 'plan-number', 'the focus is at the wanted state where the list is gone');
   await reach('undo');
   await press(browser, 'space');
   await holdText('#is-role', 'not received');
@@ -374,7 +552,7 @@ async function keysAlone() {
 // What a screen reader needs: each control has a name, no id twice, one first heading.
 async function names() {
   const nameless = await run(browser, `return [...document.querySelectorAll('button, input, select, textarea')].filter((one) =>
-    !(one.labels?.length || one.getAttribute('aria-label') || one.innerText?.trim())).map((one) => one.outerHTML.slice(0, 80))`);
+    !(one.labels?.length || one.getAttribute('aria-label') || one.textContent.trim())).map((one) => one.outerHTML.slice(0, 80))`);
   hold(nameless.length === 0, `controls without a name: ${nameless}`);
   const twice = await run(browser, `const ids = [...document.querySelectorAll('[id]')].map((one) => one.id); return ids.filter((id, at) => ids.indexOf(id) !== at)`);
   hold(twice.length === 0, `ids that stand twice: ${twice}`);
@@ -413,7 +591,12 @@ async function pictures() {
   await click(browser, '#undo');
   await look(browser, LOOKS[0][1]);
   await shot('undo-light');
-  await click(browser, '#call-list li:nth-child(2) button');
+  for (const id of ['throttles', 'user', 'state']) await addPrepared(id);
+  await choosePlanned('2');
+  await click(browser, '#ask-plan');
+  await holdText('#plan-order', 'Set state observation');
+  await click(browser, '#call-list li:nth-child(3) button');
+  for (const which of ['first', 'second']) await choose(browser, `#part-${which}`, path.join(top, `second/cases/parts/off-at-34.${which}`));
   for (const [name, how] of LOOKS) {
     await look(browser, how);
     await run(browser, 'window.scrollTo(0, 0)');
@@ -421,19 +604,21 @@ async function pictures() {
     await shot(name);
     await run(browser, 'document.getElementById("call").scrollIntoView()');
     await shot(`${name}-call`);
-    await run(browser, 'document.getElementById("calls").scrollIntoView()');
-    await shot(`${name}-below`);
+    for (const part of ['plan', 'calls', 'trace-file', 'image-file']) {
+      await run(browser, 'document.getElementById(arguments[0]).scrollIntoView()', part);
+      await shot(`${name}-${part}`);
+    }
   }
 }
 
 try {
   await look(browser, LOOKS[0][1]);
   for (const part of [bringUp, capAndPoll, undoAndRedo, wrongPacket, wrongTyped, mailbox, lines, reload, lookBack, freshAsks]) await part();
-  for (const part of [watchOnlyAtOnce, watchOnlyAsks, watchOnlyRefuses, watchOnlyKept, watchLineAsks]) await part();
+  for (const part of [watchOnlyAtOnce, watchOnlyAsks, watchOnlyRefuses, watchOnlyKept, watchLineAsks, planned, plannedElse, plannedLines]) await part();
   await trace('bring-up', 'examples');
   await trace('kind-ff-third', 'second/cases/traces');
   await trace('undo-300-times', 'second/cases/traces');
-  for (const part of [saveAndLoad, imageAndSeeprom, keysAlone, names, pictures, holdNoErrors]) await part();
+  for (const part of [parted, saveAndLoad, saveAndRestore, oldSaves, saveLines, imageAndSeeprom, keysAlone, names, pictures, holdNoErrors]) await part();
   console.log(`web/test: the tour in headless Chromium: ${steps} looks, all as wanted`);
 } catch (error) {
   console.error(`web/test: the tour: ${error.message}`);

@@ -1,12 +1,12 @@
 // The WebAssembly against the stored vectors: every call with its answer, session bytes and reply. usage: vectors.mjs TOP BUILT.html
 import fs from 'node:fs';
 import path from 'node:path';
-import { call, freshImage, openLibrary, SESSION } from '../src/library.js';
+import { call, freshImage, openLibrary, isPlan, partLines, save, restore, moveUp, PACKETS_MOST, SESSION } from '../src/library.js';
 import { readTrace, replayLine, traceOf } from '../src/trace.js';
 import { readLine, framed } from '../src/lines.js';
 import { same, hexOf } from '../src/bytes.js';
 import {
-  newBench, carryOut, occOrder, benchOf, keptText, losesByWatch, imagesAround, reportLines, reportTrace,
+  newBench, carryOut, occOrder, benchOf, keptText, losesByWatch, imagesAround, reportLines, reportTrace, prepare, putAway, planOrder, askedPlan, stillHolds, sendPlan, readKept,
 } from '../src/bench.js';
 import { PREPARED, BRING_UP, preparedBy, mailboxed, readField } from '../src/commands.js';
 import { readSession } from '../src/session.js';
@@ -88,6 +88,58 @@ function holdMadeTrace() {
   const stored = fs.readFileSync(path.join(top, 'examples/bring-up.trace'));
   if (made.bar || !same(made.bytes, stored)) fail('the trace made of examples/bring-up.calls is another one than examples/bring-up.trace');
   console.log(`web/test: the trace made of ${orders.length} calls is examples/bring-up.trace`);
+}
+
+// Each stored pair with the lines that `part` prints of it.
+function holdParts() {
+  const folder = 'second/cases/parts';
+  const names = fs.readdirSync(path.join(top, folder)).filter((name) => name.endsWith('.lines')).map((name) => name.slice(0, -6));
+  const bytesOf = (file) => new Uint8Array(fs.readFileSync(path.join(top, folder, file)));
+  for (const name of names) {
+    const told = partLines(library, bytesOf(`${name}.first`), bytesOf(`${name}.second`)).join('\n');
+    const stored = linesIn(`${folder}/${name}.lines`).join('\n');
+    if (told !== stored) fail(`${folder}/${name}: told is ${told}, stored is ${stored}`);
+  }
+  console.log(`web/test: ${names.length} pairs of traces part as stored`);
+}
+
+// ---- saves
+
+const filesIn = (folder, end) => fs.readdirSync(path.join(top, folder)).filter((name) => name.endsWith(end)).map((name) => `${folder}/${name}`);
+const bytesIn = (file) => new Uint8Array(fs.readFileSync(path.join(top, file)));
+
+// A save is restored, and saved again it has the same bytes; so has the file that the page takes, as bytes and as text.
+function holdRestored(file, saved) {
+  const { answer, image } = restore(library, saved);
+  if (answer !== 0) fail(`${file} is restored with answer ${answer}`);
+  if (!same(save(library, image).bytes, saved)) fail(`${file}: saved again it has other bytes`);
+  for (const bytes of [saved, Buffer.from(`save ${hexOf(saved, '')}\n`)]) {
+    if (!same(readKept(library, bytes).image ?? [], image)) fail(`${file} is taken as another session`);
+  }
+}
+
+function holdBase(file) {
+  const base = bytesIn(file);
+  const kept = file.replace(/base$/, 'new');
+  const { answer, bytes } = moveUp(library, base);
+  if (!fs.existsSync(path.join(top, kept))) {
+    if (answer !== 11 || !readKept(library, base).wrong) fail(`${file} is moved up with answer ${answer}`);
+    return;
+  }
+  if (answer !== 0 || !same(bytes, bytesIn(kept))) fail(`${file} isn’t moved up to ${kept}, answer ${answer}`);
+  holdRestored(kept, bytes);
+  if (!readKept(library, base).words?.includes('moved up')) fail(`${file} isn’t told to be an old save`);
+}
+
+function holdSaves() {
+  const folder = 'second/cases/saves';
+  const bases = filesIn('saves', '.base');
+  const refused = [...filesIn(folder, '.up-11').map((file) => [moveUp, file]), ...filesIn(folder, '.down-11').map((file) => [restore, file])];
+  for (const file of bases) holdBase(file);
+  for (const file of filesIn(folder, '.down-12')) holdRestored(file, bytesIn(file));
+  for (const [judge, file] of refused) if (judge(library, bytesIn(file)).answer !== 11) fail(`${file} isn’t answered 11`);
+  if (save(library, new Uint8Array(SESSION)).answer !== 1) fail('a damaged session is saved');
+  console.log(`web/test: ${bases.length} old saves moved up, restored and saved as stored; ${refused.length} saves refused`);
 }
 
 // What a prepared command sends where nobody changes its fields.
@@ -183,6 +235,61 @@ function holdWatch() {
   console.log(`web/test: watch-only: ${OPEN_TO_WATCH.length} of ${PREPARED.length} prepared commands are open, the others refused by 16 and 05/20; kept, reported, traced up to it`);
 }
 
+// ---- a plan
+
+// State 3, throttles, caps, thresholds, role, as in docs/PLANNING.md; together they lead to active in the order 2 4 5 3 1.
+function plannedBench() {
+  const bench = newBench(library);
+  for (const id of ['state', 'throttles', 'caps', 'thermal', 'role']) {
+    const prepared = preparedBy(id);
+    const values = Object.fromEntries(prepared.fields.map((field) => [field.id, readField(field, String(field.value)).value]));
+    prepare(bench, occOrder(bench, 0x10, prepared.type, prepared.data({ ...values, state: 3 })));
+  }
+  return bench;
+}
+
+const asked = (bench, number) => carryOut(bench, planOrder(bench, number)).heard;
+
+function holdFound(bench) {
+  const { answer, found, image } = asked(bench, 3);
+  if (answer !== 0 || found.join(' ') !== '2 4 5 3 1') fail(`the plan is ${found}, with answer ${answer}`);
+  if (!same(image, bench.first)) fail('asking for a plan alters the session');
+  if (!isPlan(library, image, planOrder(bench, 3), [5, 4, 3, 2, 1]) || isPlan(library, image, planOrder(bench, 3), [1, 2, 3, 4, 5])) fail('a proposal is checked wrongly');
+}
+
+function holdSent(bench) {
+  const item = askedPlan(bench);
+  if (!stillHolds(bench, item)) fail('a plan that was just found is told not to hold');
+  if (sendPlan(bench, item) !== 5 || readSession(bench.image).state !== 3) fail('the plan that was sent doesn’t lead to active');
+  if (stillHolds(bench, item)) fail('the plan is told to hold after it was sent');
+  if (asked(bench, 3).found.length !== 0) fail('the plan for a state that is there isn’t empty');
+  if (reportTrace(bench).entries !== 5) fail('a plan stands in the way of a trace');
+}
+
+// What is kept and what is reported ask for the same plans, of the same packets.
+function holdPlansKept(bench) {
+  const again = benchOf(library, keptText(bench));
+  if (keptText(again) !== keptText(bench)) fail('a reload gives other packets or plans');
+  const standin = newStandin(library, helpLines);
+  const answers = reportLines(bench, false).map((line) => [line, answerTo(standin, line)]).filter(([line]) => line.startsWith('plan')).map(([, answer]) => answer);
+  if (answers.join() !== '0 plan 2 4 5 3 1,0 plan,0 no plan,10') fail(`the lines of the report ask for plans that are answered ${answers.join()}`);
+  if (standin.packets.map((packet) => hexOf(packet)).join() !== bench.packets.map((packet) => hexOf(packet)).join()) fail('the report prepares other packets');
+}
+
+function holdPlan() {
+  const bench = plannedBench();
+  holdFound(bench);
+  holdSent(bench);
+  putAway(bench, 1);
+  if (askedPlan(bench) !== null) fail('the plan of other packets is shown');
+  if (asked(bench, 2).found !== null) fail('a plan without a way down from active is told');
+  while (bench.packets.length < PACKETS_MOST) prepare(bench, { name: 'occ', bytes: Uint8Array.of(0) });
+  if (asked(bench, 2).answer !== 10) fail('six packets aren’t answered 10');
+  putAway(bench, 5);
+  holdPlansKept(bench);
+  console.log('web/test: a plan is found, checked, sent, kept over a reload and reported');
+}
+
 // Cases that were stored for another length of the image say nothing about this library.
 function storedHere(file) {
   const session = linesIn(file).find((line) => /^\? image must be \d+ bytes$/.test(line));
@@ -200,5 +307,8 @@ holdLines('examples/bring-up.txt', 'examples/bring-up.out');
 holdStored(process.env.WEB_STDIN ?? 'crates/standin/stdin', process.env.WEB_STDOUT ?? 'crates/standin/stdout');
 holdTraces();
 holdMadeTrace();
+holdParts();
+holdSaves();
 holdPrepared();
 holdWatch();
+holdPlan();

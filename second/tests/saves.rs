@@ -24,32 +24,26 @@ fn stored(folder: &str, end: &str) -> Vec<(PathBuf, Vec<u8>)> {
         .collect()
 }
 
+/// What a move wrote into a buffer of `0xEE`, or its refusal; what it didn't write is kept.
+fn moved(outcome: (u8, usize), output: &[u8]) -> Result<Vec<u8>, u8> {
+    let (answer, length) = outcome;
+    let written = if answer == 0 { length } else { 0 };
+    assert!(output[written..].iter().all(|byte| *byte == 0xEE));
+    if answer == 0 {
+        Ok(output[..length].to_vec())
+    } else {
+        Err(answer)
+    }
+}
+
 fn up(saved: &[u8]) -> Result<Vec<u8>, u8> {
     let mut output = [0xEE; NEW_LENGTH + 9];
-    match move_up(saved, &mut output) {
-        (0, length) => {
-            assert!(output[length..].iter().all(|byte| *byte == 0xEE));
-            Ok(output[..length].to_vec())
-        }
-        (answer, _) => {
-            assert!(output.iter().all(|byte| *byte == 0xEE));
-            Err(answer)
-        }
-    }
+    moved(move_up(saved, &mut output), &output)
 }
 
 fn down(saved: &[u8]) -> Result<Vec<u8>, u8> {
     let mut output = [0xEE; LONGEST_BASE + 9];
-    match move_down(saved, &mut output) {
-        (0, length) => {
-            assert!(output[length..].iter().all(|byte| *byte == 0xEE));
-            Ok(output[..length].to_vec())
-        }
-        (answer, _) => {
-            assert!(output.iter().all(|byte| *byte == 0xEE));
-            Err(answer)
-        }
-    }
+    moved(move_down(saved, &mut output), &output)
 }
 
 #[test]

@@ -41,7 +41,7 @@ packetOf number p = packetAt (number - 1) p
 unfoldable pub sound : List ℕ → Bool
 sound c = cond (ltb (length c) 4) false (eqb (packetStatus c) 0)
 
--- of the five places
+-- of the five places at once: each packet is read and summed once
 unfoldable pub sounds : List ℕ → List Bool
 sounds p = sound (packetAt 0 p) ∷ sound (packetAt 1 p) ∷ sound (packetAt 2 p) ∷ sound (packetAt 3 p) ∷ sound (packetAt 4 p) ∷ []
 
@@ -132,10 +132,13 @@ abbrev pub answered : ℕ → Told
 answered n = record { answer = n; small = 0; beside = 0 }
 
 -- beside the answer stands 1 for an order that is accepted
+abbrev pub accepted : Told
+accepted = record { answer = 0; small = 1; beside = 0 }
+
 unfoldable pub planOkCall : Session → List ℕ → ℕ → List ℕ → Told
 planOkCall s p wanted o =
     cond (not (eqb (planRefusal (wellFormed s) p wanted) 0)) (answered (planRefusal (wellFormed s) p wanted))
-    (cond (planOk p wanted (startOf s) o) (record { answer = 0; small = 1; beside = 0 }) (answered 0))
+    (cond (planOk p wanted (startOf s) o) accepted (answered 0))
 
 -- what is told, and the order's buffer as it is left
 pub record Planned : Type 0 where

@@ -12,7 +12,7 @@ use Rattle.session.specs.declared.Session.{Session}
 use Rattle.occ_call.specs.Occ.{occCall}
 use Rattle.inplace.specs.declared.Told.{Told}
 use Rattle.plan.specs.Conditions.{Order}
-use Rattle.plan.specs.Plan.{packetsIn, packetOf, Planned}
+use Rattle.plan.specs.Plan.{packetsIn, packetOf, Planned, answered, accepted}
 use Rattle.promises.specs.Calls.{Call, occ}
 use Rattle.promises.specs.Demand2.{OccSucceeds}
 
@@ -61,7 +61,7 @@ IsPlan s p wanted d o = Order (packetsIn p) o and Leads p wanted d (trialSession
 -- ---- what is told
 
 abbrev pub Accepted : Told → Type 0
-Accepted t = t ≡ record { answer = 0; small = 1; beside = 0 }
+Accepted t = t ≡ accepted
 
 -- the plan given: the numbers at the front of the buffer, as many as are told
 abbrev pub planIn : Planned → List ℕ
@@ -71,4 +71,4 @@ abbrev pub Given : Planned → Type 0
 Given q = (q .told .answer ≡ 0) and (q .told .small ≡ 1)
 
 abbrev pub NoPlan : Planned → Type 0
-NoPlan q = q .told ≡ record { answer = 0; small = 0; beside = 0 }
+NoPlan q = q .told ≡ answered 0

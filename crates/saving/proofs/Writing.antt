@@ -19,7 +19,7 @@ use Rattle.saving.specs.laws.Parts.{regroup}
 use Rattle.saving.specs.Forms.{baseRows, baseOf, savedLength, savedRows, savedOf}
 use Rattle.saving.specs.Moves.{Outcome, Allows, refused, putInto}
 use Rattle.saving.specs.laws.Record.{record-again}
-use Rattle.saving.specs.laws.Forms.{one, number, length-saved}
+use Rattle.saving.specs.laws.Forms.{one, number, length-saved, part-long as part-of}
 
 -- a kind and its body
 pub part-put : (at kind : ℕ) (body d x y : List ℕ) → at + (length body + 1) ≤ length d → x ≡ pasted at (kind ∷ []) d → y ≡ pasted (at + 1) body x → y ≡ pasted at (kind ∷ body) d
@@ -49,7 +49,7 @@ module _ (b : List ℕ) (bytes : Bytes b) (long : length b ≡ imageLength) wher
   inside at n h = omega (arith, long, h)
 
   pub part-long : (n at : ℕ) → at + n ≤ imageLength → length (partAt n at b) ≡ n
-  part-long n at h = length-take-le n (drop at b) (simp length-drop (omega (arith, long, h)))
+  part-long n at h = part-of b bytes n at (inside at n h)
 
   timer-part : byteAt 4401 b ∷ (toBE 8 (numberAt 8 4402 b) ++ []) ≡ partAt 9 4401 b
   timer-part =

@@ -219,7 +219,7 @@ fn read_saved(b: &[u8], d: &mut [u8]) -> bool
 
 // ---- the base form read
 
-// Its record, which is read from more bytes than a save may have.
+// Its record: `image::record_in` asks for 239 bytes, and a save may have 232.
 fn base_record(b: &[u8]) -> Record
     requires { ⌜ baseHead ≤ length (now b) ⌝ }
     ensures { λ r. ⌜ r ≡ recordIn (now (b .entry)) ⌝ }

@@ -21,7 +21,7 @@ use Rattle.image.specs.Image.{sessionOf}
 use Rattle.layout.specs.Layout.{imageLength}
 use Rattle.inplace.specs.declared.Told.{Told}
 use Rattle.plan.specs.Conditions.{FewestThenLeast}
-use Rattle.plan.specs.Plan.{packetsIn, isOrder, reaches, planOk, orderOf, orders, leastPlan, wantedOk, planRefusal, startOf, answered, planOkCall, Planned, given, planCall, planOkOn, planOn}
+use Rattle.plan.specs.Plan.{packetsIn, isOrder, reaches, planOk, orderOf, orders, leastPlan, wantedOk, planRefusal, startOf, answered, accepted, planOkCall, Planned, given, planCall, planOkOn, planOn}
 use Rattle.plan.specs.laws.Least.{least-low, least-passes, least-before}
 use Rattle.plan.specs.laws.Numbers.{numberOf, comes-first, number-order, order-number}
 use Rattle.plan.specs.laws.Orders.{of-more}
@@ -77,9 +77,6 @@ module _ (s : Session) (p : List ℕ) (wanted : ℕ) where
   module _ (o : List ℕ) where
     abbrev passes : Bool
     passes = planOk p wanted (startOf s) o
-
-    abbrev accepted : Told
-    accepted = record { answer = 0; small = 1; beside = 0 }
 
     told-table : ByTable (λ (t : Told) (k : ℕ). t .answer ≡ k) (cond passes accepted (answered 0)) (is 0)
     told-table =

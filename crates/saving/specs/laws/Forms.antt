@@ -139,7 +139,7 @@ module _ (b : List ℕ) (bytes : Bytes b) where
   is : (at k : ℕ) → at < length b → eqb (byteAt at b) k ≡ true → byte k ≡ partAt 1 at b
   is at k h e = ap byte (sym (eqb-true (byteAt at b) k e)) ∙ one at h
 
-  part-long : (n at : ℕ) → at + n ≤ length b → length (partAt n at b) ≡ n
+  pub part-long : (n at : ℕ) → at + n ≤ length b → length (partAt n at b) ≡ n
   part-long n at h = length-take-le n (drop at b) (simp length-drop (omega arith))
 
   pub number : (n at : ℕ) → at + n ≤ length b → toBE n (numberAt n at b) ≡ partAt n at b

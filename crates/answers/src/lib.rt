@@ -1,4 +1,6 @@
 // The text of each answer, put at the front of a lent buffer with its line feed; its length is given back. Nothing is written here.
+#![tactic(auto)]
+
 ghost use Rattle.std.specs.Prelude.{◌≡◌, ◌≤◌, length};
 ghost use Rattle.io.specs.Counts.{IsPrefixLen};
 ghost use Rattle.text.specs.Text.{sheet, ascii, put_on, put_all, from_front, line_end};

@@ -1,4 +1,6 @@
 // Changes to a record: as a command makes them, and as undo takes them back. Nothing else writes a record.
+#![tactic(auto)]
+
 ghost use Rattle.std.specs.Prelude.{◌≡◌};
 ghost use Rattle.change.specs.Logs.{pending_of, first_with, find_of, remove_at, insert_at, pends_at};
 ghost use Rattle.change.specs.With.{with_state, with_role, with_caps, with_throttles, with_user, with_thermal, with_logs, with_mask, with_deadman, with_areas};
@@ -8,7 +10,7 @@ use record::{Areas, Caps, Deadman, Log, Record, Throttles, Timer};
 
 // One change. A case that sets values holds them, with the received mark first; the wide tables stand beside it, in Edit.
 // A clear and a reset take another case to be taken back.
-#[derive(Drop)]
+#[derive(Clone, Copy)]
 pub enum Change {
     Clear(u8, Log),
     Unclear(u8, Log),
@@ -27,20 +29,20 @@ pub enum Change {
 }
 
 // The tables that SetThermal and SetThrottles put in; all zero where a change has none.
-#[derive(Drop)]
+#[derive(Clone, Copy)]
 pub struct Tables {
     pub thermal: [u8; 9],
     pub throttles: Throttles,
 }
 
-#[derive(Drop)]
+#[derive(Clone, Copy)]
 pub struct Edit {
     pub change: Change,
     pub tables: Tables,
 }
 
 // The record with a change put in, or the record as it was where it can't be.
-#[derive(Drop)]
+#[derive(Clone, Copy)]
 pub struct Changed {
     pub ok: bool,
     pub after: Record,

@@ -1,10 +1,12 @@
 // The journal as entries: kinds and lengths, on any lent bytes. Values are judged elsewhere. Other rows of entries are read alike, by their own lengths.
+#![tactic(auto)]
+
 ghost use Rattle.std.specs.Prelude.{◌≡◌, length};
 ghost use Rattle.entries.specs.Entries.{body_len, scan, reading_of, ReadingFits, next_for};
 
 // What lent bytes read as: whole entries, how many and where the newest starts (0 where there is none), or the place of
 // the entry that breaks them.
-#[derive(Drop)]
+#[derive(Clone, Copy)]
 pub enum Reading {
     Whole { count: usize, newest: usize },
     Unknown(usize),
@@ -12,7 +14,7 @@ pub enum Reading {
 }
 
 // What stands at the front of bytes: a whole entry, with its length; no kind that there is; an entry that is cut; or nothing, at the end.
-#[derive(Drop)]
+#[derive(Clone, Copy)]
 pub enum Next {
     Stands(usize),
     NoKind,

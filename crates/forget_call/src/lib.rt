@@ -1,5 +1,7 @@
 // The call `forget`: the oldest changes go out of the journal, and the rest moves down, so that their room is used again. The record stays, and all
 // that is worked out from it, the next id and the redo store.
+#![tactic(auto)]
+
 ghost use Rattle.std.specs.Prelude.{true, ◌++◌, ◌≡◌, ◌≤◌, ◌<◌, ◌-◌, length, take, drop};
 ghost use Rattle.entries.specs.Entries.{entries_of, scan, ReadsWhole};
 ghost use Rattle.marks.specs.Marks.{marks_of};
@@ -16,7 +18,7 @@ use inplace::Told;
 // ---- the entries that go
 
 // Where the oldest entries end; or that there are fewer than asked for.
-#[derive(Drop)]
+#[derive(Clone, Copy)]
 enum Oldest {
     End(usize),
     Fewer,

@@ -1,4 +1,6 @@
 // When a record is well formed, and which values a change may hold: ones that a well-formed record could.
+#![tactic(auto)]
+
 ghost use Rattle.std.specs.Prelude.{◌≡◌, drop};
 ghost use Rattle.formed.specs.Formed.{state_ok, flag_ok, role_ok, caps_ok, pair_ok, absent_zero, throttles_ok, clock_ok, deadman_ok, timer_ok, multiple_of128, in_memory, area_ok, areas_ok, in_order, thermal_rule, thermal_ok, reason_ok, log_ok, unused, logs_ok, next_ok, fields_ok, record_ok, cleared_ok, made_ok, unreset_ok};
 

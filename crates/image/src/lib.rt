@@ -1,4 +1,6 @@
 // A session as 4,411 bytes, its image: its head read and written at the fields' offsets, numbers big-endian, no padding.
+#![tactic(auto)]
+
 ghost use Rattle.std.specs.Prelude.{◌≡◌, ◌≤◌, ◌+◌, length};
 ghost use Rattle.wire.specs.Wire.{pasted, Bytes, joined};
 ghost use Rattle.image.specs.Image.{head_rows, throttles_rows, thermal_rows, logs_rows, mailbox_rows, worked_rows, record_rows, image_of, written_to, part_at, caps_in, throttles_in, received_in, log_at, logs_in, deadman_in, areas_in, record_in, worked_in, timer_rows, timer_in, head_in, head_renewed, head_timed, store_at, journal_in, redo_in, marks_in, session_in};
@@ -9,7 +11,7 @@ use record::{Area, Areas, Caps, Deadman, Log, Received, Record, Throttles, Timer
 use session::Session;
 
 // A session without its journal, its redo store and its marks, which stay in the lent bytes.
-#[derive(Drop)]
+#[derive(Clone, Copy)]
 pub struct Head {
     pub held: Record,
     pub worked: Worked,

@@ -1,5 +1,7 @@
 // A session that is lent as its image's bytes and worked on where it stands: its head is handed round by value, its stores are looked at
 // and changed in place, and the head is written back only where it changed.
+#![tactic(auto)]
+
 ghost use Rattle.std.specs.Prelude.{◌≡◌, true, ◌≤◌, ◌+◌, length};
 ghost use Rattle.wire.specs.Wire.{pasted};
 ghost use Rattle.entries.specs.laws.Entries.{Sized};
@@ -18,7 +20,7 @@ use marks::Newest;
 
 // A session answer; beside it a small number, the reason of a status 0x13, and one of 16 bits: the place of that status, the doorbell, the kind
 // moved. 0 where a call has none.
-#[derive(Drop)]
+#[derive(Clone, Copy)]
 pub struct Told {
     pub answer: u8,
     pub small: u8,

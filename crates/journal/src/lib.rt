@@ -1,5 +1,7 @@
 // A change as an entry's bytes and back, on any lent bytes: writing one, reading one, judging its values, adding one at the end
 // and cutting it off.
+#![tactic(auto)]
+
 ghost use Rattle.std.specs.Prelude.{◌≡◌, ◌∷◌, true, ◌≤◌, ◌<◌, ◌+◌, length, take, drop};
 ghost use Rattle.wire.specs.Wire.{pasted, to_be};
 ghost use Rattle.change.specs.Change.{kind_of};
@@ -15,28 +17,28 @@ use change::{Change, Edit, Tables};
 use record::{Area, Areas, Caps, Deadman, Log, Throttles, Timer};
 
 // What a store's entries hold: what was before (the journal), or what was after (the redo store). Kinds 01 and 08 read differently.
-#[derive(Drop)]
+#[derive(Clone, Copy)]
 pub enum Way {
     Before,
     After,
 }
 
 // What an entry says, or that the bytes are no entry.
-#[derive(Drop)]
+#[derive(Clone, Copy)]
 pub enum Found {
     Good(Change),
     Bad,
 }
 
 // The same with the tables beside it, zero where the change has none.
-#[derive(Drop)]
+#[derive(Clone, Copy)]
 pub struct Got {
     pub found: Found,
     pub tables: Tables,
 }
 
 // Where the used bytes end once an entry is added, or that there is no room.
-#[derive(Drop)]
+#[derive(Clone, Copy)]
 pub enum End {
     At(usize),
     Full,

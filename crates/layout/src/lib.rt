@@ -1,4 +1,5 @@
 // The image of a session by the names of its parts: where each begins, and how long an image is.
+#![tactic(auto)]
 
 // Bytes of a store.
 pub const STORE: usize = 2048;

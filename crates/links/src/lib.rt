@@ -1,4 +1,6 @@
 // Every value of the types of a record and of a session has what those types say.
+#![tactic(auto)]
+
 ghost use Rattle.std.specs.Prelude.{◌<◌, ◌^◌};
 ghost use Rattle.links.specs.Typed.{TypedRecord, TypedSession};
 

@@ -1,5 +1,6 @@
 // Lists each file that an argument names, under a heading, by the call that `list_journal` makes. Each function answers whether to go on: the
 // output can still be written.
+#![tactic(auto)]
 
 // The listing of what an open file holds.
 fn list_open(fd: i32, name: &[u8]) -> bool {

@@ -1,4 +1,6 @@
 // Lists raw journal bytes from standard input. One byte more than a journal can have is read, so that longer input is seen.
+#![tactic(auto)]
+
 use libc::STDIN_FILENO;
 
 fn main() {

@@ -1,4 +1,6 @@
 // The listing of raw journal bytes, put into a lent buffer piece by piece. Each `put` writes from `at` on and gives the place past it.
+#![tactic(auto)]
+
 ghost use Rattle.std.specs.Prelude.{◌≡◌};
 ghost use Rattle.io.specs.Counts.{IsPrefixLen};
 ghost use Rattle.entries.specs.Entries.{between, scan, entries_of};

@@ -1,4 +1,6 @@
 // Document 02, i: the marks of a journal, 32 numbers of two bytes: where each 32nd entry begins, so that the newest is found without a walk over all.
+#![tactic(auto)]
+
 ghost use Rattle.std.specs.Prelude.{◌≡◌, ◌≤◌, ◌<◌, length};
 ghost use Rattle.entries.specs.Entries.{scan, reading_of};
 ghost use Rattle.marks.specs.Marks.{mark_in, stands_at, rest_unused, Last, newest_of, NewestFits};
@@ -6,7 +8,7 @@ ghost use Rattle.marks.specs.Marks.{mark_in, stands_at, rest_unused, Last, newes
 use entries::Reading;
 
 // A mark: how many stand before it, and the place that it says.
-#[derive(Drop)]
+#[derive(Clone, Copy)]
 pub struct Mark {
     pub number: usize,
     pub place: usize,
@@ -21,7 +23,7 @@ fn place_in(m: &[u8], number: usize) -> usize
 }
 
 // The newest entry of a part of a journal, and how many entries are passed on the way there; or that the part has none.
-#[derive(Drop)]
+#[derive(Clone, Copy)]
 pub enum Newest {
     At(usize, usize),
     Nothing,

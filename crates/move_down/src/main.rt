@@ -1,5 +1,7 @@
 // Moves a session in the new form, from standard input, down to the base version's. One byte more than the new form has is read, so that longer input is
 // seen.
+#![tactic(auto)]
+
 use libc::{STDERR_FILENO, STDIN_FILENO};
 
 fn complain(s: &[u8]) {

@@ -1,5 +1,7 @@
 // Moves a session that the base version saved, from standard input, up to the new form. One byte more than a base save can have is read, so that longer
 // input is seen.
+#![tactic(auto)]
+
 use libc::{STDERR_FILENO, STDIN_FILENO};
 
 fn main() {

@@ -1,4 +1,6 @@
 // Each OCC command judged against record, worked-out values and next id. Nothing here changes a record.
+#![tactic(auto)]
+
 ghost use Rattle.std.specs.Prelude.{◌≡◌, ◌≤◌};
 ghost use Rattle.occ.specs.Commands.{poll_verdict, clear_verdict, state_fits, not_ready, state_verdict, role_verdict, caps_for, caps_verdict, user_allowed, user_for, user_verdict, log_due, reset_for, reset_verdict};
 ghost use Rattle.occ.specs.Judge.{plainly, sets_status, throttles_judged, thermal_judged, configure_judged, judge_of};
@@ -8,7 +10,7 @@ use change::{Change, Tables};
 use record::{Caps, Log, Record, Throttles, Worked};
 
 // Refused with a status, a poll to answer, or the change to make.
-#[derive(Drop)]
+#[derive(Clone, Copy)]
 pub enum Verdict {
     Refuse(u8),
     Poll,
@@ -16,14 +18,14 @@ pub enum Verdict {
 }
 
 // A row of the table of what is open: whether the BMC may send it, and whether it is open in a watch-only session.
-#[derive(Drop)]
+#[derive(Clone, Copy)]
 pub struct Row {
     pub bmc: bool,
     pub watch: bool,
 }
 
 // A verdict with the change's tables beside it, zero where it has none.
-#[derive(Drop)]
+#[derive(Clone, Copy)]
 pub struct Judged {
     pub verdict: Verdict,
     pub tables: Tables,

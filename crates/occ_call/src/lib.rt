@@ -1,4 +1,6 @@
 // The call `occ`: a command buffer from a sender, answered on a lent session. Refuse first, read, judge, carry out, reply last.
+#![tactic(auto)]
+
 ghost use Rattle.std.specs.Prelude.{true, ◌≡◌, ◌≤◌, length, get_or};
 ghost use Rattle.occ_call.specs.Occ.{known_sender, refusal_of, asked_of, told_of, fault_for, beside_of, occ_read_left, OccAllows};
 ghost use Rattle.packet.specs.Packet.{data_of};

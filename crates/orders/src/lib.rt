@@ -1,4 +1,6 @@
 // A line read as an order: what its word asks for, and the bytes after it, which go into a lent buffer. Nothing is carried out here.
+#![tactic(auto)]
+
 ghost use Rattle.std.specs.Prelude.{◌≡◌, ◌≤◌, ◌-◌, length};
 ghost use Rattle.io.specs.Counts.{IsPrefixLen};
 ghost use Rattle.wire.specs.Wire.{pasted};
@@ -30,7 +32,7 @@ pub const MOST_STATE: u64 = 255;
 pub const MOST_PACKET: usize = 4096;
 
 // What is made on a session.
-#[derive(Drop)]
+#[derive(Clone, Copy)]
 pub enum Call {
     Occ,
     Sbe,
@@ -48,7 +50,7 @@ pub enum Call {
 }
 
 // What only looks.
-#[derive(Drop)]
+#[derive(Clone, Copy)]
 pub enum View {
     Image,
     Why,
@@ -58,14 +60,14 @@ pub enum View {
 }
 
 // The reply buffers that calls get: as long as the call needs, or of so many bytes.
-#[derive(Drop)]
+#[derive(Clone, Copy)]
 pub enum Buffer {
     Whole,
     Bytes(usize),
 }
 
 // What a line can have wrong; `ManyPackets` is wrong only beside the packets of earlier lines.
-#[derive(Drop)]
+#[derive(Clone, Copy)]
 pub enum Wrong {
     LongLine,
     NoWord,
@@ -84,7 +86,7 @@ pub enum Wrong {
 }
 
 // `Seeprom`: the bytes become the SEEPROM's image. `Packet`: they are prepared for a plan.
-#[derive(Drop)]
+#[derive(Clone, Copy)]
 pub enum Word {
     Make(Call),
     Look(View),
@@ -96,7 +98,7 @@ pub enum Word {
 }
 
 // `count` bytes follow those that are due; `column` is where the line is wrong.
-#[derive(Drop)]
+#[derive(Clone, Copy)]
 pub struct Order {
     pub word: Word,
     pub count: usize,

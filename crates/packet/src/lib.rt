@@ -1,4 +1,6 @@
 // OCC packets: the command reader, which hands back the data as that part of the caller's buffer, and the replies.
+#![tactic(auto)]
+
 ghost use Rattle.std.specs.Prelude.{◌≡◌};
 ghost use Rattle.packet.specs.Packet.{packet_status, data_of, no_log_id, replied};
 

@@ -1,4 +1,6 @@
 // The two-byte sum of a packet's bytes, eight at a turn.
+#![tactic(auto)]
+
 ghost use Rattle.std.specs.Prelude.{◌≡◌, ◌+◌, ◌*◌, ◌%◌, ◌≤◌, length, take};
 ghost use Rattle.wire.specs.Wire.{packet_sum};
 

@@ -1,4 +1,6 @@
 // Tells where two recorded traces part: two files, named as arguments. Room for one byte more than a trace may have, so that a longer one is seen.
+#![tactic(auto)]
+
 ghost use Rattle.io.specs.Counts.{IsPrefixLen};
 
 use libc::STDERR_FILENO;

@@ -1,4 +1,6 @@
 // Where two recordings part: the whole entries that two lent traces share at their start, and the lines that say it.
+#![tactic(auto)]
+
 ghost use Rattle.std.specs.Prelude.{◌≡◌, ◌≤◌, length};
 ghost use Rattle.wire.specs.Wire.{joined};
 ghost use Rattle.io.specs.Counts.{IsPrefixLen};
@@ -11,7 +13,7 @@ ghost use Rattle.parting.specs.Lines.{shared_line, refusal_line, told, told_leng
 use entries::{Next, Reading};
 
 // Why the first entry of a trace won't read, and of which.
-#[derive(Drop)]
+#[derive(Clone, Copy)]
 pub enum Refusal {
     Nothing,
     UnknownInFirst,
@@ -21,7 +23,7 @@ pub enum Refusal {
 }
 
 // How many entries are shared, the number of the one after them, and what is refused.
-#[derive(Drop)]
+#[derive(Clone, Copy)]
 pub struct Parting {
     pub entries: usize,
     pub next: usize,

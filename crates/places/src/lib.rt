@@ -1,4 +1,6 @@
 // Document 02, c: the first data byte of an OCC command that is wrong, and why. `occ` judges the status; this judge says where.
+#![tactic(auto)]
+
 ghost use Rattle.std.specs.Prelude.{◌≡◌, ◌+◌, ◌*◌, ◌<◌, ◌≤◌, length};
 ghost use Rattle.places.specs.Reasons.{named};
 ghost use Rattle.places.specs.Places.{wrong, poll_fault, clear_fault, state_fault, role_fault, caps_fault, user_fault, reset_fault};
@@ -7,7 +9,7 @@ ghost use Rattle.places.specs.Places.{width_of, most_of, start_of, same_number, 
 use record::{Caps, Log, Record};
 
 // What is wrong with a byte.
-#[derive(Drop)]
+#[derive(Clone, Copy)]
 pub enum Reason {
     BadVersion,
     BadCount,
@@ -18,13 +20,13 @@ pub enum Reason {
 }
 
 // The data byte that is wrong, numbered from 1.
-#[derive(Drop)]
+#[derive(Clone, Copy)]
 pub struct Fault {
     pub reason: Reason,
     pub at: u16,
 }
 
-#[derive(Drop)]
+#[derive(Clone, Copy)]
 pub enum Blame {
     Nothing,
     Wrong(Fault),
@@ -160,7 +162,7 @@ fn reset_prep(d: &[u8]) -> Blame
 // ---- the formats with sets
 
 // Throttle sets are of twelve bytes, thermal ones of four.
-#[derive(Drop)]
+#[derive(Clone, Copy)]
 pub enum SetTable {
     Throttles,
     Thermal,

@@ -1,5 +1,7 @@
 // The calls `plan_ok` and `plan`: whether an order of prepared packets leads to a wanted state, and the first order that does. Packets are tried on a
 // record and a next id, by value; the session is only looked at.
+#![tactic(auto)]
+
 ghost use Rattle.std.specs.Prelude.{true, ◌≡◌, ◌≤◌, ◌<◌, length, drop};
 ghost use Rattle.occ.specs.declared.Verdict.TheVariants.{Make};
 ghost use Rattle.plan.specs.Plan.{packet_at, packets_in, sound, sounds, failed, trial_by, trial_of, comes_in, is_order, reaches, plan_ok, digits_of, trimmed, least_plan, wanted_ok, plan_refusal, given, plan_ok_on, PlanAllows};
@@ -14,7 +16,7 @@ use record::Record;
 const ORDERS: u16 = 7776;
 
 // Whether all went well so far, and the record and next id then.
-#[derive(Drop)]
+#[derive(Clone, Copy)]
 pub struct Trial {
     pub ok: bool,
     pub held: Record,

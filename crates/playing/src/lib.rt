@@ -1,4 +1,6 @@
 // A recorded trace played: each entry is a call on a lent session, and gives a line.
+#![tactic(auto)]
+
 ghost use Rattle.std.specs.Prelude.{true, ◌≡◌, ◌≤◌, ◌+◌, ◌*◌, leb, [], length, replicate};
 ghost use Rattle.wire.specs.Wire.{joined};
 ghost use Rattle.io.specs.Counts.{IsPrefixLen};
@@ -128,7 +130,7 @@ pub fn step(lent: &mut [u8], number: u64, entry: &[u8], out: &mut [u8]) -> usize
 // ---- a whole trace
 
 // How a trace was played: the lent session is no image; the lines may have no room; or so many bytes of lines, and how the trace reads.
-#[derive(Drop)]
+#[derive(Clone, Copy)]
 pub enum Played {
     NoImage,
     NoRoom,

@@ -1,4 +1,6 @@
 // The poll's reply: 40 data bytes, and the CAPS block of a master with caps received.
+#![tactic(auto)]
+
 ghost use Rattle.std.specs.Prelude.{◌≡◌, ◌≤◌};
 ghost use Rattle.packet.specs.Packet.{replied};
 ghost use Rattle.poll.specs.Poll.{master_bit, mark_bit, status_byte, log_length, shows_caps, poll_head, caps_block, poll_data};

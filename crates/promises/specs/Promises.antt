@@ -1,7 +1,7 @@
 -- What the stand-in promises, each in a few lines, each proved by pointing at the file that does the work.
 -- s, p: a session, a run of calls; c: a call with any bytes and any buffer. The calls are those of the public contracts (Calls.antt).
 use Rattle.std.specs.Prelude.{ℕ, suc, ◌+◌, ◌≤◌, ◌<◌, true, false, ◌↔◌, ◌⊎◌, ◌≡◌, List, [], ◌++◌, length, get_or, take, drop}
-use Rattle.std.proofs.Math.Logic.{Iff·trans}
+use Rattle.std.proofs.Math.Logic.Iff
 use Rattle.std.proofs.Common.{sym, ap, subst, ◌∙◌}
 use Rattle.wire.specs.Wire.{Bytes, pasted, joined}
 use Rattle.record.specs.Record.{fresh_record, worked_of}
@@ -147,7 +147,7 @@ well_formed_exactly_when = plainly_formed
 
 pub answer_1_exactly_when : (s : Session) → TypedSession s → (c : Call) → ((said s c).answer ≡ 1) ↔ (WellFormed s → ⊥)
 answer_1_exactly_when s typed c =
-    Iff·trans (one_exactly s typed c) (λ h p. h ((plainly_formed s).1 p), λ h w. h ((plainly_formed s).0 w))
+    Iff.trans (one_exactly s typed c) (λ h p. h ((plainly_formed s).1 p), λ h w. h ((plainly_formed s).0 w))
 
 -- document 02, b: two thresholds are out of order "only when both are defined and out of order"
 pub thresholds_out_of_order_exactly_when : (dvfs error : ℕ) → (in_order dvfs error ≡ false) ↔ ((dvfs ≡ 0xFF → ⊥) and (error ≡ 0xFF → ⊥) and (error < dvfs))
@@ -635,7 +635,7 @@ refusal_of_plan_keeps = plan_refused
 pub a_plan_is_checked_exactly : (s : Session) → TypedSession s → (p : List ℕ) → Bytes p → (wanted : ℕ) → PlanDue s p wanted → (o d : List ℕ) → 4096 ≤ length d
     → Accepted (plan_ok_call s p wanted o) ↔ IsPlan s p wanted d o
 a_plan_is_checked_exactly s typed p b wanted due o d long =
-    Iff·trans (accepted_exactly s p wanted o due) (passes_exactly s typed p b wanted due.formed due.few d long o)
+    Iff.trans (accepted_exactly s p wanted o due) (passes_exactly s typed p b wanted due.formed due.few d long o)
 
 -- answer 5 never comes there: five entries have room
 pub trials_never_lack_room : (s : Session) → TypedSession s → (p : List ℕ) → Bytes p → (wanted : ℕ) → PlanDue s p wanted → (o d : List ℕ) → 4096 ≤ length d

@@ -1,49 +1,51 @@
 // The record of a session, and what is worked out from it. Plain numbers only: every byte pattern is some record.
+#![tactic(auto)]
+
 ghost use Rattle.std.specs.Prelude.{◌≡◌};
 ghost use Rattle.record.specs.Record.{fresh_record, limit_of, observation_ready, active_ready, caps_missing, wanted_of, flag_of, worked_of};
 
 // A pending log; an unused place has both numbers 0.
-#[derive(Drop)]
+#[derive(Clone, Copy)]
 pub struct Log {
     pub id: u8,
     pub reason: u8,
 }
 
-#[derive(Drop)]
+#[derive(Clone, Copy)]
 pub struct Caps {
     pub min: u16,
     pub max: u16,
     pub over: u16,
 }
 
-#[derive(Drop)]
+#[derive(Clone, Copy)]
 pub struct Area {
     pub address: u64,
     pub size: u32,
 }
 
 // The FFDC area and the pass-through area.
-#[derive(Drop)]
+#[derive(Clone, Copy)]
 pub struct Areas {
     pub ffdc: Area,
     pub pass: Area,
 }
 
-#[derive(Drop)]
+#[derive(Clone, Copy)]
 pub struct Deadman {
     pub running: u8,
     pub time: u64,
 }
 
 // The one timer of the mailbox (document 02, h), outside the record: off, or the microseconds left.
-#[derive(Drop)]
+#[derive(Clone, Copy)]
 pub struct Timer {
     pub running: u8,
     pub left: u64,
 }
 
 // What was received: 0 or 1 each.
-#[derive(Drop)]
+#[derive(Clone, Copy)]
 pub struct Received {
     pub role: u8,
     pub caps: u8,
@@ -52,13 +54,13 @@ pub struct Received {
 }
 
 // The present pairs as one number, and ten bytes for each of the 16 pairs, in the order 2 x hub + MBA.
-#[derive(Drop)]
+#[derive(Clone, Copy)]
 pub struct Throttles {
     pub present: u16,
     pub sets: [u8; 160],
 }
 
-#[derive(Drop)]
+#[derive(Clone, Copy)]
 pub struct Record {
     pub state: u8,
     pub role: u8,
@@ -74,7 +76,7 @@ pub struct Record {
 }
 
 // What is worked out from a record; the two readies are 0 or 1.
-#[derive(Drop)]
+#[derive(Clone, Copy)]
 pub struct Worked {
     pub limit: u16,
     pub observation: u8,

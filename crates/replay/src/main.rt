@@ -1,4 +1,6 @@
 // Plays a recorded trace of any length from standard input on a fresh session. A line is written for each entry before more input is waited for.
+#![tactic(auto)]
+
 ghost use Rattle.std.specs.Prelude.{◌+◌, ◌≤◌, length};
 ghost use Rattle.io.specs.Counts.{IsPrefixLen};
 
@@ -8,7 +10,7 @@ use streams::Got;
 // ---- lines
 
 // The bytes of lines that wait, and whether lines can still be written.
-#[derive(Drop)]
+#[derive(Clone, Copy)]
 struct Lines {
     waiting: usize,
     heard: bool,
@@ -62,7 +64,7 @@ fn front(rest: &[u8]) -> usize
 }
 
 // How many entries were played since the start, how many of the bytes at hand they take, and whether lines can still be written.
-#[derive(Drop)]
+#[derive(Clone, Copy)]
 struct Past {
     entries: u64,
     bytes: usize,

@@ -1,5 +1,7 @@
 // Document 02, m: sessions saved and restored, and those saved by the base version moved across, up and down. What is read is read whole, into a session of
 // its own, before a byte of the caller's buffer is written.
+#![tactic(auto)]
+
 ghost use Rattle.std.specs.Prelude.{true, ◌∷◌, ◌≡◌, ◌≤◌, ◌+◌, length, get_or, drop};
 ghost use Rattle.wire.specs.Wire.{pasted};
 ghost use Rattle.entries.specs.Entries.{body_len, scan, entries_of, entry_of, ReadsWhole};

@@ -1,4 +1,6 @@
 // The SBE mailbox: a request judged, its doorbell bits and its response. Nothing here changes a record or the timer.
+#![tactic(auto)]
+
 ghost use Rattle.std.specs.Prelude.{◌≡◌, ◌≤◌, length};
 ghost use Rattle.wire.specs.Wire.{pasted};
 ghost use Rattle.sbe.specs.declared.Ruling.TheVariants.{Grant};
@@ -9,7 +11,7 @@ use record::{Area, Areas, Deadman, Timer};
 
 // Refused with primary and secondary status; the change to make; accepted without one; or an offset and a size of the
 // SEEPROM to read, judged where its image is known.
-#[derive(Drop)]
+#[derive(Clone, Copy)]
 pub enum Ruling {
     Decline(u16, u16),
     Grant(Change),

@@ -1,4 +1,6 @@
 // The call `sbe`: a mailbox request, answered on a lent session. Refuse first, judge, serve, carry out, respond and ring last.
+#![tactic(auto)]
+
 ghost use Rattle.std.specs.Prelude.{true, ◌≡◌, ◌≤◌, length};
 ghost use Rattle.sbe_call.specs.Sbe.{refusal_of, counted_in, read_status, judged_for, denied, by_profile, served_by, told_of, ruled_left, SbeAllows, AloneAllows};
 ghost use Rattle.session.specs.Session.{well_formed};

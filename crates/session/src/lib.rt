@@ -1,4 +1,6 @@
 // The session: one value, and the parts of the test whether it is well formed.
+#![tactic(auto)]
+
 ghost use Rattle.std.specs.Prelude.{◌≡◌, false, cond, length};
 ghost use Rattle.session.specs.Session.{fresh_session, worked_fits, held_ok, store_ok, entries_in, only_clears, made_of};
 ghost use Rattle.entries.specs.Entries.{entries_of, scan, ReadsWhole};
@@ -8,7 +10,7 @@ use change::Change;
 use journal::Way;
 use record::{Record, Timer, Worked};
 
-#[derive(Drop)]
+#[derive(Clone, Copy)]
 pub struct Session {
     pub held: Record,
     pub worked: Worked,

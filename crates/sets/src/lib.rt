@@ -1,4 +1,6 @@
 // The sets of configuration formats 0x12 and 0x13, read one after the other from the part that starts at the fourth data byte.
+#![tactic(auto)]
+
 ghost use Rattle.std.specs.Prelude.{not, true, ◌≡◌, ◌<◌, ◌*◌, ◌/◌, ◌%◌, ◌^◌, eqb, length};
 ghost use Rattle.sets.specs.Sets.{sets_as, empty_sets, one_set, sets_of, empty_frus, bad_frus, with_fru, one_fru, frus_of};
 
@@ -7,7 +9,7 @@ use record::Throttles;
 // ---- throttle sets
 
 // The sets read so far, or that one of them was wrong.
-#[derive(Drop)]
+#[derive(Clone, Copy)]
 pub struct Sets {
     pub ok: bool,
     pub table: Throttles,
@@ -72,7 +74,7 @@ pub fn read_sets(part: &[u8], n: usize) -> Sets
 // ---- thermal thresholds
 
 // The FRU types read so far, or that one of them was wrong; `seen` has a bit for each type.
-#[derive(Drop)]
+#[derive(Clone, Copy)]
 pub struct Frus {
     pub ok: bool,
     pub seen: u16,

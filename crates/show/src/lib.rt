@@ -1,4 +1,6 @@
 // The session as text for a person, into a lent buffer, a function for each line of docs/PROTOCOL.md. Every byte pattern shows.
+#![tactic(auto)]
+
 ghost use Rattle.std.specs.Prelude.{◌≡◌, ◌-◌, cond, [], eqb};
 ghost use Rattle.io.specs.Counts.{IsPrefixLen};
 ghost use Rattle.text.specs.Text.{sheet, put_on, put_all, from_front};

@@ -1,4 +1,6 @@
 // Answers each line of standard input by calls on one session, as docs/PROTOCOL.md says. A line is answered as soon as it is complete.
+#![tactic(auto)]
+
 ghost use Rattle.std.specs.Prelude.{◌≡◌, ◌≤◌, length};
 ghost use Rattle.io.specs.Counts.{IsPrefixLen};
 ghost use Rattle.layout.specs.Layout.{image_length};
@@ -134,7 +136,7 @@ fn carry_out(
 // ---- their answers
 
 // How a call is answered.
-#[derive(Drop)]
+#[derive(Clone, Copy)]
 enum Form {
     Reply,
     Response,
@@ -245,7 +247,7 @@ fn reply_len(buffer: Buffer, call: Call) -> usize
 
 // What is kept beside the session: the sequence of the last packet sent, the reply buffers that are lent, the bytes that the SEEPROM's image has
 // and those of the prepared packets in their slots, what the last OCC call told, and whether answers can still be written.
-#[derive(Drop)]
+#[derive(Clone, Copy)]
 struct Bench {
     sequence: u8,
     buffer: Buffer,
@@ -256,7 +258,7 @@ struct Bench {
 }
 
 // The bytes of an answer, and what the last OCC call told.
-#[derive(Drop)]
+#[derive(Clone, Copy)]
 struct Said {
     length: usize,
     last: Told,
@@ -523,7 +525,7 @@ fn gather(line: &mut [u8], held: usize, part: &[u8]) -> usize
 }
 
 // The bench after the lines that were complete, and how many bytes of the next line are held.
-#[derive(Drop)]
+#[derive(Clone, Copy)]
 struct Served {
     bench: Bench,
     held: usize,
@@ -566,7 +568,7 @@ fn serve_piece(
 }
 
 // A piece of the input, and whether nothing comes after it.
-#[derive(Drop)]
+#[derive(Clone, Copy)]
 struct Piece {
     count: usize,
     last: bool,

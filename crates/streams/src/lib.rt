@@ -1,5 +1,7 @@
 // Reading and writing by the system's calls. A stream that isn't ready is tried again until it is; what can't be read or written is said on
 // standard error, with the system's reason.
+#![tactic(auto)]
+
 ghost use Rattle.std.specs.Prelude.{◌≤◌, length};
 ghost use Rattle.io.specs.Counts.{IsPrefixLen};
 
@@ -58,7 +60,7 @@ fn answered(fd: i32, space: &mut [u8]) -> isize {
 }
 
 // The bytes that were put at the start of a buffer: none at the end of the input, and none where it can't be read.
-#[derive(Drop)]
+#[derive(Clone, Copy)]
 pub struct Got {
     pub count: usize,
     pub failed: bool,

@@ -1,5 +1,7 @@
 // Text of lines: reading words, bytes in hex and decimal numbers, and putting text into a lent buffer. Each `put` writes from `at` on and gives the place
 // past it; what doesn't fit is left out whole, so no buffer is too short to lend.
+#![tactic(auto)]
+
 ghost use Rattle.std.specs.Prelude.{◌≡◌, ◌+◌, ◌*◌, ◌≤◌, ◌<◌, leb, length};
 ghost use Rattle.io.specs.Counts.{IsPrefixLen};
 ghost use Rattle.text.specs.Text.{blank, in_word, other, leading, past_blanks, digit_of, digit_at, hex_run, Takes, same_text, sheet, put_on, put_all, hex_digit, hex_of, hexes, spaced, decimal, number, numbers};
@@ -120,7 +122,7 @@ fn digit_at(s: &[u8], at: usize) -> u8
 }
 
 // What is wrong in a run of bytes, with its column.
-#[derive(Drop)]
+#[derive(Clone, Copy)]
 pub enum Fault {
     Nothing,
     Digit(usize),
@@ -128,7 +130,7 @@ pub enum Fault {
 }
 
 // How many bytes were read, and what then was wrong.
-#[derive(Drop)]
+#[derive(Clone, Copy)]
 pub struct Taken {
     pub count: usize,
     pub fault: Fault,
@@ -178,7 +180,7 @@ pub fn take_bytes(s: &[u8], from: usize, out: &mut [u8]) -> Taken
 }
 
 // What stands where a number is due: none, one over the most that is taken, or one and the place past its digits.
-#[derive(Drop)]
+#[derive(Clone, Copy)]
 pub enum Number {
     Missing,
     TooGreat,

@@ -1,4 +1,6 @@
 // The call `time`: the bench reports that so many microseconds have passed. The timer alone moves; no entry is made, and the redo store stays.
+#![tactic(auto)]
+
 ghost use Rattle.std.specs.Prelude.{◌≡◌};
 ghost use Rattle.session.specs.Road.{expires, ticked, timer_bell, passes};
 ghost use Rattle.image.specs.Image.{session_in};

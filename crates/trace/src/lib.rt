@@ -1,4 +1,6 @@
 // A trace as entries: kinds and lengths, on any lent bytes. What the entries say is played elsewhere.
+#![tactic(auto)]
+
 ghost use Rattle.std.specs.Prelude.{◌≡◌, ◌≤◌, length};
 ghost use Rattle.entries.specs.Entries.{entries_of, reading_of, ReadingFits, next_by};
 ghost use Rattle.trace.specs.Trace.{trace_table, trace_scan};

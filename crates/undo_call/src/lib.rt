@@ -1,5 +1,7 @@
 // The calls `undo` and `redo`: the newest change is taken back, or the one last taken back put in again. The record and all that is worked out from
 // it, or the timer; the next id stays. Both walk one road; the way says which store an entry is taken from.
+#![tactic(auto)]
+
 ghost use Rattle.std.specs.Prelude.{true, ◌≡◌, ◌≤◌, ◌+◌, length};
 ghost use Rattle.journal.specs.Ways.{by_way, other};
 ghost use Rattle.journal.specs.Add.{entry_len};

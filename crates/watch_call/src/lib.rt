@@ -1,4 +1,6 @@
 // The call `watch`: a watch-only session is opened over a well-formed one. Record, next id and timer stay; both stores are empty then.
+#![tactic(auto)]
+
 ghost use Rattle.std.specs.Prelude.{◌≡◌, length};
 ghost use Rattle.session.specs.Road.{opens};
 ghost use Rattle.image.specs.Image.{session_in};

@@ -1,4 +1,6 @@
 // Bytes on the wire: big-endian numbers of any width, and parts of lent buffers.
+#![tactic(auto)]
+
 ghost use Rattle.std.specs.Prelude.{cond, not, false, ◌≡◌, ◌+◌, ◌%◌, ◌^◌, ◌≤◌, ◌<◌, ltb, eqb, length, take, drop, replicate};
 ghost use Rattle.wire.specs.Wire.{be_nat, to_be, pasted, all_are};
 

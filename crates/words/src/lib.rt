@@ -1,4 +1,6 @@
 // Words in one text, each ended by a bar: a text that is lent once costs the prover less than many that are lent.
+#![tactic(auto)]
+
 ghost use Rattle.std.specs.Prelude.{◌≡◌};
 ghost use Rattle.text.specs.Text.{sheet, put_all};
 ghost use Rattle.words.specs.Words.{words_in, word_at};

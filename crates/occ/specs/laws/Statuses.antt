@@ -2,7 +2,8 @@
 use Rattle.std.specs.Prelude.{ℕ, ◌+◌, ◌-◌, ◌*◌, ◌≤◌, Bool, true, cond, not, ◌≡◌, refl, List, ◌↔◌, ◌⊎◌, ltb, leb, eqb, length, drop}
 use Rattle.std.proofs.Math.Bool.{true≢false}
 use Rattle.std.proofs.Common.{sym, ap, subst, ◌∙◌, arith, lit<}
-use Rattle.std.proofs.Math.Logic.{Iff·trans, inl, inr, ⊎_elim}
+use Rattle.std.proofs.Math.Logic.{inl, inr, ⊎_elim}
+use Rattle.std.proofs.Math.Logic.Iff
 use borrow.Author.Tests.{ltb-false, ltb-true, eqb-true, eqb-false, not-true, not-false, leb-true, leb-false}
 use Rattle.std.proofs.Math.ListN.{get_or}
 use Rattle.wire.specs.Conditions.{◌and◌, is, none, row}
@@ -62,7 +63,7 @@ clear_rows : (logs : List Log) (d : List ℕ) → length logs ≡ 4 → ByTable 
 unfolding clear_verdict clear_at ClearStatus
 clear_rows logs d four =
     by_rows Refuses (differs _ _) (refuses 0x12)
-    (by_rows Refuses (fails (Iff·trans (le_passes 4 _) (found_exactly (get_or d 0 0) logs four))) (refuses 0x13) (makes _))
+    (by_rows Refuses (fails (Iff.trans (le_passes 4 _) (found_exactly (get_or d 0 0) logs four))) (refuses 0x13) (makes _))
 
 unready_exactly : (w : Worked) (state : ℕ) → (not_ready w state ≡ true) ↔ (((state ≡ 2) and (w.observation ≡ 0)) ⊎ ((state ≡ 3) and (w.active ≡ 0)))
 unfolding not_ready

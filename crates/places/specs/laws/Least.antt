@@ -5,7 +5,7 @@ use Rattle.std.specs.Prelude.{Bool, not, List, ◌↔◌, ◌⊎◌, ltb, eqb, l
 use Rattle.std.proofs.Math.Bool.{true, false, cond, true≢false}
 use Rattle.std.proofs.Math.Path.{◌≡◌, refl, sym, ap, subst}
 use Rattle.std.proofs.Common.{◌∙◌, inl, inr, ⊎_elim, arith, ltb-true, ltb-false}
-use Rattle.std.proofs.Math.Logic.{Iff·trans}
+use Rattle.std.proofs.Math.Logic.Iff
 use Rattle.std.proofs.Math.Nat.{not-suc-le-zero}
 use Rattle.std.proofs.lemmas.Bool.{not-true}
 use Rattle.wire.specs.Conditions.{◌and◌, none, Rows, here, later}
@@ -160,7 +160,7 @@ reset_least d =
 clear_least : (r : Record) (d : List ℕ) → length r.logs ≡ 4 → Least (of_length (length d ≡ 1) (ClearFaults r.logs d)) (clear_fault r.logs d)
 unfolding clear_fault ClearFaults
 clear_least r d four =
-    least_sized (right_length _ _) (least_byte 1 NotPending (fails (Iff·trans (le_passes 4 _) (found_exactly (get_or d 0 0) r.logs four))) refl)
+    least_sized (right_length _ _) (least_byte 1 NotPending (fails (Iff.trans (le_passes 4 _) (found_exactly (get_or d 0 0) r.logs four))) refl)
 
 user_least : (r : Record) (d : List ℕ) → Least (of_length (length d ≡ 2) (UserFaults r.received.caps r.caps d)) (user_fault r.received.caps r.caps d)
 unfolding user_fault UserFaults
@@ -281,7 +281,7 @@ sets_least t F d all from =
     cond_cases (Least (of_length (length d ≡ 3 + get_or d 2 0 * width_of t) (SetsFaults F d))) (ltb (length d) 3)
     (λ e. least_unsized (λ k. omega (arith, ltb-true (length d) 3 e, k)))
     (λ e. let long = counted (length d) (get_or d 2 0 * width_of t) in
-    least_sized (Iff·trans (right_length (length d - 3) (get_or d 2 0 * width_of t)) (λ q. long.0 (ltb-false (length d) 3 e, q), λ q. (long.1 q).1)) tested)
+    least_sized (Iff.trans (right_length (length d - 3) (get_or d 2 0 * width_of t)) (λ q. long.0 (ltb-false (length d) 3 e, q), λ q. (long.1 q).1)) tested)
 
 -- ---- every command
 

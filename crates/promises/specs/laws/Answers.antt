@@ -1,6 +1,6 @@
 -- Answer 1, of every call: read off the tables. Assumes nothing.
 use Rattle.std.specs.Prelude.{ℕ, true, ◌↔◌, ◌≡◌, refl, List}
-use Rattle.std.proofs.Math.Logic.{Iff·trans}
+use Rattle.std.proofs.Math.Logic.Iff
 use Rattle.std.proofs.Common.{sym, arith}
 use Rattle.wire.specs.Conditions.{here, later}
 use Rattle.journal.specs.declared.Way.{Way}
@@ -63,9 +63,9 @@ module _ (s : Session) (typed : TypedSession s) where
 
   pub one_exactly : (c : Call) → ((said s c).answer ≡ 1) ↔ IllFormed
   unfolding said asks buffer_of occ_call sbe_call move_call forget_call time_call OccAnswer SbeAnswer MoveAnswer ForgetAnswer TimeAnswer
-  one_exactly (occ sender c d) = Iff·trans (occ_answers s typed sender c d 1) (occ_one sender c d, λ h. here h refl)
-  one_exactly (sbe r d m x) = Iff·trans (sbe_answers s typed r d m x 1) (sbe_one r d, λ h. here h refl)
-  one_exactly undo = Iff·trans (undo_answers s 1) (move_one Before 6 (λ z. omega (arith, z)), λ h. here h refl)
-  one_exactly (forget n) = Iff·trans (forget_answers n s 1) (forget_one n, λ h. here h refl)
-  one_exactly (time n) = Iff·trans (time_answers n s 1) (time_one, λ h. here h refl)
-  one_exactly redo = Iff·trans (redo_answers s 1) (move_one After 8 (λ z. omega (arith, z)), λ h. here h refl)
+  one_exactly (occ sender c d) = Iff.trans (occ_answers s typed sender c d 1) (occ_one sender c d, λ h. here h refl)
+  one_exactly (sbe r d m x) = Iff.trans (sbe_answers s typed r d m x 1) (sbe_one r d, λ h. here h refl)
+  one_exactly undo = Iff.trans (undo_answers s 1) (move_one Before 6 (λ z. omega (arith, z)), λ h. here h refl)
+  one_exactly (forget n) = Iff.trans (forget_answers n s 1) (forget_one n, λ h. here h refl)
+  one_exactly (time n) = Iff.trans (time_answers n s 1) (time_one, λ h. here h refl)
+  one_exactly redo = Iff.trans (redo_answers s 1) (move_one After 8 (λ z. omega (arith, z)), λ h. here h refl)

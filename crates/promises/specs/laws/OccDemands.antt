@@ -2,7 +2,8 @@
 use Rattle.std.specs.Prelude.{ℕ, ◌+◌, ◌≤◌, true, false, ◌↔◌, ◌⊎◌, ◌≡◌, eqb}
 use Rattle.std.proofs.Math.Bool.{false≢true}
 use Rattle.std.proofs.Common.{true≢false, subst, ◌∙◌, arith, eqb-true}
-use Rattle.std.proofs.Math.Logic.{inl, inr, ⊎_elim, Iff·trans}
+use Rattle.std.proofs.Math.Logic.{inl, inr, ⊎_elim}
+use Rattle.std.proofs.Math.Logic.Iff
 use Rattle.std.proofs.Math.Path.{refl, sym, ap}
 use mathlib.Core.List.{List, []}
 use Rattle.std.proofs.Math.Nat.{not-le_of_lt}
@@ -372,7 +373,7 @@ module _ (s : Session) (typed : TypedSession s) (sender : ℕ) (c d : List ℕ) 
 
   -- the status 0x13: the packet is good, and its command was judged so
   pub status_13 : OccDue s sender c d → (occ_call s sender c d ≡ occ_error s c d 0x13) ↔ ((packet_status c ≡ 0) and (own ≡ Refuse 0x13))
-  status_13 p = Iff·trans (occ_statuses p 0x13) (wrong_exactly p)
+  status_13 p = Iff.trans (occ_statuses p 0x13) (wrong_exactly p)
 
   pub occ_accepted : well_formed s ≡ true → OccSucceeds s sender c d ↔ OccAccepted s sender c d
   unfolding OccSucceeds OccAccepted

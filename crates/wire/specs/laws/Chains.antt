@@ -3,7 +3,7 @@ use Rattle.wire.specs.laws.Cases.{cond_cases}
 use Rattle.std.specs.Prelude.{ℕ, ◌<◌, ◌≤◌, Bool, true, false, cond, not, ◌≡◌, refl, ◌↔◌, ◌⊎◌, ltb, leb, eqb}
 use Rattle.std.proofs.lemmas.Bool.{false≢true, eqb-false, not-false, lt-leb}
 use Rattle.std.proofs.Common.{true≢false, sym, ap, ◌∙◌, inl, inr, ⊎_elim, arith, ltb-false, leb-true, leb-false, eqb-true, le-ltb, le-leb, eq-eqb, ne_eqb}
-use Rattle.std.proofs.Math.Logic.{Iff·trans}
+use Rattle.std.proofs.Math.Logic.Iff
 use Rattle.wire.specs.Conditions.{◌and◌}
 
 -- a test is itself a chain that accepts or doesn't
@@ -85,7 +85,7 @@ module _ {A : Type 0} (accepts : A → Bool) {P : Type 0} where
 
   -- the same conditions in other words
   pub ends_when : {Q : Type 0} {y z : A} → P ↔ Q → Ends accepts y P z → Ends accepts y Q z
-  ends_when e p = record { exactly = Iff·trans p.exactly e; is = p.is }
+  ends_when e p = record { exactly = Iff.trans p.exactly e; is = p.is }
 
   -- the last test
   pub ends_last : {x y : A} {t : Bool} → accepts x ≡ false → (t ≡ false) ↔ P → accepts y ≡ true → Ends accepts (cond t x y) P y

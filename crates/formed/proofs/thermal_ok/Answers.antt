@@ -1,0 +1,21 @@
+-- The definition goes by the tests that the code makes, the flag first.
+use mathlib.Core.Path.{refl}
+use Rattle.wire.specs.laws.Cases.{else_ne, if_ne, if_not, else_not}
+use Rattle.formed.specs.Formed.{thermal_ok}
+use Rattle.formed.proofs.thermal_ok.Goals as goal
+
+pub returns-then-not-flag_ok : goal.returns-then-not-flag_ok
+unfolding thermal_ok
+returns-then-not-flag_ok c = if_not _ _ c.flag_ok.ensures c.if-not-flag_ok.true-raw refl
+
+pub returns-then-got-ne0 : goal.returns-then-got-ne0
+unfolding thermal_ok
+returns-then-got-ne0 c = else_not _ _ c.flag_ok.ensures c.if-not-flag_ok.false-raw
+    (if_ne _ _ c.if-got-ne0.true
+    c.thermal_rule.ensures)
+
+pub returns : goal.returns
+unfolding thermal_ok
+returns c = else_not _ _ c.flag_ok.ensures c.if-not-flag_ok.false-raw
+    (else_ne _ _ c.if-got-ne0.false
+    c.all_are.ensures)

@@ -135,7 +135,7 @@ help_text =
     ∷ ascii "redo              put the change last taken back in again\n"
     ∷ ascii "forget N          forget the N oldest changes\n"
     ∷ ascii "time N            N microseconds have passed\n"
-    ∷ ascii "watch             go on with a watch_only_law session over this one\n"
+    ∷ ascii "watch             go on with a watch-only session over this one\n"
     ∷ ascii "fresh             begin again with a fresh session\n"
     ∷ ascii "image             the session as " ∷ decimal image_length ∷ ascii " bytes\n"
     ∷ ascii "load BYTES        go on with the session of such an image\n"

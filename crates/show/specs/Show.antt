@@ -172,9 +172,9 @@ journal_text j used =
 unfoldable pub timer_text : Timer → List (List ℕ)
 timer_text t = cond (eqb t.running 0) (ascii "timer off\n" ∷ []) (named_text (ascii "timer on") t.left)
 
--- "0 `full`, 1 `watch_only_law`, else `unknown`"
+-- "0 `full`, 1 `watch-only`, else `unknown`"
 unfoldable pub profile_word : ℕ → List ℕ
-profile_word n = cond (eqb n 0) (ascii "profile full\n") (cond (eqb n 1) (ascii "profile watch_only_law\n") (ascii "profile unknown\n"))
+profile_word n = cond (eqb n 0) (ascii "profile full\n") (cond (eqb n 1) (ascii "profile watch-only\n") (ascii "profile unknown\n"))
 
 unfoldable pub session_text : Record → Worked → ℕ → List ℕ → ℕ → List ℕ → ℕ → Timer → ℕ → List (List ℕ)
 session_text r w next j used redo ahead timer profile =

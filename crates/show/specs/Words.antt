@@ -10,7 +10,7 @@ all_words =
     ascii "active-ready" ∷ ascii "thresholds" ∷ ascii "throttles" ∷ ascii "logs" ∷ ascii "cores out" ∷ ascii "deadman off" ∷
     ascii "deadman on" ∷ ascii "area ffdc " ∷ ascii "area pass " ∷ ascii "redo" ∷ ascii "redo damaged at" ∷ ascii "redo too long\n" ∷
     ascii "journal" ∷ ascii "damaged at" ∷ ascii "too long\n" ∷ ascii "room" ∷ ascii "user cap" ∷ ascii "next id" ∷ ascii ".\n" ∷
-    ascii "timer off\n" ∷ ascii "timer on" ∷ ascii "profile full\n" ∷ ascii "profile watch_only_law\n" ∷ ascii "profile unknown\n" ∷ []
+    ascii "timer off\n" ∷ ascii "timer on" ∷ ascii "profile full\n" ∷ ascii "profile watch-only\n" ∷ ascii "profile unknown\n" ∷ []
 
 unfoldable pub word_number : ℕ → List ℕ
 word_number n = get_or all_words n []

@@ -1,0 +1,13 @@
+use Rattle.answers.specs.Answers.{planned_text}
+use Rattle.answers.proofs.Saying.{refused, accepted}
+use Rattle.text.specs.laws.Pieces.{piece, pieces, last_piece, same_pieces}
+use borrow.Author.Rules.{rules}
+use Rattle.answers.proofs.planned.Goals as goal
+
+pub returns-then-answer-ne0 : goal.returns-then-answer-ne0
+unfolding planned_text
+returns-then-answer-ne0 c = record { prefix_len = search rules; result_after = same_pieces _ (refused _ _ (search rules)) (piece _ _ _ c.put_decimal-at.ensures.result_after (last_piece _ _ c.put_end.ensures.result_after)) }
+
+pub returns : goal.returns
+unfolding planned_text
+returns c = record { prefix_len = search rules; result_after = same_pieces _ (accepted _ _ (search rules)) (piece _ _ _ c.put_decimal-at.ensures.result_after (pieces _ _ _ c.put_plan-end.ensures (last_piece _ _ c.put_end-2.ensures.result_after))) }

@@ -2,3 +2,4 @@ pub mod Cases
 pub mod Wire
 pub mod Chains
 pub mod Tables
+pub mod Pairs

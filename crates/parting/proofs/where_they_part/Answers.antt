@@ -1,0 +1,10 @@
+-- `parting::where_they_part` meets its contract: counted in the bytes that both begin with. Assumes nothing.
+use native.Mathlib.Omega.{arith}
+use Rattle.parting.proofs.Told.{count_fits, parting_is}
+use Rattle.parting.proofs.where_they_part.Goals as goal
+
+pub overflow_add-result : goal.overflow_add-result
+overflow_add-result c = omega (arith, count_fits _ _ c.agree-same.ensures.value c.count-count.ensures, c.well_formed.0.1)
+
+pub returns : goal.returns
+returns c = parting_is _ _ c.agree-same.ensures.value c.count-count.ensures c.refusal_of-refusal.ensures

@@ -1,0 +1,37 @@
+use native.Mathlib.Omega.{arith}
+use Prim.Native.Nat.{◌+◌, ◌-◌}
+use Rattle.image.specs.laws.Stores.{store_low}
+use Rattle.undo_call.proofs.Taking.{count_fits}
+use Rattle.undo_call.proofs.Finding.{from_low, found_there, never_nothing}
+use Rattle.undo_call.proofs.Marking.{found_bound}
+use Rattle.undo_call.proofs.newest_of.Goals as goal
+
+pub look_from-from-requires : goal.look_from-from-requires
+look_from-from-requires c = c.requires.0.long
+
+pub overflow_add-first : goal.overflow_add-first
+overflow_add-first c = omega (arith, from_low _ c.args.lent.now c.requires.0 c.requires.1 c.args.way _ c.requires.2 _ c.look_from-from.ensures, count_fits c.args.way _ c.args.lent.now c.requires.0 c.requires.1 _ c.requires.2, c.store_at-store.ensures, store_low c.args.way)
+
+pub overflow_add-end : goal.overflow_add-end
+overflow_add-end c = omega (arith, count_fits c.args.way _ c.args.lent.now c.requires.0 c.requires.1 _ c.requires.2, c.store_at-store.ensures, store_low c.args.way)
+
+pub slice_bounds-find_newest-count : goal.slice_bounds-find_newest-count
+slice_bounds-find_newest-count c = omega (arith, from_low _ c.args.lent.now c.requires.0 c.requires.1 c.args.way _ c.requires.2 _ c.look_from-from.ensures)
+
+pub slice_bounds-find_newest-start : goal.slice_bounds-find_newest-start
+slice_bounds-find_newest-start c = omega (arith, from_low _ c.args.lent.now c.requires.0 c.requires.1 c.args.way _ c.requires.2 _ c.look_from-from.ensures)
+
+pub slice_bounds-find_newest-end : goal.slice_bounds-find_newest-end
+slice_bounds-find_newest-end c = omega (arith, count_fits c.args.way _ c.args.lent.now c.requires.0 c.requires.1 _ c.requires.2, c.requires.0.long, c.store_at-store.ensures, store_low c.args.way)
+
+pub returns-in_default : goal.returns-in_default
+returns-in_default c = absurd (never_nothing _ c.args.lent.now c.requires.0 c.requires.1 _ _ _ _ c.find_newest-found.ensures.value c.args.way c.store_at-store.ensures c.requires.2 c.requires.3 c.look_from-from.ensures c.in_default.is)
+
+pub by_way-told-requires : goal.by_way-told-requires
+by_way-told-requires c = (omega (arith, count_fits c.args.way _ c.args.lent.now c.requires.0 c.requires.1 _ c.requires.2, (found_bound (c.store_at-store.result + c.args.used - (c.store_at-store.result + c.look_from-from.result)) _ _ _ _ c.find_newest-found.ensures.newest_fits c.in-At.is).1, from_low _ c.args.lent.now c.requires.0 c.requires.1 c.args.way _ c.requires.2 _ c.look_from-from.ensures), omega arith)
+
+pub overflow_add-result : goal.overflow_add-result
+overflow_add-result c = omega (arith, count_fits c.args.way _ c.args.lent.now c.requires.0 c.requires.1 _ c.requires.2, from_low _ c.args.lent.now c.requires.0 c.requires.1 c.args.way _ c.requires.2 _ c.look_from-from.ensures, (found_bound (c.store_at-store.result + c.args.used - (c.store_at-store.result + c.look_from-from.result)) _ _ _ _ c.find_newest-found.ensures.newest_fits c.in-At.is).0)
+
+pub returns : goal.returns
+returns c = found_there _ c.args.lent.now c.requires.0 c.requires.1 _ _ _ _ c.find_newest-found.ensures.value c.args.way c.store_at-store.ensures c.requires.2 c.look_from-from.ensures _ _ _ c.in-At.is c.by_way-told.ensures.value

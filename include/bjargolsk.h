@@ -15,7 +15,7 @@
  * The archive takes memcpy, memmove and memset from the C library, or from you, and nothing else. A call takes under 4 KB of stack; a restore, and a
  * save moved up or down, under 12 KB.
  *
- * On x86-64 valgrind finds nothing. In the archive that tools/native-archive makes for Arm it was seen to report a conditional jump on uninitialised
+ * On x86-64 valgrind found nothing. In an archive that an older kit made for Arm it was seen to report a conditional jump on uninitialised
  * bytes after an accepted D1 03: the compiler merged two compares, and the result depends on neither of those bytes.
  *
  * A result has the answer in bits 0 to 7 (no answer is over 255), a small number in bits 8 to 15 and one of 16 bits above; each function says

@@ -1,31 +1,46 @@
 # shellcheck shell=bash
-# To be sourced: a kit whose compiler keeps what it makes, and what is kept compiled for this machine. No proof covers a compilation.
-# Sets `kit`, the kit's folder, and `own`, the part of it for this machine.
-guide=$(rt doc)
-kit=${guide%/*/*}
-own=on/$(uname -m)
+# To be sourced, with `top` the repository: kits of links, one whose compiler keeps what it makes. No proof covers a compilation. Sets `kit`, the kit's folder.
+kit=$(dirname "$(rt doc)")
 
-# keeping_kit FOLDER: makes there a kit of links for RATTLE_HOME, but for a compiler that leaves the module and the object that it was last asked to
-# make at -O3 as FOLDER/kept.bc and FOLDER/kept.o.
-keeping_kit() {
+# linked_kit FOLDER: makes there a kit of links. rt goes by the folder that it lies in, so FOLDER/bin/rt is a copy.
+linked_kit() {
     local part link folder=$1
-    mkdir -p "$folder/$own/toolchain/bin"
-    chmod 755 "$folder" # rt runs programs as nobody
-    for part in "$kit"/* "$kit/$own"/* "$kit/$own/toolchain"/* "$kit/$own/toolchain/bin"/*; do
+    mkdir -p "$folder/bin" "$folder/toolchain/bin"
+    for part in "$kit"/* "$kit/bin"/* "$kit/toolchain"/* "$kit/toolchain/bin"/*; do
         link=$folder${part#"$kit"}
         [ -e "$link" ] || ln -s "$part" "$link"
     done
-    rm "$folder/$own/toolchain/bin/clang"
-    cat > "$folder/$own/toolchain/bin/clang" <<KEEP
-#!/bin/sh
-"$kit/$own/toolchain/bin/clang" "\$@" || exit
-case " \$* " in *' -O3 '*) cp module.bc "$folder/kept.bc" && cp module.o "$folder/kept.o" ;; esac
-KEEP
-    chmod +x "$folder/$own/toolchain/bin/clang"
+    rm "$folder"/bin/rt*
+    cp "$kit"/bin/rt* "$folder/bin"
 }
 
-# native_object MODULE.bc OUT.o: compiles a kept module for this very machine, by the kit's own compiler.
-native_object() {
-    "$kit/$own/toolchain/bin/clang" --target="$(uname -m)-unknown-linux-gnu" -O3 -fPIC -ffunction-sections -fdata-sections \
-        -Wno-override-module -c -x ir "$1" -o "$2"
+# keeping_kit FOLDER: such a kit, that leaves the module that the compiler was last given as FOLDER/kept.bc, and what becomes of it at -O3, with no
+# checks of memory, as FOLDER/kept.o.
+keeping_kit() {
+    local folder=$1
+    linked_kit "$folder"
+    rm "$folder/toolchain/bin/clang"
+    cat > "$folder/toolchain/bin/clang" <<KEEP
+#!/bin/sh
+"$kit/toolchain/bin/clang" "\$@" || exit
+cp module.bc "$folder/kept.bc"
+for word; do
+    shift
+    case \$word in
+    -O*) set -- "\$@" -O3 ;;
+    -fsanitize=*) ;;
+    module.o) set -- "\$@" "$folder/kept.o" ;;
+    *) set -- "\$@" "\$word" ;;
+    esac
+done
+exec "$kit/toolchain/bin/clang" "\$@"
+KEEP
+    chmod +x "$folder/toolchain/bin/clang"
+}
+
+# made_library KIT ARCHIVE: the C library, once all is proved, by that kit's compiler: over what rt ci kept here, else by rt lib.
+made_library() {
+    "$top/tools/kept-library" bjargolsk_c "$2" "$1/toolchain" || {
+        (cd "$top/crates/bjargolsk_c" && "$1/bin/rt" lib) && cp "$top/crates/bjargolsk_c/out/libbjargolsk_c.a" "$2"
+    }
 }

@@ -8,6 +8,7 @@ ghost use Rattle.std.specs.Io.{ReadsAtMost, WritesAtMost};
 ghost use Rattle.std.specs.Io.KnownBytes.{Appends, Consumes, IsAtEnd, Keeps};
 
 use std::env::FillError;
+use std::fmt::Display;
 use std::fs::File;
 use std::io::{Error, ErrorKind, Read, Write};
 use std::rt::{Env, Files};
@@ -24,10 +25,10 @@ fn once_more(error: &Error) -> bool {
 }
 
 // A line on standard error: what failed, and why. Where that can't be written either, nobody can be told.
-fn complain(rt: &impl Eprint, name: &[u8], error: Error) {
+pub fn complain(rt: &impl Eprint, name: &[u8], reason: impl Display + Drop) {
     let _ = match str::from_utf8(name) {
-        Ok(text) => eprintln!(rt; "{text}: {error}"),
-        Err(_) => eprintln!(rt; "{}: {error}", name.escape_ascii()),
+        Ok(text) => eprintln!(rt; "{text}: {reason}"),
+        Err(_) => eprintln!(rt; "{}: {reason}", name.escape_ascii()),
     };
 }
 

@@ -2,55 +2,52 @@
 // output can still be written.
 #![tactic(auto)]
 
+use std::io::Read;
+use std::rt::{Env, Files};
+
 // The listing of what an open file holds.
-fn list_open(fd: i32, name: &[u8]) -> bool {
+fn list_open<F: Read>(rt: &(impl Print + Eprint), file: &mut F, name: &[u8]) -> bool {
     let mut raw = [0u8; 2049];
-    let got = streams::read_full(fd, name, &mut raw);
+    let got = streams::read_full(rt, file, name, &mut raw);
     if got.failed {
         return true;
     }
     let used = got.count;
     let mut text = [0u8; listing::LONGEST];
     let n = listing::list(&raw[..used], &mut text);
-    streams::write(&text[..n])
+    streams::write(rt, &text[..n])
 }
 
-fn list_named(name: &[u8]) -> bool {
-    let fd = os::open_read(name);
-    if fd < 0 {
-        return streams::write(b"cannot be opened\n");
+fn list_named(rt: &(impl Files + Print + Eprint), name: &[u8]) -> bool {
+    match streams::open(rt, name) {
+        Ok(mut file) => list_open(rt, &mut file, name),
+        Err(_) => streams::write(rt, b"cannot be opened\n"),
     }
-    let written = list_open(fd, name);
-    libc::close(fd);
-    written
 }
 
-fn put_heading(name: &[u8]) -> bool {
-    if !streams::write(b"== ") {
+fn put_heading(rt: &(impl Print + Eprint), name: &[u8]) -> bool {
+    if !streams::write(rt, b"== ") {
         return false;
     }
-    if !streams::write(name) {
+    if !streams::write(rt, name) {
         return false;
     }
-    streams::write(b"\n")
+    streams::write(rt, b"\n")
 }
 
-fn list_arg(i: usize) -> bool {
+fn list_arg(rt: &(impl Env + Files + Print + Eprint), i: usize) -> bool {
     let mut space = io::buffer();
-    let n = os::arg(i, &mut space);
-    if !put_heading(&space[..n]) {
+    let n = streams::argument(rt, i, &mut space);
+    if !put_heading(rt, &space[..n]) {
         return false;
     }
-    list_named(&space[..n])
+    list_named(rt, &space[..n])
 }
 
-fn main() {
-    let count = os::arg_count();
-    let mut i = 1;
-    while i < count {
-        if !list_arg(i) {
+fn main(rt: HostRuntime) {
+    for i in 1..usize::MAX {
+        if !streams::is_given(&rt, i) || !list_arg(&rt, i) {
             return;
         }
-        i += 1;
     }
 }

@@ -2,33 +2,31 @@
 // seen.
 #![tactic(auto)]
 
-use libc::{STDERR_FILENO, STDIN_FILENO};
-
-fn complain(s: &[u8]) {
-    io::write_all(STDERR_FILENO, s);
+fn complain(rt: &impl Eprint, said: &str) {
+    let _ = rt.eprintln(said);
 }
 
-fn move_down(saved: &[u8]) {
+fn move_down(rt: &(impl Print + Eprint), saved: &[u8]) {
     let mut base = [0u8; saving::BASE_MOST];
     let told = saving::move_down(saved, &mut base);
     if told.answer == 11 {
-        complain(b"11 won't read or is ill formed\n");
+        complain(rt, "11 won't read or is ill formed");
         return;
     }
     if told.answer != 0 {
-        complain(b"12 can't go down\n");
+        complain(rt, "12 can't go down");
         return;
     }
     let n = told.beside as usize;
-    streams::write(&base[..n]);
+    streams::write(rt, &base[..n]);
 }
 
-fn main() {
+fn main(rt: HostRuntime) {
     let mut saved = [0u8; saving::SAVED + 1];
-    let got = streams::read_full(STDIN_FILENO, b"standard input", &mut saved);
+    let got = streams::read_full(&rt, &mut rt.stdin(), b"standard input", &mut saved);
     if got.failed {
         return;
     }
     let n = got.count;
-    move_down(&saved[..n]);
+    move_down(&rt, &saved[..n]);
 }

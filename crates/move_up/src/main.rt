@@ -2,11 +2,9 @@
 // input is seen.
 #![tactic(auto)]
 
-use libc::{STDERR_FILENO, STDIN_FILENO};
-
-fn main() {
+fn main(rt: HostRuntime) {
     let mut saved = [0u8; saving::BASE_MOST + 1];
-    let got = streams::read_full(STDIN_FILENO, b"standard input", &mut saved);
+    let got = streams::read_full(&rt, &mut rt.stdin(), b"standard input", &mut saved);
     if got.failed {
         return;
     }
@@ -14,8 +12,8 @@ fn main() {
     let mut form = [0u8; saving::SAVED];
     let told = saving::move_up(&saved[..n], &mut form);
     if told.answer != 0 {
-        io::write_all(STDERR_FILENO, b"11 won't read or is ill formed\n");
+        let _ = rt.eprintln("11 won't read or is ill formed");
         return;
     }
-    streams::write(&form);
+    streams::write(&rt, &form);
 }

@@ -5,6 +5,7 @@ ghost use Rattle.std.specs.Prelude.{◌+◌, ◌≤◌, length};
 ghost use Rattle.io.specs.Counts.{IsPrefixLen};
 
 use entries::{Next, Reading};
+use std::io::Read;
 use streams::Got;
 
 // ---- lines
@@ -17,7 +18,7 @@ struct Lines {
 }
 
 // Writes the lines that wait where another may have no room behind them.
-fn make_room(out: &[u8], lines: Lines) -> Lines
+fn make_room(rt: &(impl Print + Eprint), out: &[u8], lines: Lines) -> Lines
     requires { IsPrefixLen lines.waiting out.now }
     ensures { IsPrefixLen result.waiting out.now }
 {
@@ -25,18 +26,25 @@ fn make_room(out: &[u8], lines: Lines) -> Lines
     if out.len() - waiting < playing::LINE {
         return Lines {
             waiting: 0,
-            heard: streams::write(&out[..waiting]),
+            heard: streams::write(rt, &out[..waiting]),
         };
     }
     lines
 }
 
 // Plays a whole entry, and puts its line behind those that wait.
-fn play(lent: &mut [u8], number: u64, entry: &[u8], out: &mut [u8], before: Lines) -> Lines
+fn play(
+    rt: &(impl Print + Eprint),
+    lent: &mut [u8],
+    number: u64,
+    entry: &[u8],
+    out: &mut [u8],
+    before: Lines,
+) -> Lines
     requires { IsPrefixLen before.waiting out.old }
     ensures { IsPrefixLen result.waiting out.new }
 {
-    let lines = make_room(out, before);
+    let lines = make_room(rt, out, before);
     let start = lines.waiting;
     let n = playing::step(lent, number, entry, &mut out[start..]);
     Lines {
@@ -45,9 +53,9 @@ fn play(lent: &mut [u8], number: u64, entry: &[u8], out: &mut [u8], before: Line
     }
 }
 
-fn tell_stop(out: &mut [u8], reading: Reading) {
+fn tell_stop(rt: &(impl Print + Eprint), out: &mut [u8], reading: Reading) {
     let n = playing::stop(out, reading);
-    streams::write(&out[..n]);
+    streams::write(rt, &out[..n]);
 }
 
 // ---- the bytes at hand
@@ -72,7 +80,13 @@ struct Past {
 }
 
 // Plays the whole entries at the front. Their numbers go on from those before; no run comes to the number at which they would wrap.
-fn play_front(lent: &mut [u8], before: u64, piece: &[u8], out: &mut [u8]) -> Past
+fn play_front(
+    rt: &(impl Print + Eprint),
+    lent: &mut [u8],
+    before: u64,
+    piece: &[u8],
+    out: &mut [u8],
+) -> Past
     ensures { result.bytes ≤ length piece.now }
 {
     let mut number = before;
@@ -84,8 +98,8 @@ fn play_front(lent: &mut [u8], before: u64, piece: &[u8], out: &mut [u8]) -> Pas
     let mut n = front(piece);
     while n > 0 {
         let past = at + n;
-        number = std::num::wrapping_add_u64(number, 1);
-        let next = play(lent, number, &piece[at..past], out, lines);
+        number = number.wrapping_add(1);
+        let next = play(rt, lent, number, &piece[at..past], out, lines);
         at = past;
         if !next.heard {
             return Past {
@@ -101,7 +115,7 @@ fn play_front(lent: &mut [u8], before: u64, piece: &[u8], out: &mut [u8]) -> Pas
     Past {
         entries: number,
         bytes: at,
-        heard: streams::write(&out[..waiting]),
+        heard: streams::write(rt, &out[..waiting]),
     }
 }
 
@@ -129,47 +143,53 @@ fn keep(held: &mut [u8], start: usize, end: usize) -> usize
 // ---- input
 
 // Reads behind the first `have` bytes.
-fn fetch(held: &mut [u8], have: usize) -> Got
+fn fetch<R: Read>(rt: &impl Eprint, input: &mut R, held: &mut [u8], have: usize) -> Got
     requires { have ≤ length held.old }
     ensures { have + result.count ≤ length held.new }
 {
-    streams::read_input(&mut held[have..])
+    streams::read_input(rt, input, &mut held[have..])
 }
 
 // The input has ended: what is left of it is a cut entry.
-fn finish(out: &mut [u8], have: usize, place: usize) {
+fn finish(rt: &(impl Print + Eprint), out: &mut [u8], have: usize, place: usize) {
     if have > 0 {
-        tell_stop(out, Reading::Cut(place));
+        tell_stop(rt, out, Reading::Cut(place));
     }
 }
 
 // `held` has the bytes from the first entry on that isn't played, whose kind is byte `place` of the trace. A proved loop has to end: it counts
 // down from a number that no run uses up.
-fn serve(lent: &mut [u8], held: &mut [u8], out: &mut [u8]) {
+fn serve<R: Read>(
+    rt: &(impl Print + Eprint),
+    input: &mut R,
+    lent: &mut [u8],
+    held: &mut [u8],
+    out: &mut [u8],
+) {
     let mut number = 0u64;
     let mut place = 0;
     let mut have = 0;
     let mut left = u64::MAX;
     while left > 0 {
         left -= 1;
-        let got = fetch(held, have);
+        let got = fetch(rt, input, held, have);
         if got.failed {
             return;
         }
         if got.count == 0 {
-            finish(out, have, place);
+            finish(rt, out, have, place);
             return;
         }
         let end = have + got.count;
-        let past = play_front(lent, number, &held[..end], out);
+        let past = play_front(rt, lent, number, &held[..end], out);
         if !past.heard {
             return;
         }
         let at = past.bytes;
         number = past.entries;
-        place = std::num::wrapping_add_usize(place, at);
+        place = place.wrapping_add(at);
         if is_unknown(&held[at..end]) {
-            tell_stop(out, Reading::Unknown(place));
+            tell_stop(rt, out, Reading::Unknown(place));
             return;
         }
         have = keep(held, at, end);
@@ -177,10 +197,10 @@ fn serve(lent: &mut [u8], held: &mut [u8], out: &mut [u8]) {
 }
 
 // A whole entry, of 4,098 bytes at most, has always room among the bytes held.
-fn main() {
+fn main(rt: HostRuntime) {
     let mut lent = [0u8; layout::IMAGE];
     image::write(session::fresh(), &mut lent);
     let mut held = io::large_buffer();
     let mut out = io::large_buffer();
-    serve(&mut lent, &mut held, &mut out);
+    serve(&rt, &mut rt.stdin(), &mut lent, &mut held, &mut out);
 }

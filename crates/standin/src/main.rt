@@ -7,6 +7,8 @@ ghost use Rattle.layout.specs.Layout.{image_length};
 
 use inplace::Told;
 use orders::{Buffer, Call, Order, View, Word, Wrong};
+use std::io::Read;
+use std::rt::{Env, Files};
 use streams::Got;
 
 // The bytes of a SEEPROM's image that count.
@@ -379,7 +381,7 @@ fn obey(lent: &mut [u8], order: Order, b: Bench, sent: &mut [u8], out: &mut [u8]
 fn next_sequence(word: Word, sequence: u8) -> u8 {
     if let Word::Make(call) = word {
         if let Call::Send = call {
-            return std::num::wrapping_add_u8(sequence, 1);
+            return sequence.wrapping_add(1);
         }
     }
     sequence
@@ -486,7 +488,14 @@ fn ready(b: Bench, order: Order, sent: &mut [u8]) -> Bench
 }
 
 // An answer is written as soon as it is there.
-fn answer(lent: &mut [u8], b: Bench, line: &[u8], sent: &mut [u8], out: &mut [u8]) -> Bench
+fn answer(
+    rt: &(impl Print + Eprint),
+    lent: &mut [u8],
+    b: Bench,
+    line: &[u8],
+    sent: &mut [u8],
+    out: &mut [u8],
+) -> Bench
     requires { (length lent.old ≡ image_length) × (106502 ≤ length sent.old) }
 {
     let asked = orders::read(line, sent);
@@ -502,7 +511,7 @@ fn answer(lent: &mut [u8], b: Bench, line: &[u8], sent: &mut [u8], out: &mut [u8
         seeprom: now.seeprom,
         prepared: now.prepared,
         last: last,
-        heard: streams::write(&out[..n]),
+        heard: streams::write(rt, &out[..n]),
     }
 }
 
@@ -533,6 +542,7 @@ struct Served {
 
 // Answers each line that the piece ends, as long as answers can be written.
 fn serve_piece(
+    rt: &(impl Print + Eprint),
     lent: &mut [u8],
     b: Bench,
     before: usize,
@@ -554,7 +564,7 @@ fn serve_piece(
             break;
         }
         at += n + 1;
-        let next = answer(lent, bench, &line[..held], sent, out);
+        let next = answer(rt, lent, bench, &line[..held], sent, out);
         bench = next;
         held = 0;
         if !next.heard {
@@ -575,11 +585,11 @@ struct Piece {
 }
 
 // Where the input ends a line's end is put, so that a last line without one is answered too.
-fn fetch(piece: &mut [u8]) -> Piece
+fn fetch<R: Read>(rt: &impl Eprint, input: &mut R, piece: &mut [u8]) -> Piece
     requires { 1 ≤ length piece.old }
     ensures { IsPrefixLen result.count piece.new }
 {
-    let got = streams::read_input(piece);
+    let got = streams::read_input(rt, input, piece);
     if got.failed || got.count > 0 {
         return Piece {
             count: got.count,
@@ -594,7 +604,9 @@ fn fetch(piece: &mut [u8]) -> Piece
 }
 
 // A proved loop has to end: it counts down from a number that no run uses up.
-fn serve(
+fn serve<R: Read>(
+    rt: &(impl Print + Eprint),
+    input: &mut R,
     lent: &mut [u8],
     seeprom: usize,
     piece: &mut [u8],
@@ -616,9 +628,9 @@ fn serve(
     let mut left = u64::MAX;
     while left > 0 {
         left -= 1;
-        let got = fetch(piece);
+        let got = fetch(rt, input, piece);
         let n = got.count;
-        let served = serve_piece(lent, bench, held, &piece[..n], line, sent, out);
+        let served = serve_piece(rt, lent, bench, held, &piece[..n], line, sent, out);
         let next = served.bench;
         if got.last || !next.heard {
             return;
@@ -629,22 +641,22 @@ fn serve(
 }
 
 // The file that the argument names, as the SEEPROM's image at the start; an empty one where none is named.
-fn first_seeprom(sent: &mut [u8]) -> Got
+fn first_seeprom(rt: &(impl Env + Files + Eprint), sent: &mut [u8]) -> Got
     requires { 106502 ≤ length sent.old }
 {
-    if os::arg_count() < 2 {
+    if !streams::is_given(rt, 1) {
         return Got {
             count: 0,
             failed: false,
         };
     }
     let mut name = io::large_buffer();
-    let n = os::arg(1, &mut name);
-    streams::read_named(&name[..n], &mut sent[orders::ROOM..PACKETS])
+    let n = streams::argument(rt, 1, &mut name);
+    streams::read_named(rt, &name[..n], &mut sent[orders::ROOM..PACKETS])
 }
 
 // A line is held with a byte more than the longest and its carriage return, so that a longer one is seen.
-fn serve_fresh(sent: &mut [u8], seeprom: usize)
+fn serve_fresh<R: Read>(rt: &(impl Print + Eprint), input: &mut R, sent: &mut [u8], seeprom: usize)
     requires { 106502 ≤ length sent.old }
 {
     let mut lent = [0u8; layout::IMAGE];
@@ -652,15 +664,17 @@ fn serve_fresh(sent: &mut [u8], seeprom: usize)
     let mut piece = io::large_buffer();
     let mut line = [0u8; 32770];
     let mut out = [0u8; LONGEST];
-    serve(&mut lent, seeprom, &mut piece, &mut line, sent, &mut out);
+    serve(
+        rt, input, &mut lent, seeprom, &mut piece, &mut line, sent, &mut out,
+    );
 }
 
 // A file that can't be read has been told of, and no line is answered.
-fn main() {
+fn main(rt: HostRuntime) {
     let mut sent = [0u8; GIVEN];
-    let seeprom = first_seeprom(&mut sent);
+    let seeprom = first_seeprom(&rt, &mut sent);
     if seeprom.failed {
         return;
     }
-    serve_fresh(&mut sent, seeprom.count);
+    serve_fresh(&rt, &mut rt.stdin(), &mut sent, seeprom.count);
 }

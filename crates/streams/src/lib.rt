@@ -1,62 +1,97 @@
-// Reading and writing by the system's calls. A stream that isn't ready is tried again until it is; what can't be read or written is said on
-// standard error, with the system's reason.
+// Reading and writing over std, and the program's arguments. A stream that isn't ready is tried again until it is; what can't be read or written is said on standard error, with
+// the system's reason.
 #![tactic(auto)]
 
-ghost use Rattle.std.specs.Prelude.{◌≤◌, length};
+ghost use Rattle.std.specs.Prelude.{◌≡◌, ◌<◌, ◌≤◌, false, true, length, take, IfOk, OnErr};
 ghost use Rattle.io.specs.Counts.{IsPrefixLen};
+ghost use Rattle.std.specs.Io.{ReadsAtMost, WritesAtMost};
+ghost use Rattle.std.specs.Io.KnownBytes.{Appends, Consumes, IsAtEnd, Keeps};
 
-use libc::{STDIN_FILENO, STDOUT_FILENO};
+use std::env::FillError;
+use std::fmt::Display;
+use std::fs::File;
+use std::io::{Error, ErrorKind, Read, Write};
+use std::rt::{Env, Files};
+use std::{io, str, thread};
 
-// Whether the call that has just failed is made again: a signal came between, or the stream isn't ready. The kit can't wait for a stream, so
-// others get their turn.
-fn once_more() -> bool {
-    let error = os::errno();
-    if error == libc::EAGAIN {
-        libc::sched_yield();
+// Whether the call that has just failed is made again: a signal came between, or the stream isn't ready. Nothing here waits for a stream, so others
+// get their turn.
+fn once_more(error: &Error) -> bool {
+    if error.kind() == ErrorKind::WouldBlock {
+        thread::yield_now();
         return true;
     }
-    error == libc::EINTR
+    error.kind() == ErrorKind::Interrupted
 }
 
-// Whether to go on after a write: some bytes were taken, or it is made again.
-fn goes_on(put: isize) -> bool {
-    if put < 0 {
-        return once_more();
-    }
-    put > 0
+// A line on standard error: what failed, and why. Where that can't be written either, nobody can be told.
+pub fn complain(rt: &impl Eprint, name: &[u8], reason: impl Display + Drop) {
+    let _ = match str::from_utf8(name) {
+        Ok(text) => eprintln!(rt; "{text}: {reason}"),
+        Err(_) => eprintln!(rt; "{}: {reason}", name.escape_ascii()),
+    };
 }
 
-// Writes all of it to standard output; false where that can't be done. A proved loop has to end: it counts down from a number that no run uses up.
-pub fn write(bytes: &[u8]) -> bool {
-    let mut done = 0;
-    let mut left = u64::MAX;
-    while done < bytes.len() {
-        let rest = &bytes[done..];
-        let put = libc::write(STDOUT_FILENO, rest);
-        if left == 0 || !goes_on(put) {
-            os::fail(b"standard output");
-            return false;
+// What the system answers to a write once it doesn't ask for another. A proved loop has to end: it counts down from a number that no run uses up.
+fn taken<W: Write>(writer: &mut W, bytes: &[u8]) -> io::Result<usize>
+    ensures bound { WritesAtMost result bytes.now }
+    ensures some { IfOk result (λ n. 0 < n) }
+    ensures ok { IfOk result (λ n. Appends (W.contents writer.old) (W.contents writer.new) (take n bytes.now)) }
+{
+    for _ in 0..u64::MAX {
+        match writer.write(bytes) {
+            Ok(0) => return Err(Error::from(ErrorKind::WriteZero)),
+            Ok(n) => return Ok(n),
+            Err(e) => {
+                if !once_more(&e) {
+                    return Err(e);
+                }
+            }
         }
-        left -= 1;
-        done += io::count(put, rest);
+    }
+    Err(Error::from(ErrorKind::TimedOut))
+}
+
+// Writes all of it; false where that can't be done. The name is what a complaint begins with.
+pub fn write_to<W: Write>(rt: &impl Eprint, writer: &mut W, name: &[u8], bytes: &[u8]) -> bool
+    ensures { result ≡ true → Appends (W.contents writer.old) (W.contents writer.new) bytes.now }
+{
+    let mut rest = bytes;
+    while !rest.is_empty() {
+        match taken(writer, rest) {
+            Ok(n) => rest = &rest[n..],
+            Err(e) => {
+                complain(rt, name, e);
+                return false;
+            }
+        }
     }
     true
 }
 
+// Writes all of it to standard output; false where that can't be done.
+pub fn write(rt: &(impl Print + Eprint), bytes: &[u8]) -> bool {
+    write_to(rt, &mut io::writer(rt), b"standard output", bytes)
+}
+
 // What the system answers to a read once it doesn't ask for another.
-fn answered(fd: i32, space: &mut [u8]) -> isize {
-    let mut left = u64::MAX;
-    while left > 0 {
-        left -= 1;
-        let got = libc::read(fd, space);
-        if got >= 0 {
-            return got;
-        }
-        if !once_more() {
-            return got;
+fn answered<R: Read>(reader: &mut R, space: &mut [u8]) -> io::Result<usize>
+    ensures bound { ReadsAtMost result space.new }
+    ensures ok { IfOk result (λ n. Consumes (R.remaining reader.old) (R.remaining reader.new) (take n space.new)) }
+    ensures end { IfOk result (λ n. n ≡ 0 → 0 < length space.old → IsAtEnd (R.remaining reader.new)) }
+    ensures err { OnErr result (Keeps (R.remaining reader.old) (R.remaining reader.new)) }
+{
+    for _ in 0..u64::MAX {
+        match reader.read(space) {
+            Ok(n) => return Ok(n),
+            Err(e) => {
+                if !once_more(&e) {
+                    return Err(e);
+                }
+            }
         }
     }
-    -1
+    Err(Error::from(ErrorKind::TimedOut))
 }
 
 // The bytes that were put at the start of a buffer: none at the end of the input, and none where it can't be read.
@@ -67,32 +102,47 @@ pub struct Got {
 }
 
 // One read. The name is what a complaint begins with.
-pub fn read(fd: i32, name: &[u8], space: &mut [u8]) -> Got
-    ensures { IsPrefixLen result.count space.new }
+pub fn read<R: Read>(rt: &impl Eprint, reader: &mut R, name: &[u8], space: &mut [u8]) -> Got
+    ensures count { IsPrefixLen result.count space.new }
+    ensures bytes { Consumes (R.remaining reader.old) (R.remaining reader.new) (take result.count space.new) }
+    ensures end { result.failed ≡ false → result.count ≡ 0 → 0 < length space.old → IsAtEnd (R.remaining reader.new) }
+    ensures failed { result.failed ≡ true → result.count ≡ 0 }
 {
-    let got = answered(fd, space);
-    if got < 0 {
-        os::fail(name);
-    }
-    Got {
-        count: io::count(got, space),
-        failed: got < 0,
+    match answered(reader, space) {
+        Ok(n) => {
+            Got {
+                count: n,
+                failed: false,
+            }
+        }
+        Err(e) => {
+            complain(rt, name, e);
+            Got {
+                count: 0,
+                failed: true,
+            }
+        }
     }
 }
 
-pub fn read_input(space: &mut [u8]) -> Got
-    ensures { IsPrefixLen result.count space.new }
+pub fn read_input<R: Read>(rt: &impl Eprint, input: &mut R, space: &mut [u8]) -> Got
+    ensures count { IsPrefixLen result.count space.new }
+    ensures bytes { Consumes (R.remaining input.old) (R.remaining input.new) (take result.count space.new) }
+    ensures end { result.failed ≡ false → result.count ≡ 0 → 0 < length space.old → IsAtEnd (R.remaining input.new) }
+    ensures failed { result.failed ≡ true → result.count ≡ 0 }
 {
-    read(STDIN_FILENO, b"standard input", space)
+    read(rt, input, b"standard input", space)
 }
 
 // Reads until the space is full or the input ends.
-pub fn read_full(fd: i32, name: &[u8], space: &mut [u8]) -> Got
-    ensures { IsPrefixLen result.count space.new }
+pub fn read_full<R: Read>(rt: &impl Eprint, reader: &mut R, name: &[u8], space: &mut [u8]) -> Got
+    ensures count { IsPrefixLen result.count space.new }
+    ensures bytes { Consumes (R.remaining reader.old) (R.remaining reader.new) (take result.count space.new) }
+    ensures end { result.failed ≡ false → result.count < length space.old → IsAtEnd (R.remaining reader.new) }
 {
     let mut done = 0;
     while done < space.len() {
-        let got = read(fd, name, &mut space[done..]);
+        let got = read(rt, reader, name, &mut space[done..]);
         let n = got.count;
         if n == 0 {
             return Got {
@@ -108,19 +158,41 @@ pub fn read_full(fd: i32, name: &[u8], space: &mut [u8]) -> Got
     }
 }
 
+// Opens the file of that name for reading. std takes no name that isn't UTF-8.
+pub fn open<R: Files>(rt: &R, name: &[u8]) -> io::Result<R::File> {
+    match str::from_utf8(name) {
+        Ok(text) => File::open(rt, text),
+        Err(_) => Err(Error::from(ErrorKind::InvalidFilename)),
+    }
+}
+
 // What the file of that name holds, as far as there is space for it. One that can't be opened is said.
-pub fn read_named(name: &[u8], space: &mut [u8]) -> Got
+pub fn read_named<R: Files + Eprint>(rt: &R, name: &[u8], space: &mut [u8]) -> Got
     ensures { IsPrefixLen result.count space.new }
 {
-    let fd = os::open_read(name);
-    if fd < 0 {
-        os::fail(name);
-        return Got {
-            count: 0,
-            failed: true,
-        };
+    match open(rt, name) {
+        Ok(mut file) => read_full(rt, &mut file, name, space),
+        Err(e) => {
+            complain(rt, name, e);
+            Got {
+                count: 0,
+                failed: true,
+            }
+        }
     }
-    let got = read_full(fd, name, space);
-    libc::close(fd);
-    got
+}
+
+// Whether the program was started with an argument of that number; number 0 is its own name.
+pub fn is_given(rt: &impl Env, number: usize) -> bool {
+    let Err(FillError::NotPresent) = rt.arg(number, &mut []) else {
+        return true;
+    };
+    false
+}
+
+// Puts that argument at the start of a buffer, and answers its length; 0 where it isn't given or has no room.
+pub fn argument(rt: &impl Env, number: usize, space: &mut [u8]) -> usize
+    ensures { IsPrefixLen result space.new }
+{
+    rt.arg(number, space).unwrap_or(0)
 }

@@ -1,0 +1,6 @@
+-- a failed write puts nothing
+use Rattle.std.specs.Io.KnownBytes.{Keeps}
+use Rattle.streams.proofs.taken.Given as goal
+
+abbrev pub invariant-loop : goal.invariant-loop
+invariant-loop g l = Keeps (g.W.Write.contents l.initial.writer) (g.W.Write.contents l.writer)

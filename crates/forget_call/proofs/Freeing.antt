@@ -84,9 +84,9 @@ module _ (at n : ℕ) (d x z : List ℕ) (low : at ≤ length d) (e : x ≡ drop
   freed : length (drop n x) ≡ at
   freed = omega (arith, low, same, counted, length-drop n x)
 
-  pub moved_down_law : z ≡ replicate (length (take (length x - n) (drop n x))) 0 → take n x ++ (z ++ drop (length x - n) (drop n x)) ≡ moved_down at d
+  pub moved_down_lem : z ≡ replicate (length (take (length x - n) (drop n x))) 0 → take n x ++ (z ++ drop (length x - n) (drop n x)) ≡ moved_down at d
   unfolding moved_down
-  moved_down_law zp =
+  moved_down_lem zp =
       let all : take (length x - n) (drop n x) ≡ drop n x = tail_part x n in
       let none : drop (length x - n) (drop n x) ≡ [] = drop_of_length-le (drop n x) {i = length x - n} (omega (arith, length-drop n x)) in
       let zeros : z ≡ replicate at 0 = zp ∙ ap (λ (l : List ℕ). replicate (length l) 0) all ∙ ap (λ (k : ℕ). replicate k 0) freed in
@@ -116,8 +116,8 @@ marks_put b long used fits m y mp yp =
     let wide = ap length mp ∙ length_marks (entries_of (scan (take (journal_at + used - journal_at) (drop journal_at b)))) in
     yp ∙ part_pasted 64 b m long wide marks_at (omega arith) ∙ ap (λ (l : List ℕ). with_part marks_size marks_at l b) is
 
-pub marks_fit_law : (b m : List ℕ) (es : List Entry) → length b ≡ image_length → m ≡ marks_of es → marks_at + length m ≤ length b
-marks_fit_law b m es long e = omega (arith, long, ap length e, length_marks es)
+pub marks_fit_lem : (b m : List ℕ) (es : List Entry) → length b ≡ image_length → m ≡ marks_of es → marks_at + length m ≤ length b
+marks_fit_lem b m es long e = omega (arith, long, ap length e, length_marks es)
 
 -- ---- the journal moved down, its marks and the head written
 
@@ -166,10 +166,10 @@ module _ (h : Head) (b : List ℕ) (long : length b ≡ image_length) (at : ℕ)
       marks_d : marks_in d ≡ marks_for down (h.used - at)
       marks_d = ap marks_in marked ∙ marks_back c marks long_c (length_marks (entries_in left (journal_in c))) ∙ (λ i. marks_for (journal_c i) (is i))
 
-      pub session_freed_law : (y : List ℕ) (head : Head) → head ≡ head_renewed h h.held h.next left h.ahead → y ≡ image_of (session_in head d)
+      pub session_freed_lem : (y : List ℕ) (head : Head) → head ≡ head_renewed h h.held h.next left h.ahead → y ≡ image_of (session_in head d)
           → y ≡ image_of (session_freed at (session_in h b))
       unfolding session_in head_renewed session_freed renewed
-      session_freed_law y head hp yp =
+      session_freed_lem y head hp yp =
           yp ∙ ap (λ (k : Head). image_of (session_in k d)) hp
           ∙ (λ i. image_of (record {
             held = h.held;
@@ -265,9 +265,9 @@ unfolding forget_left kept
 refused n s = refl
 
 module _ (n : ℕ) where
-  pub no_image_law : (b : List ℕ) → (length b ≡ image_length → ⊥) → (t : Told) → t ≡ record { answer = 1; small = 0; beside = 0 } → (t ≡ (forget_on n b).told) × (b ≡ (forget_on n b).image)
+  pub no_image_lem : (b : List ℕ) → (length b ≡ image_length → ⊥) → (t : Told) → t ≡ record { answer = 1; small = 0; beside = 0 } → (t ≡ (forget_on n b).told) × (b ≡ (forget_on n b).image)
   unfolding forget_on forget_call forget_asks
-  no_image_law = silent.other_length (oldest_asks n) forget_left refused
+  no_image_lem = silent.other_length (oldest_asks n) forget_left refused
 
   module _ (b : List ℕ) (long : length b ≡ image_length) (h : Head) (read : h ≡ head_in b) (g : Bool) (formed : g ≡ well_formed (session_in h b)) where
     pub ill_formed : Bytes b → (t : Told) → t ≡ record { answer = 1; small = 0; beside = 0 } → not g ≡ true → (t ≡ (forget_on n b).told) × (b ≡ (forget_on n b).image)

@@ -39,8 +39,8 @@ paste_on at xs bs d h =
         ∙ ap (λ (n : ℕ). drop n d) (add_assoc at (length xs) (length bs) ∙ ap (λ (n : ℕ). at + n) (sym (length-append xs bs)))
 
 -- where rows of these widths end
-from_front_law : (rs : List (List ℕ)) (ws : List ℕ) → widths_of rs ≡ ws → 0 + length (joined rs) ≡ sum_of ws
-from_front_law rs ws e = zero-add (length (joined rs)) ∙ length_joined rs ∙ ap sum_of e
+from_front_lem : (rs : List (List ℕ)) (ws : List ℕ) → widths_of rs ≡ ws → 0 + length (joined rs) ≡ sum_of ws
+from_front_lem rs ws e = zero-add (length (joined rs)) ∙ length_joined rs ∙ ap sum_of e
 
 pub length_record : (r : Record) → length r.throttles.sets ≡ 160 → length r.thermal ≡ 9 → length (joined (record_rows r)) ≡ 230
 unfolding sum_of record_widths
@@ -127,10 +127,10 @@ module _ (d : List ℕ) (long : 239 ≤ length d) where
       let two = one ++ throttles_rows r.throttles in
       let three = two ++ thermal_rows r.user r.thermal in
       let four = three ++ logs_rows r.received r.logs in
-      let p = rows_on 239 d long 0 8 one (throttles_rows r.throttles) v w (lit< tt) (from_front_law one (1 ∷ 1 ∷ 2 ∷ 2 ∷ 2 ∷ []) refl) e f in
-      let q = rows_on 239 d long 0 170 two (thermal_rows r.user r.thermal) w x (lit< tt) (from_front_law two (1 ∷ 1 ∷ 2 ∷ 2 ∷ 2 ∷ 2 ∷ 160 ∷ []) (λ i. 1 ∷ 1 ∷ 2 ∷ 2 ∷ 2 ∷ 2 ∷ sets i ∷ [])) p g in
-      let k = rows_on 239 d long 0 181 three (logs_rows r.received r.logs) x y (lit< tt) (from_front_law three (1 ∷ 1 ∷ 2 ∷ 2 ∷ 2 ∷ 2 ∷ 160 ∷ 2 ∷ 9 ∷ []) (λ i. 1 ∷ 1 ∷ 2 ∷ 2 ∷ 2 ∷ 2 ∷ sets i ∷ 2 ∷ thermal i ∷ [])) q h in
-      rows_on 239 d long 0 193 four (mailbox_rows r.mask r.deadman r.areas) y z (lit< tt) (from_front_law four (take 21 record_widths) (ap (take 21) (widths_record r sets thermal))) k j
+      let p = rows_on 239 d long 0 8 one (throttles_rows r.throttles) v w (lit< tt) (from_front_lem one (1 ∷ 1 ∷ 2 ∷ 2 ∷ 2 ∷ []) refl) e f in
+      let q = rows_on 239 d long 0 170 two (thermal_rows r.user r.thermal) w x (lit< tt) (from_front_lem two (1 ∷ 1 ∷ 2 ∷ 2 ∷ 2 ∷ 2 ∷ 160 ∷ []) (λ i. 1 ∷ 1 ∷ 2 ∷ 2 ∷ 2 ∷ 2 ∷ sets i ∷ [])) p g in
+      let k = rows_on 239 d long 0 181 three (logs_rows r.received r.logs) x y (lit< tt) (from_front_lem three (1 ∷ 1 ∷ 2 ∷ 2 ∷ 2 ∷ 2 ∷ 160 ∷ 2 ∷ 9 ∷ []) (λ i. 1 ∷ 1 ∷ 2 ∷ 2 ∷ 2 ∷ 2 ∷ sets i ∷ 2 ∷ thermal i ∷ [])) q h in
+      rows_on 239 d long 0 193 four (mailbox_rows r.mask r.deadman r.areas) y z (lit< tt) (from_front_lem four (take 21 record_widths) (ap (take 21) (widths_record r sets thermal))) k j
 
 pub timer_put : (d : List ℕ) → image_length ≤ length d → (t : Timer) (profile : ℕ) (x y z : List ℕ) → x ≡ pasted 4401 (byte t.running) d → y ≡ pasted 4402 (to_be 8 t.left) x
     → z ≡ pasted 4410 (byte profile) y → z ≡ pasted timer_at (joined (timer_rows t profile)) d

@@ -27,13 +27,13 @@ use Rattle.inplace.specs.laws.Marked.{entries_are, empty_journal, newest_there, 
 
 -- ---- the journal is tested with its marks, the redo store has none
 
-in_order_law : (sum journal marked redo : Bool)
+in_order_lem : (sum journal marked redo : Bool)
     → cond sum false (cond (not (cond journal marked false)) false (cond redo true false)) ≡ cond sum false (cond (not journal) false (cond (not marked) false redo))
-in_order_law true journal marked redo = refl
-in_order_law false true true true = refl
-in_order_law false true true false = refl
-in_order_law false true false redo = refl
-in_order_law false false marked redo = refl
+in_order_lem true journal marked redo = refl
+in_order_lem false true true true = refl
+in_order_lem false true true false = refl
+in_order_lem false true false redo = refl
+in_order_lem false false marked redo = refl
 
 pub all_tests : (s : Session)
     → cond (ltb 2048 (s.used + s.ahead)) false
@@ -41,7 +41,7 @@ pub all_tests : (s : Session)
     (cond (store_ok After s.redo s.ahead) (marks_ok After s.marks (entries_in s.ahead s.redo)) false))
     ≡ stores_ok s
 unfolding stores_ok marks_ok by_way
-all_tests s = in_order_law (ltb 2048 (s.used + s.ahead)) (store_ok Before s.journal s.used) (same s.marks (marks_of (entries_in s.used s.journal))) (store_ok After s.redo s.ahead)
+all_tests s = in_order_lem (ltb 2048 (s.used + s.ahead)) (store_ok Before s.journal s.used) (same s.marks (marks_of (entries_in s.used s.journal))) (store_ok After s.redo s.ahead)
 
 -- the marks, the journal and the redo store have their bytes
 pub parts_long : (b : List ℕ) → length b ≡ image_length → (length (marks_in b) ≡ 64) × (length (journal_in b) ≡ 2048) × (length (redo_in b) ≡ 2048)

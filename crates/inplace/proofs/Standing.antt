@@ -90,8 +90,8 @@ module _ (b : List ℕ) (long : length b ≡ image_length) (used : ℕ) (is_mark
   n_is : length (journal_in b) ≡ 2048
   n_is = length_store b long journal_at (omega arith)
 
-  pub no_room_law : end ≡ Full → a ≡ b
-  no_room_law f =
+  pub no_room_lem : end ≡ Full → a ≡ b
+  no_room_lem f =
       added ∙ store_same b x journal_at (full_keeps used e (journal_in b) (subst IsFull (sym f ∙ made ∙ ap (λ (n : ℕ). end_of n used e) (sym n_is)) tt))
 
   module _ (wide : length x ≡ 2048) (sized : Sized (entry_for e)) (m : ℕ) (at : end ≡ At m) where

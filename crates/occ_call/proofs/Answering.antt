@@ -159,9 +159,9 @@ module _ (b : List ℕ) (long : length b ≡ image_length) (h : Head) (read : h 
       ∙ by_refusal)
 
 -- bytes that are no image
-pub no_image_law : (b : List ℕ) → (length b ≡ image_length → ⊥) → (sender : ℕ) (c d : List ℕ) (t : Told) → t ≡ record { answer = 1; small = 0; beside = 0 } → Parts t b d (occ_on b sender c d)
+pub no_image_lem : (b : List ℕ) → (length b ≡ image_length → ⊥) → (sender : ℕ) (c d : List ℕ) (t : Told) → t ≡ record { answer = 1; small = 0; beside = 0 } → Parts t b d (occ_on b sender c d)
 unfolding occ_on
-no_image_law b z sender c d t p = inplace.no_image_law (λ (s : Session). occ_left (occ_call s sender c d) (occ_why s sender c d)) d b z t p
+no_image_lem b z sender c d t p = inplace.no_image_lem (λ (s : Session). occ_left (occ_call s sender c d) (occ_why s sender c d)) d b z t p
 
 -- ---- what a command asks for
 

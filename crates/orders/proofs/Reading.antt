@@ -205,10 +205,10 @@ module _ (line : List ℕ) (at end : ℕ) (d : List ℕ) {w : Word} where
   order_skip e h = kept d h ∙ sym (ap (λ (x : Word). order_by x line at end d) e)
 
 -- the word was found in the part that starts at it
-pub order_at_law : (line : List ℕ) (at : ℕ) (d : List ℕ) {n : ℕ} {w : Word} {g : Ordered} → n ≡ leading in_word (take (length line - at) (drop at line))
+pub order_at_lem : (line : List ℕ) (at : ℕ) (d : List ℕ) {n : ℕ} {w : Word} {g : Ordered} → n ≡ leading in_word (take (length line - at) (drop at line))
     → w ≡ word_of (take n (take (length line - at) (drop at line))) → g ≡ order_by w line at (at + n) d → g ≡ order_at line at d
 unfolding order_at
-order_at_law line at d {n} {w} en ew h =
+order_at_lem line at d {n} {w} en ew h =
     let part : take (length line - at) (drop at line) ≡ drop at line = tail_part line at in
     let n_is : n ≡ word_length line at = en ∙ ap (leading in_word) part in
     let w-is : w ≡ word_of (take n (drop at line)) = ew ∙ ap (λ (l : List ℕ). word_of (take n l)) part in
@@ -222,15 +222,15 @@ module _ (line d : List ℕ) where
   order_long h e = if_lt _ _ h (kept d e)
 
   module _ (h : length line ≤ 32768) {at : ℕ} (place : at ≡ past_blanks line 0) where
-    order_from_law : {g : Ordered} → g ≡ order_from line d at → g ≡ order_of line d
+    order_from_lem : {g : Ordered} → g ≡ order_from line d at → g ≡ order_of line d
     unfolding order_of
-    order_from_law e = else_lt _ _ h (e ∙ ap (λ (n : ℕ). order_from line d n) place)
+    order_from_lem e = else_lt _ _ h (e ∙ ap (λ (n : ℕ). order_from line d n) place)
 
     pub order_remark : {r : Order} → remark line at ≡ true → r ≡ plainly Skip → ordered r d ≡ order_of line d
-    order_remark k e = order_from_law (if_b _ _ k (kept d e))
+    order_remark k e = order_from_lem (if_b _ _ k (kept d e))
 
     pub order_word : {g : Ordered} → remark line at ≡ false → g ≡ order_at line at d → g ≡ order_of line d
-    order_word k e = order_from_law (else_b _ _ k e)
+    order_word k e = order_from_lem (else_b _ _ k e)
 
 module _ (s d : List ℕ) where
   pub line_short : {r : Order} → length d < 16390 → r ≡ plainly Skip → ordered r d ≡ order_in s d

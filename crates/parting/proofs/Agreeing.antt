@@ -73,15 +73,15 @@ whole_by n (Whole count newest) = n
 whole_by n (Unknown at) = at
 whole_by n (Cut at) = at
 
-whole_by_law : (j : List ℕ) (s : Scan) → trace_scan j ≡ s → whole_by (length j) (reading_of s) ≡ length (written (entries_of s))
+whole_by_lem : (j : List ℕ) (s : Scan) → trace_scan j ≡ s → whole_by (length j) (reading_of s) ≡ length (written (entries_of s))
 unfolding reading_of entries_of
-whole_by_law j (between es) e = ap length (scan_written trace_table j es e)
-whole_by_law j (within es k b n) e = refl
-whole_by_law j (unknown es) e = refl
+whole_by_lem j (between es) e = ap length (scan_written trace_table j es e)
+whole_by_lem j (within es k b n) e = refl
+whole_by_lem j (unknown es) e = refl
 
 -- r is what `read` found, c the variant that it is
 pub whole_as : (j : List ℕ) {r c : Reading} → r ≡ c → r ≡ reading_of (trace_scan j)
     → (whole_by (length j) c ≡ length (written (entries_of (trace_scan j)))) × IsPrefixLen (whole_by (length j) c) j
 whole_as j is e =
-    let same = ap (whole_by (length j)) (sym is ∙ e) ∙ whole_by_law j (trace_scan j) refl in
+    let same = ap (whole_by (length j)) (sym is ∙ e) ∙ whole_by_lem j (trace_scan j) refl in
     (same, counts _ j (omega (arith, whole_length trace_table j)))

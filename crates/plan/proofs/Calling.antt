@@ -44,9 +44,9 @@ module _ (formed : Bool) (p : List ℕ) (wanted : ℕ) where
 -- ---- on lent bytes
 
 module _ (b p : List ℕ) (wanted : ℕ) where
-  pub no_image_law : (length b ≡ image_length → ⊥) → (o : List ℕ) (t : Told) → t ≡ answered 1 → t ≡ plan_ok_on b p wanted o
+  pub no_image_lem : (length b ≡ image_length → ⊥) → (o : List ℕ) (t : Told) → t ≡ answered 1 → t ≡ plan_ok_on b p wanted o
   unfolding plan_ok_on
-  no_image_law z o t e = e ∙ if_ne _ _ z refl
+  no_image_lem z o t e = e ∙ if_ne _ _ z refl
 
   no_image_planned : (length b ≡ image_length → ⊥) → (d : List ℕ) → record { told = answered 1; order = d } ≡ plan_on b p wanted d
   unfolding plan_on
@@ -92,9 +92,9 @@ module _ (b p : List ℕ) (wanted : ℕ) where
       pub few_enough : packets_in p ≤ 5
       few_enough = (none_refused _ p wanted none_so).few
 
-      pub no_room_law : (d : List ℕ) → length d < 5 → (t : Told) → t ≡ answered 3 → PlanAllows b p wanted d t d
+      pub no_room_lem : (d : List ℕ) → length d < 5 → (t : Told) → t ≡ answered 3 → PlanAllows b p wanted d t d
       unfolding plan_call
-      no_room_law d short t k = planned d t d k refl (else_ne _ _ none_so (if_lt _ _ short refl))
+      no_room_lem d short t k = planned d t d k refl (else_ne _ _ none_so (if_lt _ _ short refl))
 
       module _ (start : Trial) (is : start ≡ record { ok = true; held = h.held; next = h.next }) where
         starts : start ≡ start_of s

@@ -87,6 +87,6 @@ module _ (i : ℕ) (d : List ℕ) (five : length d ≡ 5) where
   unfolding trimmed
   digit_stays h z = split h ∙ else_eq _ _ z refl ∙ ap trimmed (sym (split h))
 
-  pub none_left_law : 5 ≤ i → drop i d ≡ trimmed (drop i d)
+  pub none_left_lem : 5 ≤ i → drop i d ≡ trimmed (drop i d)
   unfolding trimmed
-  none_left_law h = let e = drop_of_length-le d {i = i} (omega (arith, h, five)) in e ∙ ap trimmed (sym e)
+  none_left_lem h = let e = drop_of_length-le d {i = i} (omega (arith, h, five)) in e ∙ ap trimmed (sym e)

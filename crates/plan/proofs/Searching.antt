@@ -18,9 +18,9 @@ use Rattle.plan.specs.laws.Orders.{of_more}
 -- ---- the check
 
 module _ (p : List ℕ) (wanted : ℕ) (t : Trial) (o : List ℕ) where
-  pub too_long_law : 5 < length o → false ≡ plan_ok p wanted t o
+  pub too_long_lem : 5 < length o → false ≡ plan_ok p wanted t o
   unfolding plan_ok
-  too_long_law h = if_lt _ _ h refl
+  too_long_lem h = if_lt _ _ h refl
 
   module _ (short : length o ≤ 5) (ordered : Bool) (e : ordered ≡ is_order ((length p + 4095) / 4096) o) where
     pub no_order : not ordered ≡ true → false ≡ plan_ok p wanted t o

@@ -118,8 +118,8 @@ unfolding image_after
 image_more e es = refl
 
 -- the bytes from a place on, as the code lends them
-pub stands_at_law : (t : List ℕ) (at : ℕ) {n : ℕ} {x : Next} → x ≡ Stands n → x ≡ next_by trace_table (take (length t - at) (drop at t)) → Stands n ≡ next_by trace_table (drop at t)
-stands_at_law t at is e = sym is ∙ e ∙ ap (next_by trace_table) (tail_part t at)
+pub stands_at_lem : (t : List ℕ) (at : ℕ) {n : ℕ} {x : Next} → x ≡ Stands n → x ≡ next_by trace_table (take (length t - at) (drop at t)) → Stands n ≡ next_by trace_table (drop at t)
+stands_at_lem t at is e = sym is ∙ e ∙ ap (next_by trace_table) (tail_part t at)
 
 module _ {t d₀ : List ℕ} {at end number : ℕ} {b d : List ℕ} (p : Playing t d₀ at end number b d) where
   done : entries_of (trace_scan t) ≡ p.entries → Done (entries_of (trace_scan t)) d₀ end b d

@@ -173,7 +173,7 @@ pub record WatchEffect (s t : Session) : Type 0 where
   pub journal_is : (t.journal ≡ replicate 2048 0) and (t.used ≡ 0)
   pub redo_is : (t.redo ≡ replicate 2048 0) and (t.ahead ≡ 0)
   pub marks_are : t.marks ≡ replicate 64 0
-  pub watch_only_law : t.profile ≡ 1
+  pub watch_only_lem : t.profile ≡ 1
 
 -- ---- time
 

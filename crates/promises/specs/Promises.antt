@@ -95,7 +95,7 @@ use Rattle.saving.specs.Moves.{goes_down, base_reads, saved_reads, put_into, sav
 use Rattle.plan.specs.Conditions.{Order, FewestThenLeast}
 use Rattle.plan.specs.Plan.{packets_in, answered, plan_ok_call, plan_call, plan_ok_on, plan_on, PlanAllows}
 use Rattle.bjargolsk.specs.Calls.{answer_in, fresh_on, FreshReturns, OccReturns, SbeReturns, UndoReturns, RedoReturns, ForgetReturns, SeepromReturns, TimeReturns, WatchReturns, PlanReturns, PlanOkReturns, SaveReturns, RestoreReturns, MoveUpReturns, MoveDownReturns, PartReturns}
-use Rattle.promises.specs.laws.Lent.{every_image, every_byte, no_session, fresh_image, lent_run_law, lent_next}
+use Rattle.promises.specs.laws.Lent.{every_image, every_byte, no_session, fresh_image, lent_run_lem, lent_next}
 use Rattle.promises.specs.Lent.{lent, told as told-beside, carried_over, lent_run, watched_on}
 use Rattle.promises.specs.Passed.{MarksStand, PassedAsHeld}
 use Rattle.promises.specs.laws.Passed.{session_marks, passed_as_held, none_passed, few_passed}
@@ -809,7 +809,7 @@ pub same_on_images : (b : List ℕ) → length b ≡ image_length → (cs : List
     → (lent_run (fresh_on b).image cs ≡ image_of (after cs).session) × ((c : Call) → lent (image_of (after cs).session) c ≡ carried_over (after cs).session c)
 unfolding start
 same_on_images b long cs bs = (
-  ap (λ (i : List ℕ). lent_run i cs) (fresh_image b long) ∙ lent_run_law fresh_record 1 cs (start fresh_session) bs fresh_start,
+  ap (λ (i : List ℕ). lent_run i cs) (fresh_image b long) ∙ lent_run_lem fresh_record 1 cs (start fresh_session) bs fresh_start,
   lent_next fresh_record 1 (after cs) (invariant fresh_record 1 cs (start fresh_session) bs fresh_start),
 )
 

@@ -50,9 +50,9 @@ is_false false h = refl
 abbrev pub FoundSaved : List ℕ → List ℕ → Bool → Type 0
 FoundSaved b y r = (r ≡ saved_reads b) × (r ≡ true → y ≡ image_of (session_of_saved b))
 
-pub saved_length_law : (b y : List ℕ) → (length b ≡ saved_length → ⊥) → FoundSaved b y false
+pub saved_length_lem : (b y : List ℕ) → (length b ≡ saved_length → ⊥) → FoundSaved b y false
 unfolding saved_reads
-saved_length_law b y h = (if_ne _ _ h refl, λ z. absurd (false≢true z))
+saved_length_lem b y h = (if_ne _ _ h refl, λ z. absurd (false≢true z))
 
 module _ (b : List ℕ) (long : length b ≡ saved_length) (k : Bool) (kinds : k ≡ kinds_ok b) where
   pub saved_kinds : (y : List ℕ) → not k ≡ true → FoundSaved b y false
@@ -170,16 +170,16 @@ module _ (b out : List ℕ) (t : Told) where
     down_ill n e = as_told (refused 11 out) (move_down_to b out) t out (if_not _ _ found.0 n refl) (e, refl)
 
     module _ (bytes : Bytes b) (good : not r ≡ false) where
-      saved_reads_law : saved_reads b ≡ true
-      saved_reads_law = sym found.0 ∙ not-false r good
+      saved_reads_lem : saved_reads b ≡ true
+      saved_reads_lem = sym found.0 ∙ not-false r good
 
       saved_long : length b ≡ saved_length
       unfolding saved_reads
-      saved_long = eqb-true (length b) saved_length (both_hold (eqb (length b) saved_length) _ saved_reads_law).0
+      saved_long = eqb-true (length b) saved_length (both_hold (eqb (length b) saved_length) _ saved_reads_lem).0
 
       saved_formed : well_formed (session_of_saved b) ≡ true
       unfolding saved_reads
-      saved_formed = (both_hold (kinds_ok b) _ (both_hold (eqb (length b) saved_length) _ saved_reads_law).1).1
+      saved_formed = (both_hold (kinds_ok b) _ (both_hold (eqb (length b) saved_length) _ saved_reads_lem).1).1
 
       is_image : d ≡ image_of (session_of_saved b)
       is_image = found.1 (not-false r good)
@@ -219,13 +219,13 @@ module _ (b out : List ℕ) (t : Told) (r : Bool) (d : List ℕ) (found : FoundB
   up_ill n e = as_told (refused 11 out) (move_up_to b out) t out (if_not _ _ found.0 n refl) (e, refl)
 
   module _ (bytes : Bytes b) (good : not r ≡ false) where
-    base_reads_law : base_reads b ≡ true
-    base_reads_law = sym found.0 ∙ not-false r good
+    base_reads_lem : base_reads b ≡ true
+    base_reads_lem = sym found.0 ∙ not-false r good
 
     typed : Typed (session_of_base b)
     unfolding base_reads
     typed =
-        let p = passed (ltb (length b) base_head) _ base_reads_law in
+        let p = passed (ltb (length b) base_head) _ base_reads_lem in
         let q = passed (ltb base_most (length b)) _ p.1 in
         base_typed b bytes (ltb-false _ _ p.0) (ltb-false _ _ q.0)
 

@@ -216,7 +216,7 @@ module _ (b : List ℕ) (long : length b ≡ image_length) (h : Head) (read : h 
       (k.0, (k.1.0, (k.1.1, data_is w (else_ne _ _ none (sp ∙ ap (λ (u : Ruling). served_by u m x) a)))))
 
 -- bytes that are no image
-pub no_image_law : (b : List ℕ) → (length b ≡ image_length → ⊥) → (r d m x : List ℕ) (t : Told) → t ≡ record { answer = 1; small = 0; beside = 0 } → All t b d x (sbe_on b r d m x) (data_on b r d m x)
+pub no_image_lem : (b : List ℕ) → (length b ≡ image_length → ⊥) → (r d m x : List ℕ) (t : Told) → t ≡ record { answer = 1; small = 0; beside = 0 } → All t b d x (sbe_on b r d m x) (data_on b r d m x)
 unfolding sbe_on data_on
-no_image_law b z r d m x t p =
-    let k = inplace.no_image_law (λ (s : Session). rung_left (sbe_call s r d m x)) d b z t p in (k.0, (k.1.0, (k.1.1, if_ne _ _ z refl)))
+no_image_lem b z r d m x t p =
+    let k = inplace.no_image_lem (λ (s : Session). rung_left (sbe_call s r d m x)) d b z t p in (k.0, (k.1.0, (k.1.1, if_ne _ _ z refl)))

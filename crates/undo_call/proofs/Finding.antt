@@ -87,10 +87,10 @@ module _ (w : Way) (s : Session) (whole : well_formed s ≡ true) where
   store_long : (es : List Entry) → scan store ≡ between es → length (written es) ≡ used_of w s
   store_long es r = ap length (sym (scan_written store es r)) ∙ length-take-le (used_of w s) (store_of w s) (store_fits w s whole)
 
-used_of_law : (w : Way) (h : Head) (b : List ℕ) → used_of w (session_in h b) ≡ by_way w h.used h.ahead
+used_of_lem : (w : Way) (h : Head) (b : List ℕ) → used_of w (session_in h b) ≡ by_way w h.used h.ahead
 unfolding used_of by_way session_in
-used_of_law Before h b = refl
-used_of_law After h b = refl
+used_of_lem Before h b = refl
+used_of_lem After h b = refl
 
 pub newest_low : (w : Way) (h : Head) (b : List ℕ) → HeadStands h b → (whole : well_formed (session_in h b) ≡ true) (at passed : ℕ) → NewestFound w (session_in h b) (At at passed)
     → at ≤ by_way w h.used h.ahead
@@ -98,7 +98,7 @@ newest_low w h b here whole at passed x =
     let s = session_in h b in
     let r = store_reads w s whole in
     let is : at ≡ newest_at r.entries = ap newest_in (sym x.1 ∙ whole_reading w s whole r.entries r.scanned) in
-    omega (arith, is, newest_written r.entries, store_long w s whole r.entries r.scanned, used_of_law w h b)
+    omega (arith, is, newest_written r.entries, store_long w s whole r.entries r.scanned, used_of_lem w h b)
 
 -- ---- what the marks ask for: the newest entry begins at `at`
 
@@ -139,9 +139,9 @@ module _ (h : Head) (b : List ℕ) (here : HeadStands h b) (whole : well_formed 
     marked_part x p q r = is ∙ (λ i. newest_of (reading_of (scan (take (p i + q i - (p i + r i)) (drop (p i + r i) b)))))
 
     -- redo: the whole store
-    whole_part_law : m ≡ redo_at → n ≡ h.ahead → from ≡ 0 → found ≡ newest_of (reading_of (scan (take h.ahead (redo_in b))))
+    whole_part_lem : m ≡ redo_at → n ≡ h.ahead → from ≡ 0 → found ≡ newest_of (reading_of (scan (take h.ahead (redo_in b))))
     unfolding session_in
-    whole_part_law p q r =
+    whole_part_lem p q r =
         let fits : h.ahead ≤ 2048 = omega (arith, (formed s whole).both_fit) in
         let k : m + n - (m + from) ≡ h.ahead = omega (arith, q, r) in
         let l : m + from ≡ redo_at = omega (arith, p, r) in
@@ -157,7 +157,7 @@ module _ (h : Head) (b : List ℕ) (here : HeadStands h b) (whole : well_formed 
     found_there After p q looks place passed told there tp =
         let r = store_reads After s whole in
         let read = whole_reading After s whole r.entries r.scanned in
-        let at : place ≡ newest_at r.entries = found_whole _ _ place passed (sym there ∙ whole_part_law p q looks ∙ ap newest_of read) in
+        let at : place ≡ newest_at r.entries = found_whole _ _ place passed (sym there ∙ whole_part_lem p q looks ∙ ap newest_of read) in
         let sum : from + place ≡ newest_at r.entries = omega (arith, looks, at) in
         (length r.entries, read ∙ ap (Whole (length r.entries)) (sym sum), tp)
 
@@ -169,5 +169,5 @@ module _ (h : Head) (b : List ℕ) (here : HeadStands h b) (whole : well_formed 
     never_nothing After p q some looks none =
         let r = store_reads After s whole in
         let read = whole_reading After s whole r.entries r.scanned in
-        let z : length r.entries ≡ 0 = none_whole _ _ (sym none ∙ whole_part_law p q looks ∙ ap newest_of read) in
+        let z : length r.entries ≡ 0 = none_whole _ _ (sym none ∙ whole_part_lem p q looks ∙ ap newest_of read) in
         some (q ∙ sym (store_long After s whole r.entries r.scanned) ∙ no_bytes r.entries z)

@@ -184,9 +184,9 @@ module _ (w : Way) (h : Head) (b : List ℕ) (at : ℕ) (e : Edit) (after : Reco
     -- g are the lent bytes with the new marks, d with the entry moved too
     module _ (g d : List ℕ) (moved : Moved w at from to back g d) (journal-kept : store_in w g ≡ store_in w b) (other_kept : store_in (other w) g ≡ store_in (other w) b)
         (marks_are : marks_in g ≡ marks_for (by_way w (lessened w before at) (grown w before e)) (by_way w at (grown_to w before e))) where
-      pub session_moved_law : (y : List ℕ) (head : Head) (timer : Timer) → timer ≡ timer_after h.timer e.change → head ≡ head_moved h w timer after at (to + n) → y ≡ image_of (session_in head d) → y ≡ image_of (session_moved w before at e after)
+      pub session_moved_lem : (y : List ℕ) (head : Head) (timer : Timer) → timer ≡ timer_after h.timer e.change → head ≡ head_moved h w timer after at (to + n) → y ≡ image_of (session_in head d) → y ≡ image_of (session_moved w before at e after)
       unfolding session_in head_moved head_renewed head_timed session_moved renewed with_timer
-      session_moved_law y head timer tp hp yp =
+      session_moved_lem y head timer tp hp yp =
           let one = moved.less ∙ ap (cut_from at from) journal-kept ∙ less_is in
           let two = moved.more ∙ ap (pasted to (entry_bytes back)) other_kept ∙ more_is in
           let js = stores_are w d (lessened w before at) (grown w before e) one two in
@@ -309,9 +309,9 @@ module _ (w : Way) (h : Head) (b : List ℕ) (here : HeadStands h b) where
 
 -- ---- the whole call
 
-pub no_image_law : (w : Way) (b : List ℕ) → (length b ≡ image_length → ⊥) → (t : Told) → t ≡ record { answer = 1; small = 0; beside = 0 } → (t ≡ (move_on w b).told) × (b ≡ (move_on w b).image)
+pub no_image_lem : (w : Way) (b : List ℕ) → (length b ≡ image_length → ⊥) → (t : Told) → t ≡ record { answer = 1; small = 0; beside = 0 } → (t ≡ (move_on w b).told) × (b ≡ (move_on w b).image)
 unfolding move_on
-no_image_law w b z t p = let q = inplace.no_image_law (λ (s : Session). moved_left (passed_by w s) (move_call w s)) [] b z t p in (q.0, q.1.0)
+no_image_lem w b z t p = let q = inplace.no_image_lem (λ (s : Session). moved_left (passed_by w s) (move_call w s)) [] b z t p in (q.0, q.1.0)
 
 module _ (w : Way) (b : List ℕ) (long : length b ≡ image_length) (h : Head) (read : h ≡ head_in b) (g : Bool) (formed : g ≡ well_formed (session_in h b)) where
   on_bytes : (t : Told) (y : List ℕ) {a : Asks} → a ≡ move_asks w (session_in h b) → Tells w (session_in h b) t y a → (t ≡ (move_on w b).told) × (y ≡ (move_on w b).image)

@@ -40,9 +40,9 @@ module _ (h : Head) (b : List ℕ) (long : length b ≡ image_length) (w : Worke
 
 -- ---- the whole call
 
-pub no_image_law : (b : List ℕ) → (length b ≡ image_length → ⊥) → (t : Told) → t ≡ record { answer = 1; small = 0; beside = 0 } → (t ≡ (watch_on b).told) × (b ≡ (watch_on b).image)
+pub no_image_lem : (b : List ℕ) → (length b ≡ image_length → ⊥) → (t : Told) → t ≡ record { answer = 1; small = 0; beside = 0 } → (t ≡ (watch_on b).told) × (b ≡ (watch_on b).image)
 unfolding watch_on watch_call watch_asks
-no_image_law = silent.other_length (λ (x : Session). opens) rung_left silent.rung_refused
+no_image_lem = silent.other_length (λ (x : Session). opens) rung_left silent.rung_refused
 
 module _ (b : List ℕ) (long : length b ≡ image_length) (h : Head) (read : h ≡ head_in b) (g : Bool) (formed : g ≡ well_formed (session_in h b)) where
   pub ill_formed : Bytes b → (t : Told) → t ≡ record { answer = 1; small = 0; beside = 0 } → not g ≡ true → (t ≡ (watch_on b).told) × (b ≡ (watch_on b).image)

@@ -1,10 +1,10 @@
 use native.Mathlib.Omega.{arith}
 use Rattle.inplace.specs.laws.InPlace.{stands}
-use Rattle.forget_call.proofs.Freeing.{no_image_law, ill_formed, well_formed_is, oldest_forgotten}
+use Rattle.forget_call.proofs.Freeing.{no_image_lem, ill_formed, well_formed_is, oldest_forgotten}
 use Rattle.forget_call.proofs.forget.Goals as goal
 
 pub returns-then-lent-ne-IMAGE : goal.returns-then-lent-ne-IMAGE
-returns-then-lent-ne-IMAGE c = no_image_law c.args.n c.args.lent.now c.if-lent-ne-IMAGE.true _ c.answer_with.ensures
+returns-then-lent-ne-IMAGE c = no_image_lem c.args.n c.args.lent.now c.if-lent-ne-IMAGE.true _ c.answer_with.ensures
 
 pub read_head-h-requires : goal.read_head-h-requires
 read_head-h-requires c = omega (arith, c.if-lent-ne-IMAGE.false)

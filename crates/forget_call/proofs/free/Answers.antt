@@ -1,6 +1,6 @@
 use mathlib.Core.Path.{refl}
 use native.Mathlib.Omega.{arith}
-use Rattle.forget_call.proofs.Freeing.{long_c, left_fits, left_whole, long_d, session_freed_law}
+use Rattle.forget_call.proofs.Freeing.{long_c, left_fits, left_whole, long_d, session_freed_lem}
 use Rattle.forget_call.proofs.free.Goals as goal
 
 pub overflow_sub-left : goal.overflow_sub-left
@@ -19,4 +19,4 @@ pub write_head-requires : goal.write_head-requires
 write_head-requires c = long_d c.args.h c.args.lent.now c.requires.0 _ c.requires.1 c.requires.2 _ c.move_journal.ensures _ refl _ c.mark_all.ensures
 
 pub returns : goal.returns
-returns c = session_freed_law c.args.h c.args.lent.now c.requires.0 _ c.requires.1 c.requires.2 _ c.move_journal.ensures _ refl _ c.mark_all.ensures _ _ c.renewed-head.ensures c.write_head.ensures
+returns c = session_freed_lem c.args.h c.args.lent.now c.requires.0 _ c.requires.1 c.requires.2 _ c.move_journal.ensures _ refl _ c.mark_all.ensures _ _ c.renewed-head.ensures c.write_head.ensures

@@ -117,9 +117,9 @@ log_parts low next x h =
     let q = passed (leb next x.id) _ p.1 in
     (leb-false x.id low p.0, leb-false next x.id q.0, q.1)
 
-log_ok_law : (low next : ℕ) (x : Log) → low < x.id → x.id < next → reason_ok x.reason ≡ true → log_ok low next x ≡ true
+log_ok_lem : (low next : ℕ) (x : Log) → low < x.id → x.id < next → reason_ok x.reason ≡ true → log_ok low next x ≡ true
 unfolding log_ok
-log_ok_law low next x p q h = sym (else_le _ _ p (else_le _ _ q (sym h)))
+log_ok_lem low next x p q h = sym (else_le _ _ p (else_le _ _ q (sym h)))
 
 pending_cons : (low : ℕ) (x : Log) (l : List Log) → low < x.id → pending_of (x ∷ l) ≡ suc (pending_of l)
 unfolding pending_of
@@ -131,7 +131,7 @@ unfolding logs_above
 above_ok {l = []} (rest h) = refl
 above_ok {l = x ∷ l} (rest h) = sym (if_eq _ _ (unused_parts x l h).0 (sym h))
 above_ok {next} {low} (more {x = x} p q h k) =
-    sym (else_eq _ _ {m = x.id} {n = 0} (λ e. omega arith) (sym (hold_both (log_ok_law low next x p q h) (above_ok k))))
+    sym (else_eq _ _ {m = x.id} {n = 0} (λ e. omega arith) (sym (hold_both (log_ok_lem low next x p q h) (above_ok k))))
 
 pub above : {next low : ℕ} {l : List Log} → logs_above low next l ≡ true → Above next low l
 unfolding logs_above
@@ -230,9 +230,9 @@ module _ (next : ℕ) (l : List Log) (ok : logs_ok next l ≡ true) where
       go false = ok
 
   -- each place is unused, or has a reason
-  pub logs_made_law : (i : ℕ) → made_ok (get_or l i no_log) ≡ true
+  pub logs_made_lem : (i : ℕ) → made_ok (get_or l i no_log) ≡ true
   unfolding logs_ok
-  logs_made_law i = above_made i (above {next = next} {low = 0} ok)
+  logs_made_lem i = above_made i (above {next = next} {low = 0} ok)
 
   -- a log that pends at a place is one that a clear may name
   pub pends_cleared : (p : ℕ) (x : Log) → pends_at p x l ≡ true → cleared_ok p x ≡ true
@@ -243,7 +243,7 @@ module _ (next : ℕ) (l : List Log) (ok : logs_ok next l ≡ true) where
       let same = both_hold (eqb (get_or l p no_log).id x.id) _ id.1 in
       let i : (get_or l p no_log).id ≡ x.id = eqb-true _ _ same.0 in
       let w : (get_or l p no_log).reason ≡ x.reason = eqb-true _ _ same.1 in
-      sym (else_b _ _ place.0 (else_b _ _ id.0 (sym (rw (i, w, id.0) at (logs_made_law p)))))
+      sym (else_b _ _ place.0 (else_b _ _ id.0 (sym (rw (i, w, id.0) at (logs_made_lem p)))))
 
 -- ---- what was before a change passes too
 
@@ -262,7 +262,7 @@ last_made next made l ok = go (eqb made 0) (eqb (pending_of l) 0)
     go : (s t : Bool) → made_ok (cond s no_log (cond t no_log (get_or l (pending_of l - 1) no_log))) ≡ true
     go true t = unused_made 0 [] unused_nil
     go false true = unused_made 0 [] unused_nil
-    go false false = logs_made_law next l ok (pending_of l - 1)
+    go false false = logs_made_lem next l ok (pending_of l - 1)
 
 -- a clear's place and log are its own, and so is a timer; all else is the record's
 pub edit_back_ok : (r : Record) (n : ℕ) (t : Tables) (ch : Change) → Sound r n → change_ok t ch ≡ true → change_ok (tables_for (kind_of ch) r) (back_of r ch) ≡ true

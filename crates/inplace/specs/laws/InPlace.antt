@@ -34,9 +34,9 @@ module _ (b : List ℕ) (long : length b ≡ image_length) (h : Head) (read : h 
 
 module _ (call : Session → Left) (d : List ℕ) where
   -- bytes that are no image
-  pub no_image_law : (b : List ℕ) → (length b ≡ image_length → ⊥) → (t : Told) → t ≡ record { answer = 1; small = 0; beside = 0 } → Parts t b d (on_image b d call)
+  pub no_image_lem : (b : List ℕ) → (length b ≡ image_length → ⊥) → (t : Told) → t ≡ record { answer = 1; small = 0; beside = 0 } → Parts t b d (on_image b d call)
   unfolding on_image
-  no_image_law b z t p = parts t b d _ (if_ne _ _ z (λ i. record { told = p i; image = b; reply = d }))
+  no_image_lem b z t p = parts t b d _ (if_ne _ _ z (λ i. record { told = p i; image = b; reply = d }))
 
   -- bytes that are one: the call on the session of the head that was read
   pub on_read : (b : List ℕ) (long : length b ≡ image_length) (h : Head) (read : h ≡ head_in b) → call (session_in h b) ≡ on_image b d call
@@ -44,9 +44,9 @@ module _ (call : Session → Left) (d : List ℕ) where
   on_read b long h read = ap call (as_read b long h read) ∙ else_ne _ _ long refl
 
   -- the image of a session
-  pub on_image_law : (s : Session) → Typed s → on_image (image_of s) d call ≡ call s
+  pub on_image_lem : (s : Session) → Typed s → on_image (image_of s) d call ≡ call s
   unfolding on_image
-  on_image_law s t = sym (else_ne _ _ (length_image s t.session) refl) ∙ ap call (session_image s t)
+  on_image_lem s t = sym (else_ne _ _ (length_image s t.session) refl) ∙ ap call (session_image s t)
 
 -- ---- a change carried out: the lent bytes after it
 

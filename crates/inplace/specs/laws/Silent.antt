@@ -14,7 +14,7 @@ use Rattle.image.specs.Image.{image_of, head_in, session_in}
 use Rattle.layout.specs.Layout.{image_length}
 use Rattle.inplace.specs.declared.Told.{Told}
 use Rattle.inplace.specs.InPlace.{Left, rung_left, on_image}
-use Rattle.inplace.specs.laws.InPlace.{stands, no_image_law, on_read}
+use Rattle.inplace.specs.laws.InPlace.{stands, no_image_lem, on_read}
 
 -- a refusal of a call that rings
 pub rung_refused : (n : ℕ) (s : Session) → rung_left (kept n s []) ≡ record { told = record { answer = n; small = 0; beside = 0 }; image = image_of s; reply = [] }
@@ -37,7 +37,7 @@ module _ (more : Session → Asks) (left : Said → Left) (refused : (n : ℕ) (
   Allows b t y = (t ≡ (on b).told) × (y ≡ (on b).image)
 
   pub other_length : (b : List ℕ) → (length b ≡ image_length → ⊥) → (t : Told) → t ≡ record { answer = 1; small = 0; beside = 0 } → Allows b t b
-  other_length b z t p = let q = no_image_law (λ (s : Session). left (settled s [] (asked s))) [] b z t p in (q.0, q.1.0)
+  other_length b z t p = let q = no_image_lem (λ (s : Session). left (settled s [] (asked s))) [] b z t p in (q.0, q.1.0)
 
   module _ (b : List ℕ) (long : length b ≡ image_length) (h : Head) (read : h ≡ head_in b) (g : Bool) (formed : g ≡ well_formed (session_in h b)) where
     on_bytes : (t : Told) (y : List ℕ) {a : Asks} → a ≡ asked (session_in h b) → Tells (session_in h b) t y a → Allows b t y

@@ -60,24 +60,24 @@ lengths t (SetDeadman deadman) n m = (refl, lit< tt)
 lengths t (SetAreas areas) n m = (refl, lit< tt)
 lengths t (SetTimer timer) n m = (refl, lit< tt)
 
-no_tables_law : (t : Tables) (ch : Change) → t ≡ no_tables → Lengths t ch
-no_tables_law t ch e = lengths t ch (ap (λ (x : Tables). length x.thermal) e) (ap (λ (x : Tables). length x.throttles.sets) e)
+no_tables_lem : (t : Tables) (ch : Change) → t ≡ no_tables → Lengths t ch
+no_tables_lem t ch e = lengths t ch (ap (λ (x : Tables). length x.thermal) e) (ap (λ (x : Tables). length x.throttles.sets) e)
 
 written_lengths : (w : Way) (t : Tables) (ch : Change) → Writable w t ch → Lengths t ch
-written_lengths w t (Clear place log) h = no_tables_law t _ h.1
-written_lengths w t (Unclear place log) h = no_tables_law t _ h.1
-written_lengths w t (SetState state) h = no_tables_law t _ h
-written_lengths w t (SetRole got role) h = no_tables_law t _ h
-written_lengths w t (SetCaps got caps) h = no_tables_law t _ h.1
-written_lengths w t (SetUser user) h = no_tables_law t _ h.1
+written_lengths w t (Clear place log) h = no_tables_lem t _ h.1
+written_lengths w t (Unclear place log) h = no_tables_lem t _ h.1
+written_lengths w t (SetState state) h = no_tables_lem t _ h
+written_lengths w t (SetRole got role) h = no_tables_lem t _ h
+written_lengths w t (SetCaps got caps) h = no_tables_lem t _ h.1
+written_lengths w t (SetUser user) h = no_tables_lem t _ h.1
 written_lengths w t (SetThermal got) h = lengths t _ h.0 (ap (λ (x : Throttles). length x.sets) h.1)
 written_lengths w t (SetThrottles got) h = lengths t _ (ap length h.2) h.1
-written_lengths w t (Reset log) h = no_tables_law t _ h.1
-written_lengths w t (Unreset state made) h = no_tables_law t _ h.1
-written_lengths w t (SetMask mask) h = no_tables_law t _ h.1
-written_lengths w t (SetDeadman deadman) h = no_tables_law t _ h.1
-written_lengths w t (SetAreas areas) h = no_tables_law t _ h.2
-written_lengths w t (SetTimer timer) h = no_tables_law t _ h.1
+written_lengths w t (Reset log) h = no_tables_lem t _ h.1
+written_lengths w t (Unreset state made) h = no_tables_lem t _ h.1
+written_lengths w t (SetMask mask) h = no_tables_lem t _ h.1
+written_lengths w t (SetDeadman deadman) h = no_tables_lem t _ h.1
+written_lengths w t (SetAreas areas) h = no_tables_lem t _ h.2
+written_lengths w t (SetTimer timer) h = no_tables_lem t _ h.1
 
 pub length_body : (w : Way) (t : Tables) (ch : Change) → Writable w t ch → length (body_of t ch) ≡ body_len (kind_of ch)
 length_body w t ch h = (written_lengths w t ch h).0

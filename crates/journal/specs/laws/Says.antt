@@ -67,16 +67,16 @@ abbrev pub Whole : Way → List ℕ → Found → Type 0
 Whole w e (Good ch) = (length e ≡ body_len (kind_of ch) + 1) × Holds w ch
 Whole w e Bad = Unit {0}
 
-whole_by_law : (w : Way) (e : List ℕ) (k : ℕ) (f : Found) → length e ≡ body_len k + 1 → Says w k f → Whole w e f
-whole_by_law w e k (Good ch) n s = (n ∙ ap (λ (i : ℕ). body_len i + 1) (sym s.0), s.1)
-whole_by_law w e k Bad n s = tt
+whole_by_lem : (w : Way) (e : List ℕ) (k : ℕ) (f : Found) → length e ≡ body_len k + 1 → Says w k f → Whole w e f
+whole_by_lem w e k (Good ch) n s = (n ∙ ap (λ (i : ℕ). body_len i + 1) (sym s.0), s.1)
+whole_by_lem w e k Bad n s = tt
 
 pub got_whole : (w : Way) (e : List ℕ) → Whole w e (got_of w e).found
 unfolding got_of got_for bad_got
 got_whole w e =
     cond_cases (λ (g : Got). Whole w e g.found) (eqb (length e) 0) (λ t. tt)
     (λ some. cond_cases (λ (g : Got). Whole w e g.found) (not (eqb (length e - 1) (body_len (get_or e 0 0)))) (λ t. tt)
-    (λ fits. whole_by_law w e (get_or e 0 0) (found_for w (get_or e 0 0) (drop 1 e)) (one_more (length e) _ (eqb-false (length e) 0 some) (eqb-true _ _ (not-false _ fits))) (found_says w (get_or e 0 0) (drop 1 e))))
+    (λ fits. whole_by_lem w e (get_or e 0 0) (found_for w (get_or e 0 0) (drop 1 e)) (one_more (length e) _ (eqb-false (length e) 0 some) (eqb-true _ _ (not-false _ fits))) (found_says w (get_or e 0 0) (drop 1 e))))
   where
     one_more : (n m : ℕ) → (n ≡ 0 → ⊥) → n - 1 ≡ m → n ≡ m + 1
     one_more n m z e = omega (arith, z, e)

@@ -36,6 +36,6 @@ module _ (way : Way) (e : Edit) (w : Writable way e.tables e.change) where
       ∙ body_says
 
   -- its values pass, if the change's do
-  pub entry_ok_law : edit_ok e ≡ true → entry_ok way (entry_for e) ≡ true
+  pub entry_ok_lem : edit_ok e ≡ true → entry_ok way (entry_for e) ≡ true
   unfolding entry_ok entry_for edit_ok values_ok got_ok
-  entry_ok_law ok = ap got_ok body_says ∙ ok
+  entry_ok_lem ok = ap got_ok body_says ∙ ok

@@ -47,9 +47,9 @@ made_by_used : (x : Log) → Used x → made_by x ≡ 1
 unfolding made_by
 made_by_used x u = sym (else_eq _ _ u refl)
 
-pub next_ok_law : (n : ℕ) → 1 ≤ n → n ≤ 256 → next_ok n ≡ true
+pub next_ok_lem : (n : ℕ) → 1 ≤ n → n ≤ 256 → next_ok n ≡ true
 unfolding next_ok
-next_ok_law n low high = sym (else_lt _ _ low (sym (le-leb n 256 high)))
+next_ok_lem n low high = sym (else_lt _ _ low (sym (le-leb n 256 high)))
 
 -- ---- each change
 
@@ -122,7 +122,7 @@ module _ (r : Record) (n : ℕ) (s : Sound r n) (y : TypedRecord r) where
     unfolding made_of put_with back_of with_logs with_state state_ok
     reset_lands =
         let state : state_ok 1 ≡ true = refl in
-        let next : next_ok (n + made_by x) ≡ true = next_ok_law (n + made_by x) (omega arith) (omega (arith, made_by_used x used)) in
+        let next : next_ok (n + made_by x) ≡ true = next_ok_lem (n + made_by x) (omega arith) (omega (arith, made_by_used x used)) in
         subst (Landing r n (Reset x)) (sym (reset_puts r x used new.room))
         (landed _ (search (s, state, next, more_ok)) (search (y, into)) reset_back reset_again)
 

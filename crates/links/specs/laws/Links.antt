@@ -27,8 +27,8 @@ use Rattle.session.specs.Session.{made_of}
 use Rattle.links.specs.Typed.{TypedRecord}
 use Rattle.wire.specs.laws.Chains.{passed}
 use Rattle.links.specs.laws.Made.{NewLog, Made}
-use Rattle.links.specs.laws.Landing.{next_ok_law, lands}
-use Rattle.links.specs.laws.Entry.{entry_got, entry_ok_law}
+use Rattle.links.specs.laws.Landing.{next_ok_lem, lands}
+use Rattle.links.specs.laws.Entry.{entry_got, entry_ok_lem}
 
 -- ---- a higher next id keeps a record well formed
 
@@ -39,33 +39,33 @@ next_low n h = ltb-false n 1 (passed (ltb n 1) (leb n 256) h).0
 pub next_up : (r : Record) (n m : ℕ) → record_ok r n ≡ true → n ≤ m → m ≤ 256 → record_ok r m ≡ true
 next_up r n m ok up high =
     let s = sound ok in
-    let next : next_ok m ≡ true = next_ok_law m (omega (arith, next_low n s.next)) high in
+    let next : next_ok m ≡ true = next_ok_lem m (omega (arith, next_low n s.next)) high in
     let logs : logs_ok m r.logs ≡ true = logs_next_up n r.logs s.logs m up in
     sound_ok (search (s, next, logs))
 
 -- ---- the change and what takes it back
 
-log_ok_law : (r : Record) (n : ℕ) (x : Log) → NewLog r n x → made_ok x ≡ true
+log_ok_lem : (r : Record) (n : ℕ) (x : Log) → NewLog r n x → made_ok x ≡ true
 unfolding made_ok
-log_ok_law r n x new = sym (else_eq _ _ {m = x.id} {n = 0} (λ z. omega arith) (sym new.reason))
+log_ok_lem r n x new = sym (else_eq _ _ {m = x.id} {n = 0} (λ z. omega arith) (sym new.reason))
 
 -- the values of a change that is made pass
-made_ok_law : (r : Record) (n : ℕ) (t : Tables) (ch : Change) → Sound r n → Made r n t ch → change_ok t ch ≡ true
+made_ok_lem : (r : Record) (n : ℕ) (t : Tables) (ch : Change) → Sound r n → Made r n t ch → change_ok t ch ≡ true
 unfolding change_ok made_ok
-made_ok_law r n t (Clear place log) s m = pends_cleared n r.logs s.logs place log m.0
-made_ok_law r n t (Unclear place log) s m = absurd m
-made_ok_law r n t (SetState state) s m = m.ok
-made_ok_law r n t (SetRole got role) s m = m.ok
-made_ok_law r n t (SetCaps got caps) s m = m.ok
-made_ok_law r n t (SetUser user) s m = m.ok
-made_ok_law r n t (SetThermal got) s m = m.ok
-made_ok_law r n t (SetThrottles got) s m = m.ok
-made_ok_law r n t (Reset log) s m = ⊎_elim (λ e. subst (λ (x : Log). made_ok x ≡ true) (sym e) refl) (log_ok_law r n log) m.0
-made_ok_law r n t (Unreset state made) s m = absurd m
-made_ok_law r n t (SetMask mask) s m = m.ok
-made_ok_law r n t (SetDeadman deadman) s m = m.ok
-made_ok_law r n t (SetAreas areas) s m = m.ok
-made_ok_law r n t (SetTimer timer) s m = m.ok
+made_ok_lem r n t (Clear place log) s m = pends_cleared n r.logs s.logs place log m.0
+made_ok_lem r n t (Unclear place log) s m = absurd m
+made_ok_lem r n t (SetState state) s m = m.ok
+made_ok_lem r n t (SetRole got role) s m = m.ok
+made_ok_lem r n t (SetCaps got caps) s m = m.ok
+made_ok_lem r n t (SetUser user) s m = m.ok
+made_ok_lem r n t (SetThermal got) s m = m.ok
+made_ok_lem r n t (SetThrottles got) s m = m.ok
+made_ok_lem r n t (Reset log) s m = ⊎_elim (λ e. subst (λ (x : Log). made_ok x ≡ true) (sym e) refl) (log_ok_lem r n log) m.0
+made_ok_lem r n t (Unreset state made) s m = absurd m
+made_ok_lem r n t (SetMask mask) s m = m.ok
+made_ok_lem r n t (SetDeadman deadman) s m = m.ok
+made_ok_lem r n t (SetAreas areas) s m = m.ok
+made_ok_lem r n t (SetTimer timer) s m = m.ok
 
 -- what takes a change back goes into the other store, and has the widths of the record's fields and of the timer's
 pub writable_back : (w : Way) (r : Record) (timer : Timer) (ch : Change) → TypedRecord r → timer.left < 256 ^ 8 → Holds w ch
@@ -176,7 +176,7 @@ link r n e ok y m =
     let back : Writable Before (inverse_of r e).tables (inverse_of r e).change =
     subst (Writable Before (inverse_of r e).tables) (own_timer r e.change)
     (writable_back After r (timer_after timer_off e.change) e.change y (own_fits After e.tables e.change here) (holds_made After e.tables e.change here)) in
-    let ok-here : edit_ok e ≡ true = made_ok_law r n e.tables e.change s m in
+    let ok-here : edit_ok e ≡ true = made_ok_lem r n e.tables e.change s m in
     let good : edit_ok (inverse_of r e) ≡ true = inverse_ok r n e s ok-here in
     let kind = kind_of_back r e.change in
     let tables = ap (λ (k : ℕ). tables_for k (put_of r e).after) kind ∙ tables_again r n e.tables e.change m in
@@ -189,8 +189,8 @@ link r n e ok y m =
       put_back = l.back;
       again = λ i. record { change = l.again i; tables = tables i };
       kind_back = kind;
-      entry_good = entry_ok_law Before (inverse_of r e) back good;
+      entry_good = entry_ok_lem Before (inverse_of r e) back good;
       entry_reads = entry_got Before (inverse_of r e) back;
-      redo_good = entry_ok_law After e here ok-here;
+      redo_good = entry_ok_lem After e here ok-here;
       redo_reads = entry_got After e here;
     }

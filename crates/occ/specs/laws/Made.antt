@@ -239,9 +239,9 @@ module _ (r : Record) (w : Worked) (next sender kind : ℕ) (d : List ℕ) (ok :
       subst (λ (v : Verdict). Makes (Right r next (judge_of r w next sender kind d).tables) v) e (judge_right r next (sound ok) four w sender kind d)
 
   -- a change that a command makes has values that a well-formed record could hold
-  pub made_ok_law : (ch : Change) → (judge_of r w next sender kind d).verdict ≡ Make ch → change_ok (judge_of r w next sender kind d).tables ch ≡ true
+  pub made_ok_lem : (ch : Change) → (judge_of r w next sender kind d).verdict ≡ Make ch → change_ok (judge_of r w next sender kind d).tables ch ≡ true
   unfolding Right
-  made_ok_law ch e = (made_right ch e).0
+  made_ok_lem ch e = (made_right ch e).0
 
   -- "an id not pending is 0x13": a log that is cleared pends, that very log, at its place
   pub clear_pends : (place : ℕ) (log : Log) → (judge_of r w next sender kind d).verdict ≡ Make (Clear place log) → pends_at place log r.logs ≡ true

@@ -166,13 +166,13 @@ read_rows : {ok : Bool} {rule : Type 0} (ch : Change) (t : Tables) → (ok ≡ t
     → ByTable Declines (cond (not ok) (plainly (Refuse 0x13)) (record { verdict = Make ch; tables = t })) (row 0x13 (rule → ⊥) none)
 read_rows ch t p = by_rows Declines (fails (not_passes p)) (plain (refuses 0x13)) (made ch t)
 
-throttles_rows_law : (d : List ℕ) → ByTable Declines (throttles_judged d) (SetsStatus 12 d (SetsOk (get_or d 2 0) (drop 3 d)))
+throttles_rows_lem : (d : List ℕ) → ByTable Declines (throttles_judged d) (SetsStatus 12 d (SetsOk (get_or d 2 0) (drop 3 d)))
 unfolding throttles_judged throttles_for sets_judged SetsStatus
-throttles_rows_law d = record { exactly = (count_rows _ (read_rows _ _ (sets_exactly (get_or d 2 0) (drop 3 d))) 12 d).exactly }
+throttles_rows_lem d = record { exactly = (count_rows _ (read_rows _ _ (sets_exactly (get_or d 2 0) (drop 3 d))) 12 d).exactly }
 
-thermal_rows_law : (d : List ℕ) → ByTable Declines (thermal_judged d) (SetsStatus 4 d (FrusOk (get_or d 2 0) (drop 3 d)))
+thermal_rows_lem : (d : List ℕ) → ByTable Declines (thermal_judged d) (SetsStatus 4 d (FrusOk (get_or d 2 0) (drop 3 d)))
 unfolding thermal_judged thermal_for frus_judged SetsStatus
-thermal_rows_law d = record { exactly = (count_rows _ (read_rows _ _ (frus_exactly (get_or d 2 0) (drop 3 d))) 4 d).exactly }
+thermal_rows_lem d = record { exactly = (count_rows _ (read_rows _ _ (frus_exactly (get_or d 2 0) (drop 3 d))) 4 d).exactly }
 
 -- ---- configuration, and every command
 
@@ -182,8 +182,8 @@ configure_rows state role d =
     by_rows Declines (eq_holds _ _) (plain (refuses 0x12))
     (by_rows Declines (eq_holds _ _) (plain (role_rows state d))
     (by_rows Declines (eq_holds _ _) (plain (caps_rows role d))
-    (by_rows Declines (eq_holds _ _) (throttles_rows_law d)
-    (by_rows Declines (eq_holds _ _) (thermal_rows_law d) (plain (refuses 0x13))))))
+    (by_rows Declines (eq_holds _ _) (throttles_rows_lem d)
+    (by_rows Declines (eq_holds _ _) (thermal_rows_lem d) (plain (refuses 0x13))))))
 
 barred_exactly : (sender kind : ℕ) → (not (open_to sender kind) ≡ true) ↔ ((sender ≡ 0x20) and (kind ≡ 0x00 → ⊥) and (kind ≡ 0x22 → ⊥))
 barred_exactly sender kind =

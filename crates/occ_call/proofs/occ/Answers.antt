@@ -1,10 +1,10 @@
 use native.Mathlib.Omega.{arith}
 use Rattle.inplace.specs.laws.InPlace.{stands}
-use Rattle.occ_call.proofs.Answering.{no_image_law, met_in, refused_in, heard_in}
+use Rattle.occ_call.proofs.Answering.{no_image_lem, met_in, refused_in, heard_in}
 use Rattle.occ_call.proofs.occ.Goals as goal
 
 pub returns-then-lent-ne-IMAGE : goal.returns-then-lent-ne-IMAGE
-returns-then-lent-ne-IMAGE c = no_image_law c.args.lent.now c.if-lent-ne-IMAGE.true _ _ _ _ c.answer_with.ensures
+returns-then-lent-ne-IMAGE c = no_image_lem c.args.lent.now c.if-lent-ne-IMAGE.true _ _ _ _ c.answer_with.ensures
 
 pub read_head-h-requires : goal.read_head-h-requires
 read_head-h-requires c = omega (arith, c.if-lent-ne-IMAGE.false)

@@ -24,9 +24,9 @@ eq_or_not m n = go (eqb m n) refl
 module _ (c : List ℕ) where
   -- ---- from the row to the status
 
-  too_long_law : 4090 < data_length c → packet_status c ≡ 0x12
+  too_long_lem : 4090 < data_length c → packet_status c ≡ 0x12
   unfolding packet_status status_at
-  too_long_law h = sym (if_lt _ _ h refl)
+  too_long_lem h = sym (if_lt _ _ h refl)
 
   cut_off : data_length c ≤ 4090 → length c < data_length c + 6 → packet_status c ≡ 0x12
   unfolding packet_status status_at
@@ -43,8 +43,8 @@ module _ (c : List ℕ) where
   -- ---- every packet is in one of the three rows
 
   pub status_overlong : Overlong c → packet_status c ≡ 0x12
-  status_overlong (inl h) = too_long_law h
-  status_overlong (inr k) = ⊎_elim too_long_law (λ h. cut_off h k) (lt_or_le 4090 (data_length c))
+  status_overlong (inl h) = too_long_lem h
+  status_overlong (inr k) = ⊎_elim too_long_lem (λ h. cut_off h k) (lt_or_le 4090 (data_length c))
 
   fits_or_not : Overlong c ⊎ Fits c
   fits_or_not = ⊎_elim (λ h. inl (inl h)) (λ h. ⊎_elim (λ k. inl (inr k)) (λ k. inr (h, k)) (lt_or_le (length c) (data_length c + 6))) (lt_or_le 4090 (data_length c))

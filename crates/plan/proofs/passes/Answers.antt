@@ -1,10 +1,10 @@
-use Rattle.plan.proofs.Searching.{too_long_law, no_order, order_of_five, an_order}
+use Rattle.plan.proofs.Searching.{too_long_lem, no_order, order_of_five, an_order}
 use Rattle.plan.specs.Plan.{packets_in}
 use native.Mathlib.Omega.{arith}
 use Rattle.plan.proofs.passes.Goals as goal
 
 pub returns-then-order-gt5 : goal.returns-then-order-gt5
-returns-then-order-gt5 c = too_long_law _ _ _ _ c.if-order-gt5.true
+returns-then-order-gt5 c = too_long_lem _ _ _ _ c.if-order-gt5.true
 
 pub overflow_cast-count : goal.overflow_cast-count
 unfolding packets_in

@@ -1,4 +1,4 @@
-use Rattle.plan.proofs.Calling.{no_image_plan, refused_plan, few_enough, no_room_law, ids_left, numbered, the_least}
+use Rattle.plan.proofs.Calling.{no_image_plan, refused_plan, few_enough, no_room_lem, ids_left, numbered, the_least}
 use native.Mathlib.Omega.{arith}
 use Rattle.plan.proofs.plan.Goals as goal
 
@@ -15,7 +15,7 @@ pub returns-then-n-ne0 : goal.returns-then-n-ne0
 returns-then-n-ne0 c = refused_plan _ _ _ c.if-lent-ne-IMAGE.false _ c.read_head-h.ensures.value _ c.well_formed-2.ensures _ c.refusal-n.ensures c.if-n-ne0.true _ _ c.answer_with-then-n-ne0.ensures
 
 pub returns-then-order-lt5 : goal.returns-then-order-lt5
-returns-then-order-lt5 c = no_room_law _ _ _ c.if-lent-ne-IMAGE.false _ c.read_head-h.ensures.value _ c.well_formed-2.ensures _ c.refusal-n.ensures c.if-n-ne0.false _ c.if-order-lt5.true _ c.answer_with-then-order-lt5.ensures
+returns-then-order-lt5 c = no_room_lem _ _ _ c.if-lent-ne-IMAGE.false _ c.read_head-h.ensures.value _ c.well_formed-2.ensures _ c.refusal-n.ensures c.if-n-ne0.false _ c.if-order-lt5.true _ c.answer_with-then-order-lt5.ensures
 
 pub search-requires : goal.search-requires
 search-requires c = (ids_left _ _ _ c.if-lent-ne-IMAGE.false _ c.read_head-h.ensures.value _ c.well_formed-2.ensures _ c.refusal-n.ensures c.if-n-ne0.false _ c.start_of-start.ensures, few_enough _ _ _ c.if-lent-ne-IMAGE.false _ c.read_head-h.ensures.value _ c.well_formed-2.ensures _ c.refusal-n.ensures c.if-n-ne0.false)

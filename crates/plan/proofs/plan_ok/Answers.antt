@@ -1,9 +1,9 @@
-use Rattle.plan.proofs.Calling.{no_image_law, refused, few_enough, ids_left, not_accepted, accepted}
+use Rattle.plan.proofs.Calling.{no_image_lem, refused, few_enough, ids_left, not_accepted, accepted}
 use native.Mathlib.Omega.{arith}
 use Rattle.plan.proofs.plan_ok.Goals as goal
 
 pub returns-then-lent-ne-IMAGE : goal.returns-then-lent-ne-IMAGE
-returns-then-lent-ne-IMAGE c = no_image_law _ _ _ c.if-lent-ne-IMAGE.true _ _ c.answer_with.ensures
+returns-then-lent-ne-IMAGE c = no_image_lem _ _ _ c.if-lent-ne-IMAGE.true _ _ c.answer_with.ensures
 
 pub read_head-h-requires : goal.read_head-h-requires
 read_head-h-requires c = omega (arith, c.if-lent-ne-IMAGE.false)

@@ -1,4 +1,4 @@
-use Rattle.plan.proofs.Orders.{zero_goes, digit_stays, none_left_law}
+use Rattle.plan.proofs.Orders.{zero_goes, digit_stays, none_left_lem}
 use mathlib.Core.Path.{◌∙◌, refl}
 use native.Mathlib.Omega.{arith}
 use borrow.Author.Rules.{rules}
@@ -14,4 +14,4 @@ pub loop-i-preserved : goal.loop-i-preserved
 loop-i-preserved c = (omega (arith, c.loop-i-test.true), c.loop-i.invariant.1, zero_goes _ _ c.loop-i.invariant.1 c.loop-i-test.true c.if-digits-i-ne0.false ∙ c.loop-i.invariant.2)
 
 pub returns : goal.returns
-returns c = (c.loop-i.invariant.0, none_left_law _ _ c.loop-i.invariant.1 c.loop-i-test.false ∙ c.loop-i.invariant.2)
+returns c = (c.loop-i.invariant.0, none_left_lem _ _ c.loop-i.invariant.1 c.loop-i-test.false ∙ c.loop-i.invariant.2)

@@ -47,7 +47,7 @@ use Rattle.promises.specs.laws.UndoDemands.{Called, ill_formed, empty, barred, g
 use Rattle.promises.specs.laws.Marks.{tail}
 use Rattle.promises.specs.laws.Demand3.{redoable, Inv, next_inv, formed, held_is, next_is, worked_is, journal_is, used_is}
 use Rattle.promises.specs.laws.Clocks.{clock_is}
-use Rattle.promises.specs.laws.Aside.{NotRedo, not_redo, left_after, time_after, made_after, left_after_law, time_after_law, made_after_law}
+use Rattle.promises.specs.laws.Aside.{NotRedo, not_redo, left_after, time_after, made_after, left_after_lem, time_after_lem, made_after_lem}
 use Rattle.promises.specs.laws.Shifted.{shifted_edit, kind_shifted, shifted_timed, after_shifted, applied_shifted, logs_shifted}
 use Rattle.promises.specs.Shifted.{shifted_record}
 use Rattle.promises.specs.laws.Heard.{shifted_deed, AlikeAsks, both_refuse, both_move, heard}
@@ -316,10 +316,10 @@ module _ (base : Record) (first : ℕ) (k : ℕ) (low : 1 ≤ k) where
       let here = not_redo p.session c (wish_not c c' same).0 in
       let there = not_redo q.session c' (wish_not c c' same).1 in
       let now = p.session.timer in
-      let made = made_after_law now p.undos p.marks (deed p.session c) here in
+      let made = made_after_lem now p.undos p.marks (deed p.session c) here in
       let none = wish_drops p.session c c' same in
       let v = next_inv base first p b.inv c bytes in
-      let left_here = left_after_law now p.undos p.marks (deed p.session c) here in
+      let left_here = left_after_lem now p.undos p.marks (deed p.session c) here in
       let gone-here = none_gone p.gone (deed p.session c) none in
       let low' : p.gone ≤ length (left_after now (left p.marks) (deed p.session c)) = omega (arith, v.low, gone-here, ap length left_here) in
       let on = goes_on now p.gone (left p.marks) (deed p.session c) here none b.inv.low low' in
@@ -329,31 +329,31 @@ module _ (base : Record) (first : ℕ) (k : ℕ) (low : 1 ≤ k) where
         inv' = next_inv base first q b.inv' c' bytes';
         still = ap (shifted_record k) start-stays ∙ b.still ∙ sym start-stays;
         left_is =
-            left_after_law q.session.timer q.undos q.marks (deed q.session c') there
+            left_after_lem q.session.timer q.undos q.marks (deed q.session c') there
             ∙ (λ i. left_after (b.timer_is i) (b.left_is i) (d i))
             ∙ on.0
             ∙ sym (λ i. there_left (gone-here i) (left_here i));
         gone_is = ap₂ gone_after b.gone_is d ∙ gone_shifted p.gone (deed p.session c);
         made_is =
-            made_after_law q.session.timer q.undos q.marks (deed q.session c') there
+            made_after_lem q.session.timer q.undos q.marks (deed q.session c') there
             ∙ ap₂ made_after b.made_is d
             ∙ made_shifted (logs_made p.marks) (deed p.session c)
             ∙ ap suc (sym made);
         timer_is =
-            clock_is base first q b.inv' c' bytes' ∙ time_after_law q (deed q.session c') there ∙ (λ i. time_after (b.timer_is i) (b.left_is i) (d i)) ∙ on.2
-            ∙ sym (clock_is base first p b.inv c bytes ∙ time_after_law p (deed p.session c) here);
+            clock_is base first q b.inv' c' bytes' ∙ time_after_lem q (deed q.session c') there ∙ (λ i. time_after (b.timer_is i) (b.left_is i) (d i)) ∙ on.2
+            ∙ sym (clock_is base first p b.inv c bytes ∙ time_after_lem p (deed p.session c) here);
         full = profile_stays p.session c ∙ b.full;
         full' = profile_stays q.session c' ∙ b.full';
         from_k = omega (arith, b.from_k, made_grows (logs_made p.marks) (deed p.session c), made);
       }
 
-  same_second_law : (p q : Run) → Beside p q → {c c' : Call} → SameWish k c c' → second_of q.session c' ≡ second_of p.session c
+  same_second_lem : (p q : Run) → Beside p q → {c c' : Call} → SameWish k c c' → second_of q.session c' ≡ second_of p.session c
   unfolding second_of
-  same_second_law p q b (occ_same sender c d low) = refl
-  same_second_law p q b (occ_clears sender c c' d w) = refl
-  same_second_law p q b (sbe_same r d m x) = second_same p.session q.session (formed base first p b.inv) (formed base first q b.inv') (sbe r d m x)
-  same_second_law p q b undo_same = refl
-  same_second_law p q b (time_same n) = refl
+  same_second_lem p q b (occ_same sender c d low) = refl
+  same_second_lem p q b (occ_clears sender c c' d w) = refl
+  same_second_lem p q b (sbe_same r d m x) = second_same p.session q.session (formed base first p b.inv) (formed base first q b.inv') (sbe r d m x)
+  same_second_lem p q b undo_same = refl
+  same_second_lem p q b (time_same n) = refl
 
   pub as_if : (ws : List (Wish k)) (p q : Run) → Beside p q → AsIf k p.session q.session ws
   unfolding next_run did
@@ -362,5 +362,5 @@ module _ (base : Record) (first : ℕ) (k : ℕ) (low : 1 ≤ k) where
       ⊎_elim inl
       (λ h.
       let after = next_beside p q b w.here w.there w.same w.bytes w.bytes' h.1 in
-      inr (h.0, h.2, same_second_law p q b w.same, twins (next_run p w.here) (next_run q w.there) after, as_if ws (next_run p w.here) (next_run q w.there) after))
+      inr (h.0, h.2, same_second_lem p q b w.same, twins (next_run p w.here) (next_run q w.there) after, as_if ws (next_run p w.here) (next_run q w.there) after))
       (both_hear p q b w.here w.there w.same w.bytes)

@@ -28,7 +28,7 @@ use Rattle.inplace.specs.declared.Told.{Told}
 use Rattle.undo_call.specs.Undo.{move_asks, passed_by}
 use Rattle.forget_call.specs.Forget.{oldest_asks, forget_asks}
 use Rattle.time_call.specs.Time.{time_asks}
-use Rattle.promises.specs.laws.Forgetting.{forget_asks_law}
+use Rattle.promises.specs.laws.Forgetting.{forget_asks_lem}
 use Rattle.promises.specs.Calls.{Call, occ, sbe, undo, redo, forget, time, buffer_of, asks, said}
 use Rattle.promises.specs.laws.Served.{second_same}
 use Rattle.promises.specs.Marks.{Mark, left, logs_made}
@@ -113,14 +113,14 @@ time_after t es unstrikes = t
 time_after t es (drops n) = t
 time_after t es (ticks n) = ticked n t
 
-pub time_after_law : (p : Run) (d : Deed) → NotRedo d → clock_after p d ≡ time_after p.session.timer (left p.marks) d
+pub time_after_lem : (p : Run) (d : Deed) → NotRedo d → clock_after p d ≡ time_after p.session.timer (left p.marks) d
 unfolding clock_after time_after
-time_after_law p keeps h = refl
-time_after_law p (adds e) h = refl
-time_after_law p strikes h = refl
-time_after_law p unstrikes h = absurd h
-time_after_law p (drops n) h = refl
-time_after_law p (ticks n) h = refl
+time_after_lem p keeps h = refl
+time_after_lem p (adds e) h = refl
+time_after_lem p strikes h = refl
+time_after_lem p unstrikes h = absurd h
+time_after_lem p (drops n) h = refl
+time_after_lem p (ticks n) h = refl
 
 unfoldable pub made_after : ℕ → Deed → ℕ
 made_after n keeps = n
@@ -131,23 +131,23 @@ made_after n (drops m) = n
 made_after n (ticks m) = n
 
 module _ (t : Timer) (undos : ℕ) (ms : List Mark) where
-  pub left_after_law : (d : Deed) → NotRedo d → left (marked t undos ms d) ≡ left_after t (left ms) d
+  pub left_after_lem : (d : Deed) → NotRedo d → left (marked t undos ms d) ≡ left_after t (left ms) d
   unfolding marked left_after
-  left_after_law keeps h = refl
-  left_after_law (adds e) h = left_change (timed t e) ms
-  left_after_law strikes h = left_strike t (suc undos) (omega arith) ms
-  left_after_law unstrikes h = absurd h
-  left_after_law (drops n) h = refl
-  left_after_law (ticks n) h = refl
+  left_after_lem keeps h = refl
+  left_after_lem (adds e) h = left_change (timed t e) ms
+  left_after_lem strikes h = left_strike t (suc undos) (omega arith) ms
+  left_after_lem unstrikes h = absurd h
+  left_after_lem (drops n) h = refl
+  left_after_lem (ticks n) h = refl
 
-  pub made_after_law : (d : Deed) → NotRedo d → logs_made (marked t undos ms d) ≡ made_after (logs_made ms) d
+  pub made_after_lem : (d : Deed) → NotRedo d → logs_made (marked t undos ms d) ≡ made_after (logs_made ms) d
   unfolding marked made_after
-  made_after_law keeps h = refl
-  made_after_law (adds e) h = logs_more t e ms
-  made_after_law strikes h = logs_strike t (suc undos) ms
-  made_after_law unstrikes h = absurd h
-  made_after_law (drops n) h = refl
-  made_after_law (ticks n) h = refl
+  made_after_lem keeps h = refl
+  made_after_lem (adds e) h = logs_more t e ms
+  made_after_lem strikes h = logs_strike t (suc undos) ms
+  made_after_lem unstrikes h = absurd h
+  made_after_lem (drops n) h = refl
+  made_after_lem (ticks n) h = refl
 
 -- ---- two runs with the same changes left, as many logs made and one timer: any calls but redo
 
@@ -222,8 +222,8 @@ module _ (base : Record) (first : ℕ) where
         ap (move_asks Before) there_is ∙ undo_same from p.session q.session b.inv.clock b.inv'.clock es next (redoable base first p) (redoable base first q) b.inv.sane sane' ∙ ap (move_asks Before) (sym b.inv.is)
     same_asks redo h = absurd h
     same_asks (forget n) h =
-        ap (forget_asks n) there_is ∙ forget_asks_law from q.session b.inv'.clock es next (redoable base first q) sane' n
-        ∙ sym (ap (forget_asks n) b.inv.is ∙ forget_asks_law from p.session b.inv.clock es next (redoable base first p) b.inv.sane n)
+        ap (forget_asks n) there_is ∙ forget_asks_lem from q.session b.inv'.clock es next (redoable base first q) sane' n
+        ∙ sym (ap (forget_asks n) b.inv.is ∙ forget_asks_lem from p.session b.inv.clock es next (redoable base first p) b.inv.sane n)
     same_asks (time n) h = λ i. cond (not (formed_same i)) (refuses 1) (passes n)
 
     aside_said : (c : Call) → ButRedo c → SameSaid (said p.session c) (said q.session c) × (deed q.session c ≡ deed p.session c)
@@ -264,15 +264,15 @@ module _ (base : Record) (first : ℕ) where
           inv = next_inv base first p b.inv c bytes;
           inv' = next_inv base first q b.inv' c bytes;
           left_is =
-              left_after_law q.session.timer q.undos q.marks (deed q.session c) there ∙ (λ i. left_after (b.timer_is i) (b.left_is i) (d i))
-              ∙ sym (left_after_law p.session.timer p.undos p.marks (deed p.session c) here);
+              left_after_lem q.session.timer q.undos q.marks (deed q.session c) there ∙ (λ i. left_after (b.timer_is i) (b.left_is i) (d i))
+              ∙ sym (left_after_lem p.session.timer p.undos p.marks (deed p.session c) here);
           made_is =
-              made_after_law q.session.timer q.undos q.marks (deed q.session c) there ∙ ap₂ made_after b.made_is d
-              ∙ sym (made_after_law p.session.timer p.undos p.marks (deed p.session c) here);
+              made_after_lem q.session.timer q.undos q.marks (deed q.session c) there ∙ ap₂ made_after b.made_is d
+              ∙ sym (made_after_lem p.session.timer p.undos p.marks (deed p.session c) here);
           gone_is = ap₂ gone_after b.gone_is d;
           timer_is =
-              clock_is base first q b.inv' c bytes ∙ time_after_law q (deed q.session c) there ∙ (λ i. time_after (b.timer_is i) (b.left_is i) (d i))
-              ∙ sym (clock_is base first p b.inv c bytes ∙ time_after_law p (deed p.session c) here);
+              clock_is base first q b.inv' c bytes ∙ time_after_lem q (deed q.session c) there ∙ (λ i. time_after (b.timer_is i) (b.left_is i) (d i))
+              ∙ sym (clock_is base first p b.inv c bytes ∙ time_after_lem p (deed p.session c) here);
           profile_is = profile_stays q.session c ∙ b.profile_is ∙ sym (profile_stays p.session c);
         }
 

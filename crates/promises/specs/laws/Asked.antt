@@ -29,12 +29,12 @@ use Rattle.sets.specs.laws.Sets.{sets_formed, frus_formed}
 use Rattle.occ.specs.Commands.{poll_verdict, clear_at, clear_verdict, state_fits, not_ready, state_verdict, role_verdict, caps_for, sent_caps, caps_verdict, user_allowed, user_for, user_verdict, log_due, reset_for, reset_verdict}
 use Rattle.occ.specs.Judge.{plainly, sets_status, sets_judged, throttles_for, throttles_judged, frus_judged, thermal_for, thermal_judged, format_judged, configure_judged, type_judged, judge_of}
 use Rattle.occ.specs.Open.{open_to}
-use Rattle.occ.specs.laws.Made.{Drawn, made_ok_law, clear_pends, reset_drawn}
+use Rattle.occ.specs.laws.Made.{Drawn, made_ok_lem, clear_pends, reset_drawn}
 use Rattle.occ.specs.declared.Verdict.{Verdict}
 use Rattle.occ.specs.declared.Verdict.TheVariants.{Refuse, Poll, Make}
 use Rattle.occ.specs.declared.Judged.{Judged}
 use Rattle.sbe.specs.Mailbox as mailbox
-use Rattle.sbe.specs.laws.Made.{change_ok_law, change_fits}
+use Rattle.sbe.specs.laws.Made.{change_ok_lem, change_fits}
 use Rattle.sbe.specs.declared.Ruling.TheVariants.{Grant}
 use Rattle.links.specs.Typed.{TypedRecord}
 use Rattle.links.specs.laws.Made.{NewLog, Values, Made}
@@ -191,9 +191,9 @@ pub next_some : (r : Record) (n : ℕ) → record_ok r n ≡ true → 1 ≤ n
 unfolding next_ok
 next_some r n ok = ltb-false n 1 (passed (ltb n 1) _ (sound ok).next).0
 
-reason_ok_law : (reason : ℕ) → (reason ≡ 1) ⊎ (reason ≡ 2) → reason_ok reason ≡ true
+reason_ok_lem : (reason : ℕ) → (reason ≡ 1) ⊎ (reason ≡ 2) → reason_ok reason ≡ true
 unfolding reason_ok
-reason_ok_law reason = ⊎_elim (λ e. sym (if_eq _ _ e refl)) (λ e. cond_elim (λ (b : Bool). b ≡ true) (eqb reason 1) refl (eq-eqb reason 2 e))
+reason_ok_lem reason = ⊎_elim (λ e. sym (if_eq _ _ e refl)) (λ e. cond_elim (λ (b : Bool). b ≡ true) (eqb reason 1) refl (eq-eqb reason 2 e))
 
 module _ (r : Record) (w : Worked) (next sender kind : ℕ) (d : List ℕ) (bytes : Bytes d) (ok : record_ok r next ≡ true) (typed : TypedRecord r) where
   abbrev j : Judged
@@ -209,10 +209,10 @@ module _ (r : Record) (w : Worked) (next sender kind : ℕ) (d : List ℕ) (byte
   unfolding Drawn
   new_log log e some =
       let dr = reset_drawn r w next sender kind d ok typed.logs log e some in
-      record { id = dr.0; low = next_some r next ok; high = dr.1.0; room = dr.1.1.0; reason = reason_ok_law log.reason dr.1.1.1 }
+      record { id = dr.0; low = next_some r next ok; high = dr.1.0; room = dr.1.1.0; reason = reason_ok_lem log.reason dr.1.1.1 }
 
   values : (ch : Change) → j.verdict ≡ Make ch → Writable After j.tables ch → Values j.tables ch
-  values ch e f = record { ok = made_ok_law r w next sender kind d ok typed.logs ch e; fits = f }
+  values ch e f = record { ok = made_ok_lem r w next sender kind d ok typed.logs ch e; fits = f }
 
   pub occ_made : (ch : Change) → j.verdict ≡ Make ch → Made r next j.tables ch
   occ_made (Clear place log) e = (clear_pends r w next sender kind d ok typed.logs place log e, shape _ e)
@@ -238,7 +238,7 @@ module _ (r : Record) (w : Worked) (next sender kind : ℕ) (d : List ℕ) (byte
 
 module _ (r : Record) (next : ℕ) (q : List ℕ) (bytes : Bytes q) where
   granted : (ch : Change) → mailbox.request_ruling q ≡ Grant ch → Writable After no_tables ch → Values no_tables ch
-  granted ch e f = record { ok = change_ok_law q ch e; fits = f }
+  granted ch e f = record { ok = change_ok_lem q ch e; fits = f }
 
   pub sbe_made : (ch : Change) → mailbox.request_ruling q ≡ Grant ch → Made r next no_tables ch
   sbe_made (Clear place log) e = absurd (change_fits q bytes _ e)

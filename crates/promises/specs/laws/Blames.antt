@@ -27,9 +27,9 @@ module _ (k : ℕ) (low : 1 ≤ k) where
   abbrev f : Log → Log
   f = shifted_log k
 
-  clear_fault_law : (i j : ℕ) (l : List Log) → find_of j (map f l) ≡ find_of i l → clear_fault (map f l) (j ∷ []) ≡ clear_fault l (i ∷ [])
+  clear_fault_lem : (i j : ℕ) (l : List Log) → find_of j (map f l) ≡ find_of i l → clear_fault (map f l) (j ∷ []) ≡ clear_fault l (i ∷ [])
   unfolding clear_fault
-  clear_fault_law i j l e = ap (λ (p : ℕ). cond (leb 4 p) (wrong NotPending 1) Nothing) e
+  clear_fault_lem i j l e = ap (λ (p : ℕ). cond (leb 4 p) (wrong NotPending 1) Nothing) e
 
   old_fault : (l : List Log) (d : List ℕ) → (length d ≡ 1 → get_or d 0 0 < k) → clear_fault (map f l) d ≡ clear_fault l d
   unfolding clear_fault
@@ -46,7 +46,7 @@ module _ (k : ℕ) (low : 1 ≤ k) where
 
     pub clears_fault : (i : ℕ) → fault_of (shifted_record k r) 0x12 (shifted k i ∷ []) ≡ fault_of r 0x12 (i ∷ [])
     unfolding fault_of shifted_record with_logs
-    clears_fault i = clear_fault_law i (shifted k i) r.logs (find_shifted k low i r.logs)
+    clears_fault i = clear_fault_lem i (shifted k i) r.logs (find_shifted k low i r.logs)
 
     -- beside a verdict: only 0x13 has one
     pub verdict_fault : (v : Verdict) (kind kind' : ℕ) (d d' : List ℕ) → (v ≡ Refuse 0x13 → fault_of (shifted_record k r) kind' d' ≡ fault_of r kind d)

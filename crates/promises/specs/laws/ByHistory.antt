@@ -156,9 +156,9 @@ module _ (base : Record) where
   unfolding by_history standing by_way renewed
   history_formed s c es next rs g =
       formed_ok (by_history s es next rs) (record {
-        record_ok_law = g.ok;
+        record_ok_lem = g.ok;
         worked_is = refl;
-        timer_ok_law = c.ok;
+        timer_ok_lem = c.ok;
         both_fit = g.fits;
         marks_are = refl;
         journal = flat_formed Before (backs es) (backs_stored s.profile next es g.kept) (omega (arith, g.fits));

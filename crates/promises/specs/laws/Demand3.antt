@@ -38,14 +38,14 @@ use Rattle.promises.specs.laws.Sound.{Lets, Sound, occ_sound, sbe_sound}
 use Rattle.promises.specs.laws.ByHistory.{standing, journal_of, by_history, own_history, Sane, history_formed}
 use Rattle.promises.specs.laws.Stores.{padded}
 use Rattle.promises.specs.laws.Steps.{carried_history, carried_sane, carried_clock, undo_asks, undone, undo_history, undone_sane, undone_clock, redo_asks, redone, redo_history, redone_sane, redone_clock, undo_nothing, redo_nothing}
-use Rattle.promises.specs.laws.Forgetting.{newer_count, newer_more, oldest_more, NewestKept, newest_kept, whole_record, newer_twice, start_twice, forget_sane, forget_history, forget_asks_law}
+use Rattle.promises.specs.laws.Forgetting.{newer_count, newer_more, oldest_more, NewestKept, newest_kept, whole_record, newer_twice, start_twice, forget_sane, forget_history, forget_asks_lem}
 use Rattle.links.specs.Typed.{TypedRecord}
 use Rattle.links.specs.laws.Made.{Made}
 use Rattle.promises.specs.Marks.{latest, left, logs_made, undo_answer}
 use Rattle.promises.specs.laws.Ids.{drew, ids_add}
 use Rattle.promises.specs.laws.Timed.{made_timed}
 use Rattle.promises.specs.laws.Struck.{off}
-use Rattle.promises.specs.laws.Marks.{answer_of, Strokes, strokes_change, off_change, left_change, strokes_undo, left_undo, off_undo, redo_answer_law, strokes_redo, left_redo, off_redo, logs_more, logs_strike, logs_unstrike, ids_strike, ids_unstrike}
+use Rattle.promises.specs.laws.Marks.{answer_of, Strokes, strokes_change, off_change, left_change, strokes_undo, left_undo, off_undo, redo_answer_lem, strokes_redo, left_redo, off_redo, logs_more, logs_strike, logs_unstrike, ids_strike, ids_unstrike}
 use Rattle.promises.specs.Ids.{ids_made, countdown}
 
 -- an answer that a well-formed session never gets
@@ -321,8 +321,8 @@ module _ (base : Record) (first : ℕ) where
               (undone_sane from p.session v.clock e x next rs sane) (ids_strike now (suc p.undos) p.marks ∙ v.ids) (strokes_undo v.strokes now k.are));
         }
 
-    pub undo_answer_law : (undo_call p.session).answer ≡ undo_answer es
-    undo_answer_law = (undo_gives es refl).answer
+    pub undo_answer_lem : (undo_call p.session).answer ≡ undo_answer es
+    undo_answer_lem = (undo_gives es refl).answer
 
     pub record RedoGives (x : List Edit) : Type 0 where
       pub answer : (redo_call p.session).answer ≡ answer_of x
@@ -355,7 +355,7 @@ module _ (base : Record) (first : ℕ) where
     -- ---- forgetting
 
     forget_asked : (m : ℕ) → forget_asks m p.session ≡ cond (ltb (length es) m) (refuses 9) (forgets m)
-    forget_asked m = ap (forget_asks m) v.is ∙ forget_asks_law from p.session v.clock es next rs v.sane m
+    forget_asked m = ap (forget_asks m) v.is ∙ forget_asks_lem from p.session v.clock es next rs v.sane m
 
     dropped : (m : ℕ) → m ≤ length es → Inv (did p (forgotten m p.session) (drops m))
     unfolding did marked undos_after since_after gone_after
@@ -371,9 +371,9 @@ module _ (base : Record) (first : ℕ) where
         subst (λ (a : Asks). Follows (settled p.session [] a) (deed_by p.session a)) (sym (forget_asked m))
         (cond_cases (λ (a : Asks). Follows (settled p.session [] a) (deed_by p.session a)) (ltb (length es) m) (λ t. v) (λ t. dropped m (ltb-false (length es) m t)))
 
-    pub forget_answer_law : (m : ℕ) → (forget_call m p.session).answer ≡ forget_answer m es
+    pub forget_answer_lem : (m : ℕ) → (forget_call m p.session).answer ≡ forget_answer m es
     unfolding forget_call forget_answer settled kept done
-    forget_answer_law m =
+    forget_answer_lem m =
         ap (λ (a : Asks). (settled p.session [] a).answer) (forget_asked m)
         ∙ by_both (λ (a : Asks) (k : ℕ). (settled p.session [] a).answer ≡ k) (ltb (length es) m) (λ t. refl) (λ t. refl)
 
@@ -406,9 +406,9 @@ module _ (base : Record) (first : ℕ) where
     unfolding said asks buffer_of move_call forget_call
     never (occ sender c d) b = settled_fair p.session d _ (occ_fair p.session formed sender c d)
     never (sbe r d m x) b = settled_fair p.session d _ (sbe_fair p.session formed r d m x)
-    never undo b = subst Fair (sym undo_answer_law) (undo_fair es)
+    never undo b = subst Fair (sym undo_answer_lem) (undo_fair es)
     never redo b = subst Fair (sym redo_answer_is) (redo_fair rs)
-    never (forget m) b = subst Fair (sym (forget_answer_law m)) (forget_fair m es)
+    never (forget m) b = subst Fair (sym (forget_answer_lem m)) (forget_fair m es)
     never (time m) b = settled_fair p.session [] _ (time_fair p.session formed m)
 
     pub demand : Demand3 base first p
@@ -417,9 +417,9 @@ module _ (base : Record) (first : ℕ) where
       worked_is = worked_is;
       next_is = next_is;
       starts_from = held_kept;
-      undo_is = undo_answer_law;
-      redo_is = redo_answer_is ∙ sym (redo_answer_law v.strokes);
-      forget_is = forget_answer_law;
+      undo_is = undo_answer_lem;
+      redo_is = redo_answer_is ∙ sym (redo_answer_lem v.strokes);
+      forget_is = forget_answer_lem;
       never = never;
     }
 

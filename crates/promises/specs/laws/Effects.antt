@@ -81,7 +81,7 @@ module _ (s : Session) (f : Formed s) (typed : TypedSession s) where
   r = s.held
 
   some_next : s.next ≡ 0 → ⊥
-  some_next z = omega (arith, z, next_some s.held s.next f.record_ok_law)
+  some_next z = omega (arith, z, next_some s.held s.next f.record_ok_lem)
 
   -- a cleared log that pends leaves; a reset with a log that has room makes it, and draws one id
   cleared : (place : ℕ) (log : Log) → pends_at place log r.logs ≡ true → clear_of r place log ≡ accepted (with_logs r (remove_at place r.logs))
@@ -199,11 +199,11 @@ module _ (s : Session) (typed : TypedSession s) (sender : ℕ) (c d : List ℕ) 
   heard_effect b p q e (occ-ways.declined z n v) ok =
       absurd (not_refused s typed sender c d p n v ((heard_exactly s typed sender c d p q e (occ-ways.declined z n v)).0 ok).0)
   heard_effect b p q e (occ-ways.polled z v) ok = poll (polled_type s typed sender c d p v)
-  heard_effect b p q e (occ-ways.no_room_law z ch v full) ok = absurd (omega (arith, ok.0))
+  heard_effect b p q e (occ-ways.no_room_lem z ch v full) ok = absurd (omega (arith, ok.0))
   heard_effect b p q e (occ-ways.carried z ch v fits) ok =
       let f = formed s p.formed in
       effect s f typed (get_or c 1 0) (data_of c) ch _ (made_as s typed sender c d p ch v)
-      (occ_made s.held s.worked s.next sender (get_or c 1 0) (data_of c) (data_bytes c b) f.record_ok_law typed.held ch (made_judged s typed sender c d p ch v)) fits
+      (occ_made s.held s.worked s.next sender (get_or c 1 0) (data_of c) (data_bytes c b) f.record_ok_lem typed.held ch (made_judged s typed sender c d p ch v)) fits
 
   called_effect : Bytes c → (q : Said) (e : Deed) → occ-ways.Called s sender c d q e → Done q → OccLeft q.session
   unfolding kept
@@ -236,7 +236,7 @@ module _ (s : Session) (typed : TypedSession s) (sender : ℕ) (c d : List ℕ) 
   called_deed q e (occ-ways.answered p y g (occ-ways.declined z n v)) =
       (kept_never, λ x. absurd (not_refused s typed sender c d p n v ((heard_exactly s typed sender c d p y g (occ-ways.declined z n v)).0 x.0).0))
   called_deed q e (occ-ways.answered p y g (occ-ways.polled z v)) = (kept_never, λ x. absurd (x.1 (polled_type s typed sender c d p v)))
-  called_deed q e (occ-ways.answered p y g (occ-ways.no_room_law z ch v full)) = (kept_never, λ x. absurd (omega (arith, x.0.0)))
+  called_deed q e (occ-ways.answered p y g (occ-ways.no_room_lem z ch v full)) = (kept_never, λ x. absurd (omega (arith, x.0.0)))
   called_deed q e (occ-ways.answered p y g (occ-ways.carried z ch v fits)) =
       let n = made_type s typed sender c d p ch v in
       (λ a. ((refl, done_is s typed sender c d p n), n), λ x. (occ-ways.edit s sender c d ch, refl))
@@ -278,7 +278,7 @@ module _ (s : Session) (typed : TypedSession s) (r d m x : List ℕ) where
   called_request b q e (sbe-demands.short_request w g h) ok = absurd (omega (arith, ok.0))
   called_request b q e (sbe-demands.answered p y g (sbe-demands.declined i j v)) ok = absurd (sbe-demands.told_apart s typed r d m x i j v (sym (front_is _ d) ∙ ok.1))
   called_request b q e (sbe-demands.answered p y g (sbe-demands.plain v)) ok = plain_effect ((plain_exactly s r m x).0 v)
-  called_request b q e (sbe-demands.answered p y g (sbe-demands.no_room_law ch v full)) ok = absurd (omega (arith, ok.0))
+  called_request b q e (sbe-demands.answered p y g (sbe-demands.no_room_lem ch v full)) ok = absurd (omega (arith, ok.0))
   called_request b q e (sbe-demands.answered p y g (sbe-demands.carried ch v fits)) ok =
       let w = (change_granted s r m x ch v).0 in request_effect (formed s p.formed) ch (sbe-demands.asks r ch w) (sbe_made s.held s.next r b ch w) fits
 
@@ -297,7 +297,7 @@ module _ (s : Session) (typed : TypedSession s) (r d m x : List ℕ) where
   request_deed q e (sbe-demands.answered p y g (sbe-demands.declined i j v)) =
       (none_added, λ z. absurd (sbe-demands.told_apart s typed r d m x i j v (sym (front_is _ d) ∙ z.0.1)))
   request_deed q e (sbe-demands.answered p y g (sbe-demands.plain v)) = (none_added, λ z. absurd (never_changes s r m x v z.1))
-  request_deed q e (sbe-demands.answered p y g (sbe-demands.no_room_law ch v full)) = (none_added, λ z. absurd (omega (arith, z.0.0)))
+  request_deed q e (sbe-demands.answered p y g (sbe-demands.no_room_lem ch v full)) = (none_added, λ z. absurd (omega (arith, z.0.0)))
   request_deed q e (sbe-demands.answered p y g (sbe-demands.carried ch v fits)) =
       (λ a. ((refl, front_is _ d), (sbe-demands.is_asked s r m x ch v).0), λ z. (sbe-demands.edit ch, refl))
 

@@ -205,9 +205,9 @@ module _ (base : Record) where
         λ i. renewed s (sym (whole_record base n es) i) next (j i) (u i) (padded (flat rs)) (length (flat rs))
 
   -- what it asks of that session
-  pub forget_asks_law : (s : Session) → Clock s.timer → (es : List Edit) (next : ℕ) (rs : List Edit) → Sane base s.profile es next rs → (n : ℕ)
+  pub forget_asks_lem : (s : Session) → Clock s.timer → (es : List Edit) (next : ℕ) (rs : List Edit) → Sane base s.profile es next rs → (n : ℕ)
       → forget_asks n (by_history base s es next rs) ≡ cond (ltb (length es) n) (refuses 9) (forgets n)
   unfolding forget_asks oldest_asks
-  forget_asks_law s c es next rs sane n =
+  forget_asks_lem s c es next rs sane n =
       sym (else_b _ _ (ap not (history_formed base s c es next rs sane)) refl)
       ∙ ap (λ (k : ℕ). cond (ltb k n) (refuses 9) (forgets n)) (held_history s es next rs sane 0 (omega arith))

@@ -141,10 +141,10 @@ module _ (w : Way) (j : List ℕ) (used : ℕ) (store : Store w j used) (x : Ent
 -- ---- in a session, by the way
 
 module _ (s : Session) (f : Formed s) where
-  pub store_of_law : (w : Way) → Store w (store_of w s) (used_of w s)
+  pub store_of_lem : (w : Way) → Store w (store_of w s) (used_of w s)
   unfolding store_of used_of by_way
-  store_of_law Before = f.journal
-  store_of_law After = f.redo
+  store_of_lem Before = f.journal
+  store_of_lem After = f.redo
 
   pub both_used : (w : Way) → used_of w s + used_of (other w) s ≤ 2048
   unfolding used_of other by_way

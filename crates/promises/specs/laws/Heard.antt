@@ -187,26 +187,26 @@ module _ (k : ℕ) (low : 1 ≤ k) (s t : Session) (tw : Twins k s t) (from_k : 
   -- ---- SBE: its changes have no log
 
   module _ (r d : List ℕ) (bytes : Bytes r) where
-    no_log_law : (ch : Change) → mailbox.request_ruling r ≡ Grant ch → shifted_change k ch ≡ ch
+    no_log_lem : (ch : Change) → mailbox.request_ruling r ≡ Grant ch → shifted_change k ch ≡ ch
     unfolding shifted_change
-    no_log_law (Clear place log) e = absurd (change_fits r bytes _ e)
-    no_log_law (Unclear place log) e = absurd (change_fits r bytes _ e)
-    no_log_law (SetState state) e = refl
-    no_log_law (SetRole got role) e = refl
-    no_log_law (SetCaps got caps) e = refl
-    no_log_law (SetUser user) e = refl
-    no_log_law (SetThermal got) e = refl
-    no_log_law (SetThrottles got) e = refl
-    no_log_law (Reset log) e = absurd (change_fits r bytes _ e)
-    no_log_law (Unreset state made) e = refl
-    no_log_law (SetMask mask) e = refl
-    no_log_law (SetDeadman deadman) e = refl
-    no_log_law (SetAreas areas) e = refl
-    no_log_law (SetTimer timer) e = refl
+    no_log_lem (Clear place log) e = absurd (change_fits r bytes _ e)
+    no_log_lem (Unclear place log) e = absurd (change_fits r bytes _ e)
+    no_log_lem (SetState state) e = refl
+    no_log_lem (SetRole got role) e = refl
+    no_log_lem (SetCaps got caps) e = refl
+    no_log_lem (SetUser user) e = refl
+    no_log_lem (SetThermal got) e = refl
+    no_log_lem (SetThrottles got) e = refl
+    no_log_lem (Reset log) e = absurd (change_fits r bytes _ e)
+    no_log_lem (Unreset state made) e = refl
+    no_log_lem (SetMask mask) e = refl
+    no_log_lem (SetDeadman deadman) e = refl
+    no_log_lem (SetAreas areas) e = refl
+    no_log_lem (SetTimer timer) e = refl
 
     edit_is : (ch : Change) → mailbox.request_ruling r ≡ Grant ch → shifted_edit k (record { change = ch; tables = no_tables }) ≡ record { change = ch; tables = no_tables }
     unfolding shifted_edit
-    edit_is ch granted = λ i. record { change = no_log_law ch granted i; tables = no_tables }
+    edit_is ch granted = λ i. record { change = no_log_lem ch granted i; tables = no_tables }
 
     told_alike : (v : Ruling) → ((ch : Change) → v ≡ Grant ch → mailbox.request_ruling r ≡ Grant ch) → AlikeAsks k s (sbes.ruling_asks r d v) (sbes.ruling_asks r d v)
     unfolding sbes.ruling_asks
@@ -259,11 +259,11 @@ module _ (k : ℕ) (low : 1 ≤ k) (s t : Session) (tw : Twins k s t) (from_k : 
         subst (Likewise k s.next (occs.asked_of s.held s.worked s.next sender c))
         (λ i. occs.asked_of (sym tw.held_is i) (sym tw.worked_is i) (sym tw.next_is i) sender c')
 
-    occ_heard_law : (sender : ℕ) (c c' d : List ℕ)
+    occ_heard_lem : (sender : ℕ) (c c' d : List ℕ)
         → IdsEnd s t (occ sender c d) (occ sender c' d) ⊎ (AlikeAsks k s (occs.occ_asks s sender c d) (occs.occ_asks t sender c' d) × (occs.occ_why t sender c' d ≡ occs.occ_why s sender c d))
         → Heard (occ sender c d) (occ sender c' d)
     unfolding asks buffer_of told
-    occ_heard_law sender c c' d =
+    occ_heard_lem sender c c' d =
         ⊎_elim inl
         (λ h.
         let o = said_alike (occ sender c d) (occ sender c' d) refl h.0 in
@@ -287,11 +287,11 @@ module _ (k : ℕ) (low : 1 ≤ k) (s t : Session) (tw : Twins k s t) (from_k : 
     pub heard : (c c' : Call) → SameWish k c c' → OfBytes c → Heard c c'
     unfolding asks buffer_of told
     heard c c' (occ_same sender x d h) b =
-        occ_heard_law sender x x d (occ_alike sender x x d refl refl refl
+        occ_heard_lem sender x x d (occ_alike sender x x d refl refl refl
         (fault_there sender x x (λ v. same_fault k low s.held (get_or x 1 0) (data_of x) (old_id k x h (asked_read s sender x v).0)))
         (moved_there sender x x (asked_same k low s.next from_k s.held s.worked sender x h)))
     heard c c' (occ_clears sender x x' d h) b =
-        occ_heard_law sender x x' d (occ_alike sender x x' d h.long h.sequence (h.type' ∙ sym h.type) (fault_there sender x x' (λ v. clears_there x x' h))
+        occ_heard_lem sender x x' d (occ_alike sender x x' d h.long h.sequence (h.type' ∙ sym h.type) (fault_there sender x x' (λ v. clears_there x x' h))
         (moved_there sender x x' (asked_clears k low s.next from_k s.held s.worked sender x x' h)))
     heard c c' (sbe_same r d m x) b =
         let o = said_alike c c' refl (sbe_alike r d b m x) in

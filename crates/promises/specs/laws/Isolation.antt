@@ -216,7 +216,7 @@ module _ (s : Session) (ok : well_formed s ≡ true) (full : s.profile ≡ 0) (s
     verdict_keeps Poll e = refl
     verdict_keeps (Make ch) e =
         carried_keeps (record { change = ch; tables = (judged s sender c d).tables })
-        (occ_no_timer s.held s.worked s.next sender (get_or c 1 0) (data_of c) (data_bytes c bytes) (formed s ok).record_ok_law typed ch (made_open s.profile (get_or c 1 0) (judged s sender c d).verdict ch e).1) _
+        (occ_no_timer s.held s.worked s.next sender (get_or c 1 0) (data_of c) (data_bytes c bytes) (formed s ok).record_ok_lem typed ch (made_open s.profile (get_or c 1 0) (judged s sender c d).verdict ch e).1) _
 
     pub occ_timer : (occs.occ_call s sender c d).session.timer ≡ s.timer
     unfolding occs.occ_call occs.verdict_asks settled kept done

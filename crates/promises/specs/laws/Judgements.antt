@@ -26,7 +26,7 @@ use Rattle.occ.specs.Open.{open_to}
 use Rattle.occ.specs.declared.Verdict.{Verdict}
 use Rattle.occ.specs.declared.Verdict.TheVariants.{Refuse, Poll, Make}
 use Rattle.occ.specs.declared.Judged.{Judged}
-use Rattle.promises.specs.laws.Shifted.{shifted_change, shifted_low, shifted_high, choose, no_log_law, pending_shifted, find_shifted, get_shifted}
+use Rattle.promises.specs.laws.Shifted.{shifted_change, shifted_low, shifted_high, choose, no_log_lem, pending_shifted, find_shifted, get_shifted}
 use Rattle.promises.specs.Shifted.{shifted, shifted_log, shifted_record}
 use Rattle.packet.specs.Packet.{packet_status, data_of}
 use Rattle.occ_call.specs.Occ.{asked_for, asked_of}
@@ -185,7 +185,7 @@ module _ (k : ℕ) (low : 1 ≤ k) where
 
     no_log_made : FixedJudged (plainly (Make (Reset no_log)))
     unfolding plainly shifted_judged shifted_verdict shifted_change
-    no_log_made = ap (λ (x : Log). plainly (Make (Reset x))) (sym (no_log_law k low))
+    no_log_made = ap (λ (x : Log). plainly (Make (Reset x))) (sym (no_log_lem k low))
 
     plain_same : (v v' : Verdict) → v' ≡ shifted_verdict k v → Same (plainly v) (plainly v')
     unfolding plainly shifted_judged

@@ -26,10 +26,10 @@ use Rattle.layout.specs.Layout.{image_length}
 use Rattle.image.specs.laws.Image.{Typed, image_session}
 use Rattle.image.specs.laws.Typed.{typed_image}
 use Rattle.inplace.specs.InPlace.{Left, rung_left, on_image}
-use Rattle.inplace.specs.laws.InPlace.{on_image_law}
+use Rattle.inplace.specs.laws.InPlace.{on_image_lem}
 use Rattle.bjargolsk.specs.Calls.{packed, answer_in, fresh_on}
 use Rattle.bjargolsk.specs.laws.Calls.{occ_refused, sbe_refused, undo_refused, redo_refused, forget_refused, time_refused}
-use Rattle.saving.specs.laws.Record.{worked_fits_law}
+use Rattle.saving.specs.laws.Record.{worked_fits_lem}
 use Rattle.promises.specs.Calls.{Call, occ, sbe, undo, redo, forget, time, buffer_of, asks, said}
 use Rattle.promises.specs.Marks.{logs_made}
 use Rattle.promises.specs.History.{applied, kept_of, start_of, Run, did, next_run, run, AllOfBytes}
@@ -63,34 +63,34 @@ module _ (s : Session) (t : Typed s) where
   abbrev b : List ℕ
   b = image_of s
 
-  pub occ_on_law : (sender : ℕ) (c d : List ℕ) → occs.occ_on b sender c d ≡ occs.occ_left (occs.occ_call s sender c d) (occs.occ_why s sender c d)
+  pub occ_on_lem : (sender : ℕ) (c d : List ℕ) → occs.occ_on b sender c d ≡ occs.occ_left (occs.occ_call s sender c d) (occs.occ_why s sender c d)
   unfolding occs.occ_on
-  occ_on_law sender c d = on_image_law _ d s t
+  occ_on_lem sender c d = on_image_lem _ d s t
 
-  pub sbe_on_law : (r d m x : List ℕ) → sbes.sbe_on b r d m x ≡ rung_left (sbes.sbe_call s r d m x)
+  pub sbe_on_lem : (r d m x : List ℕ) → sbes.sbe_on b r d m x ≡ rung_left (sbes.sbe_call s r d m x)
   unfolding sbes.sbe_on
-  sbe_on_law r d m x = on_image_law _ d s t
+  sbe_on_lem r d m x = on_image_lem _ d s t
 
-  pub move_on_law : (w : Way) → move_on w b ≡ moved_left (passed_by w s) (move_call w s)
+  pub move_on_lem : (w : Way) → move_on w b ≡ moved_left (passed_by w s) (move_call w s)
   unfolding move_on
-  move_on_law w = on_image_law _ [] s t
+  move_on_lem w = on_image_lem _ [] s t
 
-  forget_on_law : (n : ℕ) → forget_on n b ≡ forget_left (forget_call n s)
+  forget_on_lem : (n : ℕ) → forget_on n b ≡ forget_left (forget_call n s)
   unfolding forget_on
-  forget_on_law n = on_image_law _ [] s t
+  forget_on_lem n = on_image_lem _ [] s t
 
-  time_on_law : (n : ℕ) → time_on n b ≡ rung_left (time_call n s)
+  time_on_lem : (n : ℕ) → time_on n b ≡ rung_left (time_call n s)
   unfolding time_on
-  time_on_law n = on_image_law _ [] s t
+  time_on_lem n = on_image_lem _ [] s t
 
   pub lent_said : (c : Call) → lent b c ≡ carried_over s c
   unfolding lent carried_over told said asks buffer_of occs.occ_left occs.occ_call rung_left sbes.sbe_call passed_by by_way moved_left move_call forget_left forget_call time_call
-  lent_said (occ sender c d) = ap as_lent (occ_on_law sender c d)
-  lent_said (sbe r d m x) = ap as_lent (sbe_on_law r d m x)
-  lent_said undo = ap as_lent (move_on_law Before)
-  lent_said (forget n) = ap as_lent (forget_on_law n)
-  lent_said (time n) = ap as_lent (time_on_law n)
-  lent_said redo = ap as_lent (move_on_law After ∙ none_reported (move_call After s))
+  lent_said (occ sender c d) = ap as_lent (occ_on_lem sender c d)
+  lent_said (sbe r d m x) = ap as_lent (sbe_on_lem r d m x)
+  lent_said undo = ap as_lent (move_on_lem Before)
+  lent_said (forget n) = ap as_lent (forget_on_lem n)
+  lent_said (time n) = ap as_lent (time_on_lem n)
+  lent_said redo = ap as_lent (move_on_lem After ∙ none_reported (move_call After s))
 
 -- ---- every image, right or damaged
 
@@ -135,19 +135,19 @@ history_typed base s c es next rs g =
         marks = length_marks _;
         timer = c.fits;
       };
-      limit = worked_fits_law r g.typed;
+      limit = worked_fits_lem r g.typed;
     }
 
 module _ (base : Record) (first : ℕ) where
   pub run_typed : (p : Run) → Inv base first p → Typed p.session
   run_typed p v = subst Typed (sym v.is) (history_typed (start_of base p) p.session v.clock (kept_of p) (first + logs_made p.marks) (redoable base first p) v.sane)
 
-  pub lent_run_law : (cs : List Call) (p : Run) → AllOfBytes cs → Inv base first p → lent_run (image_of p.session) cs ≡ image_of (run p cs).session
+  pub lent_run_lem : (cs : List Call) (p : Run) → AllOfBytes cs → Inv base first p → lent_run (image_of p.session) cs ≡ image_of (run p cs).session
   unfolding lent_run carried_over run next_run did
-  lent_run_law [] p b v = refl
-  lent_run_law (c ∷ cs) p b v =
+  lent_run_lem [] p b v = refl
+  lent_run_lem (c ∷ cs) p b v =
       let step = ap (λ (x : Lent). x.image) (lent_said p.session (run_typed p v) c) in
-      ap (λ (i : List ℕ). lent_run i cs) step ∙ lent_run_law cs (next_run p c) b.1 (next_inv base first p v c b.0)
+      ap (λ (i : List ℕ). lent_run i cs) step ∙ lent_run_lem cs (next_run p c) b.1 (next_inv base first p v c b.0)
 
   -- and what the next call says there is what it says of the session
   pub lent_next : (p : Run) → Inv base first p → (c : Call) → lent (image_of p.session) c ≡ carried_over p.session c

@@ -81,9 +81,9 @@ module _ {undos since : ℕ} {ms : List Mark} (v : Strokes undos since ms) where
     off_undo = struck.off_is [] ∙ ap (λ (x : Edit). x ∷ off since ms []) (struck.so ∙ ap (timed t) live_is)
 
   -- redo is accepted exactly while something can be redone
-  pub redo_answer_law : redo_answer since ms ≡ answer_of (off since ms [])
+  pub redo_answer_lem : redo_answer since ms ≡ answer_of (off since ms [])
   unfolding redo_answer
-  redo_answer_law =
+  redo_answer_lem =
       cond_cases (λ (a : ℕ). a ≡ answer_of (off since ms [])) (ltb since (latest ms))
       (λ f. sym (ap answer_of ((redone since timer_off (latest ms) (ltb-true since (latest ms) f) ms refl v.lined).off_is [])))
       (λ f. sym (ap answer_of (off_old since ms (below_latest since ms (ltb-false since (latest ms) f)) [])))
@@ -94,7 +94,7 @@ module _ {undos since : ℕ} {ms : List Mark} (v : Strokes undos since ms) where
     unfolding redo_answer
     unstruck =
         cond_cases (λ (a : ℕ). a ≡ 0 → Struck since (Redone since t) (latest ms) (unstrike t (latest ms) ms) ms) (ltb since (latest ms))
-        (λ f z. redone since t (latest ms) (ltb-true since (latest ms) f) ms refl v.lined) (λ f z. absurd (omega (arith, z))) (redo_answer_law ∙ ap answer_of q)
+        (λ f z. redone since t (latest ms) (ltb-true since (latest ms) f) ms refl v.lined) (λ f z. absurd (omega (arith, z))) (redo_answer_lem ∙ ap answer_of q)
 
     gone_is : unstruck.gone ≡ r
     gone_is = first_same (sym (unstruck.off_is []) ∙ q)

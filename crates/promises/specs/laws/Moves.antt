@@ -34,11 +34,11 @@ use Rattle.undo_call.specs.laws.NoneLeft.{none_zero}
 use Rattle.links.specs.Typed.{TypedSession}
 use Rattle.change.specs.laws.Timed.{kind_of_back, timed_kind, timed_cases, by_timer, timer_kept}
 use Rattle.links.specs.laws.Links.{writable_back}
-use Rattle.links.specs.laws.Entry.{entry_ok_law}
+use Rattle.links.specs.laws.Entry.{entry_ok_lem}
 use Rattle.promises.specs.Demand2.{Newest, GoesIn}
 use Rattle.promises.specs.laws.Moved.{entry_moved}
 use Rattle.promises.specs.Effects.{zeroed_from, moves_to, entry_back, MoveEffect}
-use Rattle.promises.specs.laws.FormedStores.{all_good, all_parts, pasted_clears, more_pasted, cut_zeroed, used_is, one_less, less_clears, store_of_law, both_used, long_store}
+use Rattle.promises.specs.laws.FormedStores.{all_good, all_parts, pasted_clears, more_pasted, cut_zeroed, used_is, one_less, less_clears, store_of_lem, both_used, long_store}
 use Rattle.promises.specs.laws.UndoDemands.{Called, ill_formed, empty, barred, goes, called}
 
 -- ---- beside a timer that passes
@@ -66,13 +66,13 @@ module _ (s : Session) (at : ℕ) (e : Edit) (held : Record) where
   unfolding session_moved renewed with_timer by_way other
   stores_formed Before ok timer fit less more p clear =
       formed_ok (session_moved Before s at e held)
-      (record { record_ok_law = ok; worked_is = refl; timer_ok_law = timer; both_fit = fit; journal = less; marks_are = refl; redo = more; profile_is = profile_kept s.profile _ _ _ _ p clear })
+      (record { record_ok_lem = ok; worked_is = refl; timer_ok_lem = timer; both_fit = fit; journal = less; marks_are = refl; redo = more; profile_is = profile_kept s.profile _ _ _ _ p clear })
   stores_formed After ok timer fit less more p clear =
       formed_ok (session_moved After s at e held)
       (record {
-        record_ok_law = ok;
+        record_ok_lem = ok;
         worked_is = refl;
-        timer_ok_law = timer;
+        timer_ok_lem = timer;
         both_fit = omega (arith, fit);
         journal = more;
         marks_are = refl;
@@ -92,10 +92,10 @@ module _ (s : Session) (at : ℕ) (e : Edit) (held : Record) where
   stores_used After sum = omega (arith, sum)
 
 -- k: either store
-pub clear_of_law : (s : Session) (w : Way) → only_clears (entries_in s.used s.journal) ≡ true → only_clears (entries_in s.ahead s.redo) ≡ true → only_clears (entries_in (used_of w s) (store_of w s)) ≡ true
+pub clear_of_lem : (s : Session) (w : Way) → only_clears (entries_in s.used s.journal) ≡ true → only_clears (entries_in s.ahead s.redo) ≡ true → only_clears (entries_in (used_of w s) (store_of w s)) ≡ true
 unfolding used_of store_of by_way
-clear_of_law s Before j r = j
-clear_of_law s After j r = r
+clear_of_lem s Before j r = j
+clear_of_lem s After j r = r
 
 -- ---- the newest entry, and the one that takes it back
 
@@ -107,7 +107,7 @@ module _ (w : Way) (s : Session) (f : Formed s) (e : Edit) (n : Newest w s e) wh
   back = takes_back s.held s.timer e
 
   store : Store w (store_of w s) (used_of w s)
-  store = store_of_law s f w
+  store = store_of_lem s f w
 
   -- what the entry says is of its kind, and one of the changes that its store holds
   says : (kind_of e.change ≡ n.entry.kind) × Holds w e.change
@@ -144,20 +144,20 @@ module _ (w : Way) (s : Session) (f : Formed s) (e : Edit) (n : Newest w s e) wh
 
   back_passes : edit_ok back ≡ true
   unfolding takes_back
-  back_passes = timed_ok s.timer f.timer_ok_law (inverse_of s.held e) (inverse_ok s.held s.next e (sound f.record_ok_law) values_pass)
+  back_passes = timed_ok s.timer f.timer_ok_lem (inverse_of s.held e) (inverse_ok s.held s.next e (sound f.record_ok_lem) values_pass)
 
   timer_passes : timer_ok (timer_after s.timer e.change) ≡ true
   unfolding edit_ok change_ok
-  timer_passes = timer_after_ok (λ (ch : Change). change_ok e.tables ch ≡ true) (λ x h. h) s.timer f.timer_ok_law e.change values_pass
+  timer_passes = timer_after_ok (λ (ch : Change). change_ok e.tables ch ≡ true) (λ x h. h) s.timer f.timer_ok_lem e.change values_pass
 
   module _ (typed : TypedSession s) where
     writable : Writable (other w) back.tables back.change
     unfolding takes_back timed inverse_of
     writable = writable_back w s.held s.timer e.change typed.held typed.timer says.1
 
-    back_bytes_law : length (bytes_of (entry_back s e)) ≡ entry_len back
+    back_bytes_lem : length (bytes_of (entry_back s e)) ≡ entry_len back
     unfolding entry_bytes
-    back_bytes_law = length_entry (other w) back writable
+    back_bytes_lem = length_entry (other w) back writable
 
     less : Store w (lessened w s at) at
     unfolding lessened
@@ -166,17 +166,17 @@ module _ (w : Way) (s : Session) (f : Formed s) (e : Edit) (n : Newest w s e) wh
     more : Store (other w) (grown w s e) (grown_to w s e)
     unfolding grown grown_to
     more =
-        more_pasted (other w) (store_of (other w) s) (used_of (other w) s) (store_of_law s f (other w)) back writable (entry_ok_law (other w) back writable back_passes)
+        more_pasted (other w) (store_of (other w) s) (used_of (other w) s) (store_of_lem s f (other w)) back writable (entry_ok_lem (other w) back writable back_passes)
         (omega (arith, room, long_store s typed (other w)))
 
     -- k: the entry that comes has the kind of the one that goes
     both_clear : only_clears (entries_in s.used s.journal) ≡ true → only_clears (entries_in s.ahead s.redo) ≡ true → BothClear s at e (put_of s.held e).after w
     unfolding lessened grown grown_to entry_for
     both_clear j r =
-        let from = less_clears w (store_of w s) (used_of w s) store n.entry n.older n.read (clear_of_law s w j r) in (
+        let from = less_clears w (store_of w s) (used_of w s) store n.entry n.older n.read (clear_of_lem s w j r) in (
           from.1,
-          pasted_clears (other w) (store_of (other w) s) (used_of (other w) s) (store_of_law s f (other w)) back writable (entry_ok_law (other w) back writable back_passes)
-              (omega (arith, room, long_store s typed (other w))) (same_kind ∙ from.0) (clear_of_law s (other w) j r),
+          pasted_clears (other w) (store_of (other w) s) (used_of (other w) s) (store_of_lem s f (other w)) back writable (entry_ok_lem (other w) back writable back_passes)
+              (omega (arith, room, long_store s typed (other w))) (same_kind ∙ from.0) (clear_of_lem s (other w) j r),
         )
 
     pub moved_formed : record_ok (put_of s.held e).after s.next ≡ true → well_formed (settled s [] (moves w at e)).session ≡ true
@@ -193,12 +193,12 @@ module _ (w : Way) (s : Session) (f : Formed s) (e : Edit) (n : Newest w s e) wh
           kind_is = says.0;
           moved = bytes_of (entry_back s e);
           moved_is = entry_moved s.held s.timer w n.entry.kind n.entry.body e n.change goes_in;
-          same_length = back_bytes_law ∙ back_long;
-          session_is = stores_moved s at e (put_of s.held e).after w (cut_zeroed (store_of w s) at (used_of w s) low store.fits) (ap (λ (m : ℕ). used_of (other w) s + m) (sym back_bytes_law));
+          same_length = back_bytes_lem ∙ back_long;
+          session_is = stores_moved s at e (put_of s.held e).after w (cut_zeroed (store_of w s) at (used_of w s) low store.fits) (ap (λ (m : ℕ). used_of (other w) s + m) (sym back_bytes_lem));
         }
 
     bytes_fit : used_of (other w) s + length (bytes_of (entry_back s e)) ≤ 2048
-    bytes_fit = omega (arith, back_bytes_law, room)
+    bytes_fit = omega (arith, back_bytes_lem, room)
 
 -- ---- the calls
 

@@ -40,10 +40,10 @@ use Rattle.promises.specs.laws.Stores.{padded, paste_padded, flat, flat_length}
 use Rattle.promises.specs.laws.ByHistory.{standing, backs, by_history, own_timer, Kept, Sane, again_stored}
 use Rattle.promises.specs.laws.Marks.{off_change, left_change, logs_more}
 use Rattle.promises.specs.laws.Steps.{undo_asks, undone, undo_history, undone_sane, undone_clock, redone, redo_history}
-use Rattle.promises.specs.laws.Demand3.{redoable, Inv, next_inv, next_is, starts_more, undo_answer_law}
+use Rattle.promises.specs.laws.Demand3.{redoable, Inv, next_inv, next_is, starts_more, undo_answer_lem}
 use Rattle.promises.specs.laws.Forgetting.{two_parts}
 use Rattle.promises.specs.laws.Clocks.{clock_is}
-use Rattle.promises.specs.laws.Aside.{as_before, left_after, made_after, left_after_law, made_after_law, not_redo}
+use Rattle.promises.specs.laws.Aside.{as_before, left_after, made_after, left_after_lem, made_after_lem, not_redo}
 use Rattle.promises.specs.laws.Struck.{off}
 use Rattle.journal.specs.declared.Way.TheVariants.{Before, After}
 use Rattle.promises.specs.laws.Shifted.{shifted_change, shifted_edit, shifted_low}
@@ -245,19 +245,19 @@ module _ (base : Record) (first : ℕ) (p : Run) (v : Inv base first p) (c : Cal
   left_after_is : left after.marks ≡ left p.marks
   unfolding next_run did left_after
   left_after_is =
-      left_after_law q.session.timer q.undos q.marks (deed q.session undo) (not_redo q.session undo tt) ∙ ap₂ (left_after q.session.timer) left_are undo_done
+      left_after_lem q.session.timer q.undos q.marks (deed q.session undo) (not_redo q.session undo tt) ∙ ap₂ (left_after q.session.timer) left_are undo_done
 
   logs_after : logs_made after.marks ≡ m
   unfolding next_run did made_after
-  logs_after = made_after_law q.session.timer q.undos q.marks (deed q.session undo) (not_redo q.session undo tt) ∙ ap₂ made_after logs_are undo_done
+  logs_after = made_after_lem q.session.timer q.undos q.marks (deed q.session undo) (not_redo q.session undo tt) ∙ ap₂ made_after logs_are undo_done
 
-  gone_after_law : after.gone ≡ p.gone
+  gone_after_lem : after.gone ≡ p.gone
   unfolding next_run did gone_after
-  gone_after_law = ap (gone_after q.gone) undo_done ∙ gone_are
+  gone_after_lem = ap (gone_after q.gone) undo_done ∙ gone_are
 
-  timer_after_law : after.session.timer ≡ was
+  timer_after_lem : after.session.timer ≡ was
   unfolding clock_after given_back timed
-  timer_after_law =
+  timer_after_lem =
       clock_is base first q w undo tt ∙ ap (clock_after q) undo_done ∙ ap (given_back q.session.timer) left_are
       ∙ ap (λ (t : Timer). timer_after t (timed_change was e.change)) timer_are ∙ timer_again was e.change
 
@@ -274,8 +274,8 @@ module _ (base : Record) (first : ℕ) (p : Run) (v : Inv base first p) (c : Cal
         inv' = next_inv base first q w undo tt;
         left_is = left_after_is;
         made_is = logs_after ∙ ap (λ (k : ℕ). logs_made p.marks + k) z ∙ add-zero (logs_made p.marks);
-        gone_is = gone_after_law;
-        timer_is = timer_after_law;
+        gone_is = gone_after_lem;
+        timer_is = timer_after_lem;
         profile_is = profile_after;
       })
 
@@ -306,9 +306,9 @@ module _ (base : Record) (first : ℕ) (p : Run) (v : Inv base first p) (c : Cal
         left_is =
             left_after_is ∙ sym (two_parts p.gone (left p.marks))
             ∙ ap (λ (l : List Edit). l ++ oldest_of p.gone (left p.marks)) (sym (edits_stay from p.session.profile k es k_low v.sane.kept));
-        gone_is = gone_after_law;
+        gone_is = gone_after_lem;
         made_is = logs_after ∙ ap (λ (n : ℕ). logs_made p.marks + n) one ∙ add-one (logs_made p.marks);
-        timer_is = timer_after_law;
+        timer_is = timer_after_lem;
         full = is_full one;
         full' = profile_after ∙ is_full one;
         from_k = omega arith;
@@ -348,7 +348,7 @@ module _ (from : Record) (s : Session) (clock : Clock s.timer) (x : Edit) (xs : 
 module _ (base : Record) (first : ℕ) (p : Run) (v : Inv base first p) (accepted : (undo_call p.session).answer ≡ 0) where
   some_left : kept_of p ≡ [] → ⊥
   unfolding undo_answer
-  some_left e = omega (arith, accepted, undo_answer_law base first p v ∙ ap undo_answer e)
+  some_left e = omega (arith, accepted, undo_answer_lem base first p v ∙ ap undo_answer e)
 
   pub redo_undone : (redo_call (undo_call p.session).session).session ≡ p.session
   redo_undone = go (kept_of p) refl

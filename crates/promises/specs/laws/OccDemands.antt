@@ -38,9 +38,9 @@ use Rattle.promises.specs.History.{Deed}
 use Rattle.promises.specs.Demand1.{NoRoom, OccAnswer, OccDue, ShutStatus, ProfileStatus, OccStatus, error_reply, occ_error}
 use Rattle.promises.specs.Demand2.{at_front, HasRoom, KnownSender, Open, WellAsked, occ_kind, NotPoll, OccAccepted, success_data, success_reply, OccSucceeds}
 use Rattle.promises.specs.laws.OccAsks.{CommandAsks, asks, poll_type, made_kind}
-use Rattle.promises.specs.laws.OccWays.{judged, edit, Heard, ill_read, declined, polled, no_room_law, carried, Called, ill_formed, unknown, short_reply, short_command, answered, called}
+use Rattle.promises.specs.laws.OccWays.{judged, edit, Heard, ill_read, declined, polled, no_room_lem, carried, Called, ill_formed, unknown, short_reply, short_command, answered, called}
 use Rattle.promises.specs.laws.Room.{has_room, has_none}
-use Rattle.promises.specs.laws.Replies.{replied_front, length_byte, error_bytes_law, success_other}
+use Rattle.promises.specs.laws.Replies.{replied_front, length_byte, error_bytes_lem, success_other}
 
 abbrev Answers : Said → ℕ → Type 0
 Answers q n = q.answer ≡ n
@@ -203,7 +203,7 @@ module _ (s : Session) (typed : TypedSession s) (sender : ℕ) (c d : List ℕ) 
     error_is : (n : ℕ) → replied seq type n no_log_id d ≡ at_front (error_reply seq type n) d
     error_is n =
         let room : 8 ≤ length d = omega (arith, p.reply) in
-        replied_front seq type n no_log_id d room ∙ ap (λ (y : List ℕ). at_front y d) (error_bytes_law seq type n)
+        replied_front seq type n no_log_id d room ∙ ap (λ (y : List ℕ). at_front y d) (error_bytes_lem seq type n)
 
     poll_is : type ≡ 0x00 → replied seq 0x00 0x00 (poll_data s.held s.worked) d ≡ at_front (success_reply s c) d
     unfolding success_reply success_data
@@ -238,7 +238,7 @@ module _ (s : Session) (typed : TypedSession s) (sender : ℕ) (c d : List ℕ) 
     heard_exactly q e (ill_read z) = (λ h. absurd (told_apart (packet_status c) (sym (error_is (packet_status c)) ∙ h.1)), λ h. absurd (z (well_read h.0)))
     heard_exactly q e (declined z n v) = (λ h. absurd (told_apart n (sym (error_is n) ∙ h.1)), λ h. absurd (not_refused n v h.0))
     heard_exactly q e (polled z v) = (λ h. (polled_well z v, λ n. absurd (n (polled_type v))), λ h. (refl, poll_is (polled_type v)))
-    heard_exactly q e (no_room_law z ch v full) =
+    heard_exactly q e (no_room_lem z ch v full) =
         (λ h. absurd (omega (arith, h.0)), λ h. absurd (not-le_of_lt (made_none ch v full) (h.1 (made_type ch v))))
     heard_exactly q e (carried z ch v fits) = (λ h. (made_well z ch v, λ n. made_room ch v fits), λ h. (refl, done_is (made_type ch v)))
 
@@ -251,7 +251,7 @@ module _ (s : Session) (typed : TypedSession s) (sender : ℕ) (c d : List ℕ) 
     heard_answer q e (ill_read z) = miss Answers (λ h. z (well_read h.0)) (answers_0 _ _)
     heard_answer q e (declined z n v) = miss Answers (λ h. not_refused n v h.0) (answers_0 _ _)
     heard_answer q e (polled z v) = miss Answers (λ h. h.1.0 (polled_type v)) (answers_0 _ _)
-    heard_answer q e (no_room_law z ch v full) = hit Answers (made_well z ch v, (made_type ch v, made_none ch v full)) (answers_kept _ _ _)
+    heard_answer q e (no_room_lem z ch v full) = hit Answers (made_well z ch v, (made_type ch v, made_none ch v full)) (answers_kept _ _ _)
     heard_answer q e (carried z ch v fits) = miss Answers (λ h. not-le_of_lt h.1.1 (made_room ch v fits)) (answers_0 _ _)
 
     -- ---- statuses
@@ -333,7 +333,7 @@ module _ (s : Session) (typed : TypedSession s) (sender : ℕ) (c d : List ℕ) 
           exactly = λ m. (λ g. (profile_rows m).0 (v ∙ ap Refuse (one_status n m g)), λ r. says_error n m (same_refusal n m (sym v ∙ (profile_rows m).1 r)));
         })
     heard_status q e (polled z v) = no_status z (ap accepts v) (λ n g. told_apart n (sym (ap (λ (x : Said). x.reply) g) ∙ poll_is (polled_type v)))
-    heard_status q e (no_room_law z ch v full) = no_status z (ap accepts v) (λ n g. omega (arith, ap (λ (x : Said). x.answer) g))
+    heard_status q e (no_room_lem z ch v full) = no_status z (ap accepts v) (λ n g. omega (arith, ap (λ (x : Said). x.answer) g))
     heard_status q e (carried z ch v fits) = no_status z (ap accepts v) (λ n g. told_apart n (sym (ap (λ (x : Said). x.reply) g) ∙ done_is (made_type ch v)))
 
   -- ---- every call
@@ -387,7 +387,7 @@ module _ (s : Session) (typed : TypedSession s) (sender : ℕ) (c d : List ℕ) 
   heard_reply p q e (ill_read z) h = inr (packet_status c, says_error p (packet_status c) (packet_status c) refl)
   heard_reply p q e (declined z n v) h = inr (n, says_error p n n refl)
   heard_reply p q e (polled z v) h = inl (poll_is p (polled_type p v))
-  heard_reply p q e (no_room_law z ch v full) h = absurd (omega (arith, h))
+  heard_reply p q e (no_room_lem z ch v full) h = absurd (omega (arith, h))
   heard_reply p q e (carried z ch v fits) h = inl (done_is p (made_type p ch v))
 
   called_reply : (q : Said) (e : Deed) → Called s sender c d q e → q.answer ≡ 0

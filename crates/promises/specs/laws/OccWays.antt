@@ -55,7 +55,7 @@ module _ (s : Session) (sender : ℕ) (c d : List ℕ) where
     ill_read : (packet_status c ≡ 0 → ⊥) → Heard (done s 0 0 (replied (get_or c 0 0) (get_or c 1 0) (packet_status c) no_log_id d)) keeps
     declined : packet_status c ≡ 0 → (n : ℕ) → verdict ≡ Refuse n → Heard (done s 0 0 (replied (get_or c 0 0) (get_or c 1 0) n no_log_id d)) keeps
     polled : packet_status c ≡ 0 → verdict ≡ Poll → Heard (done s 0 0 (replied (get_or c 0 0) 0x00 0x00 (poll_data s.held s.worked) d)) keeps
-    no_room_law : packet_status c ≡ 0 → (ch : Change) → verdict ≡ Make ch → (carried_of s (edit ch)).full ≡ true → Heard (kept 5 s d) keeps
+    no_room_lem : packet_status c ≡ 0 → (ch : Change) → verdict ≡ Make ch → (carried_of s (edit ch)).full ≡ true → Heard (kept 5 s d) keeps
     carried : packet_status c ≡ 0 → (ch : Change) → verdict ≡ Make ch → (carried_of s (edit ch)).full ≡ false
         → Heard (done (carried_of s (edit ch)).session 0 0 (replied (get_or c 0 0) (get_or c 1 0) 0x00 [] d)) (adds (edit ch))
 
@@ -66,7 +66,7 @@ module _ (s : Session) (sender : ℕ) (c d : List ℕ) where
   unfolding settled deed_by verdict_asks told_of carried_says adding
   heard_verdict z (Refuse status) e = declined z status e
   heard_verdict z Poll e = polled z e
-  heard_verdict z (Make ch) e = by_both Heard (carried_of s (edit ch)).full (no_room_law z ch e) (carried z ch e)
+  heard_verdict z (Make ch) e = by_both Heard (carried_of s (edit ch)).full (no_room_lem z ch e) (carried z ch e)
 
   abbrev read : Asks
   read = occ_read s sender c d

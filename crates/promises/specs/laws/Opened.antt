@@ -57,13 +57,13 @@ module _ (s : Session) (typed : TypedSession s) (ok : well_formed s ≡ true) (n
 
   opened_sane : Sane s.held s.profile [] s.next []
   unfolding backs flat applied
-  opened_sane = record { small = formed_next s ok; fits = omega arith; ok = f.record_ok_law; typed = typed.held; kept = tt; again = tt; profile = ⊎_elim (λ z. inl z) (λ h. inr h.0) f.profile_is }
+  opened_sane = record { small = formed_next s ok; fits = omega arith; ok = f.record_ok_lem; typed = typed.held; kept = tt; again = tt; profile = ⊎_elim (λ z. inl z) (λ h. inr h.0) f.profile_is }
 
   pub opened_start : Inv s.held s.next (start s)
   unfolding start left logs_made off ids_made countdown by_history standing by_way backs flat applied
   opened_start = record {
     is = own_session ∙ ap (λ (n : ℕ). renewed s s.held n (padded []) 0 (padded []) 0) (sym (add-zero s.next));
-    clock = record { ok = f.timer_ok_law; fits = typed.timer };
+    clock = record { ok = f.timer_ok_lem; fits = typed.timer };
     sane = subst (λ (n : ℕ). Sane s.held s.profile [] n []) (sym (add-zero s.next)) opened_sane;
     counts = ((plainly_formed s).0 ok).next.0;
     low = omega arith;

@@ -241,7 +241,7 @@ unfolding logs_ok
 plainly_formed s = (
   λ h.
       let f = formed s h in
-      let r = sound f.record_ok_law in
+      let r = sound f.record_ok_lem in
       let areas = (areas_exactly s.held.areas).0 r.areas in
       record {
         state = (state_exactly _).0 r.state;
@@ -255,7 +255,7 @@ plainly_formed s = (
         next = (next_exactly _).0 r.next;
         logs = (logs_exactly 0 _ _).0 r.logs;
         worked = f.worked_is;
-        timer = (timer_exactly _).0 f.timer_ok_law;
+        timer = (timer_exactly _).0 f.timer_ok_lem;
         journal = store_holds Before _ _ f.journal;
         marks = f.marks_are ∙ ap marks_of (same_entries Before s.journal s.used f.journal);
         redo = store_holds After _ _ f.redo;
@@ -267,7 +267,7 @@ plainly_formed s = (
       },
   λ p.
       formed_ok s (record {
-        record_ok_law = sound_ok (record {
+        record_ok_lem = sound_ok (record {
           state = (state_exactly _).1 p.state;
           role = (role_exactly _ _).1 p.role;
           caps = (caps_exactly _ _).1 p.caps;
@@ -279,7 +279,7 @@ plainly_formed s = (
           logs = (logs_exactly 0 _ _).1 p.logs;
         });
         worked_is = p.worked;
-        timer_ok_law = (timer_exactly _).1 p.timer;
+        timer_ok_lem = (timer_exactly _).1 p.timer;
         both_fit = p.both;
         journal = holds_store Before _ _ p.journal;
         marks_are = p.marks ∙ ap marks_of (sym (held_entries Before s.journal s.used p.journal));

@@ -182,23 +182,23 @@ module _ (s : Session) (p : List ℕ) (wanted : ℕ) where
         plan_passes : plan_ok p wanted (start_of s) plan ≡ true
         plan_passes = least_passes p wanted (start_of s) (omega (arith, some, least_low p wanted (start_of s)))
 
-        at_front_law : q.order ≡ at_front plan d
-        at_front_law = ap (λ (x : Planned). x.order) (one_is some) ∙ front_is plan d
+        at_front_lem : q.order ≡ at_front plan d
+        at_front_lem = ap (λ (x : Planned). x.order) (one_is some) ∙ front_is plan d
 
         long_as : q.told.beside ≡ length plan
         long_as = ap (λ (x : Planned). x.told.beside) (one_is some)
 
-        pub plan_in_law : plan_in q ≡ plan
-        plan_in_law = (λ i. take (long_as i) (at_front_law i)) ∙ take_at plan (drop (length plan) d) (length plan) refl
+        pub plan_in_lem : plan_in q ≡ plan
+        plan_in_lem = (λ i. take (long_as i) (at_front_lem i)) ∙ take_at plan (drop (length plan) d) (length plan) refl
 
         pub given_passes : Accepted (plan_ok_call s p wanted (plan_in q))
-        given_passes = subst (λ (o : List ℕ). Accepted (plan_ok_call s p wanted o)) (sym plan_in_law) ((accepted_exactly plan due).1 plan_passes)
+        given_passes = subst (λ (o : List ℕ). Accepted (plan_ok_call s p wanted o)) (sym plan_in_lem) ((accepted_exactly plan due).1 plan_passes)
 
         pub given_front : q.order ≡ at_front (plan_in q) d
-        given_front = at_front_law ∙ ap (λ (o : List ℕ). at_front o d) (sym plan_in_law)
+        given_front = at_front_lem ∙ ap (λ (o : List ℕ). at_front o d) (sym plan_in_lem)
 
         pub given_long : q.told.beside ≡ length (plan_in q)
-        given_long = long_as ∙ ap length (sym plan_in_law)
+        given_long = long_as ∙ ap length (sym plan_in_lem)
 
         -- an order that passes has no smaller number
         pub given_least : (o : List ℕ) → plan_ok p wanted (start_of s) o ≡ true → FewestThenLeast (plan_in q) o
@@ -206,7 +206,7 @@ module _ (s : Session) (p : List ℕ) (wanted : ℕ) where
             let ordered = passes_order due.few o h in
             let k = order_number o ordered in
             let mine = number_order least (omega (arith, some, least_low p wanted (start_of s))) in
-            subst (λ (l : List ℕ). FewestThenLeast l o) (sym plan_in_law)
+            subst (λ (l : List ℕ). FewestThenLeast l o) (sym plan_in_lem)
             (comes_first plan o (passes_order due.few plan plan_passes) ordered (omega (arith, mine, not_less o h k)))
           where
             not_less : (o : List ℕ) → plan_ok p wanted (start_of s) o ≡ true → (number_of o < orders) × (order_of (number_of o) ≡ o) → least ≤ number_of o

@@ -53,7 +53,7 @@ use Rattle.promises.specs.Plans.{trial_session, sent_from, Leads, IsPlan}
 use Rattle.promises.specs.laws.Demand3.{Inv, formed as formed-so, next_inv}
 use Rattle.promises.specs.laws.Lent.{run_typed}
 use Rattle.promises.specs.laws.OccDemands.{occ_accepted}
-use Rattle.promises.specs.laws.OccWays.{judged, edit, Heard, ill_read, declined, polled, no_room_law, carried, Called, ill_formed, unknown, short_reply, short_command, answered, called}
+use Rattle.promises.specs.laws.OccWays.{judged, edit, Heard, ill_read, declined, polled, no_room_lem, carried, Called, ill_formed, unknown, short_reply, short_command, answered, called}
 use Rattle.promises.specs.laws.Opened.{opened_start}
 use Rattle.promises.specs.laws.Profiles.{profile_stays}
 use Rattle.promises.specs.laws.Room.{has_none}
@@ -79,9 +79,9 @@ trial_formed s whole =
     let f = formed s whole in
     formed_ok (trial_session s)
     (record {
-      record_ok_law = f.record_ok_law;
+      record_ok_lem = f.record_ok_lem;
       worked_is = refl;
-      timer_ok_law = f.timer_ok_law;
+      timer_ok_lem = f.timer_ok_lem;
       both_fit = omega arith;
       journal = none_used Before 2048;
       marks_are = refl;
@@ -215,7 +215,7 @@ module _ (s : Session) (typed : TypedSession s) (ok : well_formed s ≡ true) (f
   heard_roomy q e (ill_read z) = record { has_room = λ h. omega (arith, h); short = omega arith }
   heard_roomy q e (declined z n v) = record { has_room = λ h. omega (arith, h); short = omega arith }
   heard_roomy q e (polled z v) = record { has_room = λ h. omega (arith, h); short = omega arith }
-  heard_roomy q e (no_room_law z ch v none) = absurd (omega (arith, has_none s typed.journal (edit s 0x10 c d ch) (kind_of ch) refl none, fits (kind_of ch)))
+  heard_roomy q e (no_room_lem z ch v none) = absurd (omega (arith, has_none s typed.journal (edit s 0x10 c d ch) (kind_of ch) refl none, fits (kind_of ch)))
   heard_roomy q e (carried z ch v some) = record { has_room = λ h. omega (arith, h); short = carried_short s (edit s 0x10 c d ch) }
 
   called_roomy : (q : Said) (e : Deed) → Called s 0x10 c d q e → Roomy q
@@ -251,7 +251,7 @@ module _ (s : Session) (typed : TypedSession s) (ok : well_formed s ≡ true) (f
     heard_leaves q e (ill_read z) = absurd (z (sound_exactly.0 (is_sound h)).1)
     heard_leaves q e (declined z n v) = absurd (refuses_none n v)
     heard_leaves q e (polled z v) = sym (by_this Poll v)
-    heard_leaves q e (no_room_law z ch v none) = absurd (omega (arith, has_none s typed.journal (edit s 0x10 c d ch) (kind_of ch) refl none, fits (kind_of ch)))
+    heard_leaves q e (no_room_lem z ch v none) = absurd (omega (arith, has_none s typed.journal (edit s 0x10 c d ch) (kind_of ch) refl none, fits (kind_of ch)))
     heard_leaves q e (carried z ch v some) = carried_start s (edit s 0x10 c d ch) some ∙ sym (by_this (Make ch) v)
 
     called_leaves : (q : Said) (e : Deed) → Called s 0x10 c d q e → Leaves q

@@ -35,7 +35,7 @@ use Rattle.promises.specs.History.{Run, did, next_run, run, start, OfBytes, AllO
 use Rattle.promises.specs.Replays.{call_of, calls_of, calls_in, whole_part, status_of, heard_of, lines_by, AllSized, StopsAt, at_its_end, no_kind, too_short, PlaysUpTo}
 use Rattle.promises.specs.laws.Demand3.{Inv, next_inv}
 use Rattle.promises.specs.laws.Fresh.{fresh_start}
-use Rattle.promises.specs.laws.Lent.{occ_on_law, sbe_on_law, move_on_law, run_typed}
+use Rattle.promises.specs.laws.Lent.{occ_on_lem, sbe_on_lem, move_on_lem, run_typed}
 
 -- ---- an entry played on the image of a session is its call on the session
 
@@ -43,9 +43,9 @@ use Rattle.promises.specs.laws.Lent.{occ_on_law, sbe_on_law, move_on_law, run_ty
 abbrev heard_as : Said → ℕ → Heard
 heard_as q n = record { answer = n; image = image_of q.session; status = if_written n (take 1 (drop 2 q.reply)) }
 
-occ_heard_law : (q : Said) (why : Blame) → occ_heard (occs.occ_left q why) ≡ heard_as q q.answer
+occ_heard_lem : (q : Said) (why : Blame) → occ_heard (occs.occ_left q why) ≡ heard_as q q.answer
 unfolding heard_with occs.occ_left
-occ_heard_law q why = ap (heard_as q) (answer_beside q.answer why)
+occ_heard_lem q why = ap (heard_as q) (answer_beside q.answer why)
 
 module _ (s : Session) (t : Typed s) (r r' c c' : List ℕ) (sender : ℕ) where
   abbrev b : List ℕ
@@ -57,9 +57,9 @@ module _ (s : Session) (t : Typed s) (r r' c c' : List ℕ) (sender : ℕ) where
   one_heard : (x y : Bool)
       → cond x (sbe_heard (sbes.sbe_on b r r' [] [])) (cond y (undo_heard (undo_on b)) (occ_heard (occs.occ_on b sender c c'))) ≡ heard_of (called x y) (said s (called x y))
   unfolding heard_of said asks buffer_of status_of heard_with rung_left sbes.sbe_call moved_left move_call occs.occ_call
-  one_heard true y = ap sbe_heard (sbe_on_law s t r r' [] [])
-  one_heard false true = ap undo_heard (move_on_law s t Before)
-  one_heard false false = ap occ_heard (occ_on_law s t sender c c') ∙ occ_heard_law (occs.occ_call s sender c c') (occs.occ_why s sender c c')
+  one_heard true y = ap sbe_heard (sbe_on_lem s t r r' [] [])
+  one_heard false true = ap undo_heard (move_on_lem s t Before)
+  one_heard false false = ap occ_heard (occ_on_lem s t sender c c') ∙ occ_heard_lem (occs.occ_call s sender c c') (occs.occ_why s sender c c')
 
 heard_said : (s : Session) → Typed s → (e : Entry) → heard (image_of s) e ≡ heard_of (call_of e) (said s (call_of e))
 unfolding heard call_of

@@ -29,9 +29,9 @@ module _ (seq kind status : ℕ) (part d : List ℕ) where
   unfolding reply_bytes unsummed to_be
   length_byte = refl
 
-pub error_bytes_law : (seq kind status : ℕ) → reply_bytes seq kind status no_log_id ≡ error_reply seq kind status
+pub error_bytes_lem : (seq kind status : ℕ) → reply_bytes seq kind status no_log_id ≡ error_reply seq kind status
 unfolding reply_bytes unsummed to_be
-error_bytes_law seq kind status = refl
+error_bytes_lem seq kind status = refl
 
 -- ---- a reply of success is short, and is never as long as an error's
 

@@ -164,7 +164,7 @@ module _ (s : Session) (typed : TypedSession s) (r d m x : List ℕ) where
   pub data Heard : Said → Deed → Type 0 where
     declined : (p q : ℕ) → Ruled s r m x (Decline p q) → Heard (done s (bell_of r) 0 (pasted 0 (response_bytes p q r) d)) keeps
     plain : Ruled s r m x Done → Heard (done s (bell_of r) 0 (pasted 0 (response_bytes 0x00 0x00 r) d)) keeps
-    no_room_law : (ch : Change) → Ruled s r m x (Grant ch) → (carried_of s (edit ch)).full ≡ true → Heard (kept 5 s d) keeps
+    no_room_lem : (ch : Change) → Ruled s r m x (Grant ch) → (carried_of s (edit ch)).full ≡ true → Heard (kept 5 s d) keeps
     carried : (ch : Change) → Ruled s r m x (Grant ch) → (carried_of s (edit ch)).full ≡ false
         → Heard (done (carried_of s (edit ch)).session (bell_of r) 0 (pasted 0 (response_bytes 0x00 0x00 r) d)) (adds (edit ch))
 
@@ -181,7 +181,7 @@ module _ (s : Session) (typed : TypedSession s) (r d m x : List ℕ) where
   heard_ruling : (v : Ruling) → Ruled s r m x v → Settles (ruling_asks r d v)
   unfolding settled deed_by ruling_asks told_of carried_says adding
   heard_ruling (Decline p q) e = declined p q e
-  heard_ruling (Grant ch) e = by_both Heard (carried_of s (edit ch)).full (no_room_law ch e) (carried ch e)
+  heard_ruling (Grant ch) e = by_both Heard (carried_of s (edit ch)).full (no_room_lem ch e) (carried ch e)
   heard_ruling Done e = plain e
   heard_ruling (Read offset size) e = absurd (never_read s r m x offset size e)
 
@@ -226,7 +226,7 @@ module _ (s : Session) (typed : TypedSession s) (r d m x : List ℕ) where
   success y q e (answered p _ _ (declined a b v)) =
       (λ z. absurd (told_apart a b v (sym (front_is _ d) ∙ z.1)), λ z. absurd (declined_not s r m x a b v (was_asked z.1.1)))
   success y q e (answered p _ _ (plain v)) = (λ z. (p.reply, (p.request, inr ((plain_exactly s r m x).0 v))), λ z. (refl, front_is _ d))
-  success y q e (answered p _ _ (no_room_law ch v full)) =
+  success y q e (answered p _ _ (no_room_lem ch v full)) =
       (λ z. absurd (omega (arith, z.0)), λ z. absurd (⊎_elim (λ k. not-le_of_lt (made_none ch v full) k.1.1) (changed_not s r m x ch v) z.1.1))
   success y q e (answered p _ _ (carried ch v fits)) = (λ z. (p.reply, (p.request, (let a = is_asked s r m x ch v in inl (a.0, (a.1, made_room ch v fits))))), λ z. (refl, front_is _ d))
 
@@ -252,7 +252,7 @@ module _ (s : Session) (typed : TypedSession s) (r d m x : List ℕ) where
       go : (q : Said) (e : Deed) → Heard q e → ByTable Answers q (row 5 (Changes r and (s.profile ≡ 0) and NoRoom s (sbe_kind r)) (is 0))
       go q e (declined a b v) = miss Answers (λ z. declined_not s r m x a b v (inl (z.0, z.1.0))) (answers _ _ _ _)
       go q e (plain v) = miss Answers (λ z. never_changes s r m x v z.0) (answers _ _ _ _)
-      go q e (no_room_law ch v full) = hit Answers (let a = is_asked s r m x ch v in (a.0, (a.1, made_none ch v full))) (answers _ _ _ _)
+      go q e (no_room_lem ch v full) = hit Answers (let a = is_asked s r m x ch v in (a.0, (a.1, made_none ch v full))) (answers _ _ _ _)
       go q e (carried ch v fits) = miss Answers (λ z. not-le_of_lt z.1.1 (made_room ch v fits)) (answers _ _ _ _)
 
   pub sbe_answers : (n : ℕ) → ((sbe_call s r d m x).answer ≡ n) ↔ SbeAnswer s r d n
@@ -285,7 +285,7 @@ module _ (s : Session) (typed : TypedSession s) (r d m x : List ℕ) where
         absurd (error (sym (same_primary r 0x00 0x00 p q d (omega arith) j g), sym (same_secondary r 0x00 0x00 p q d (omega arith) k g))),
     λ z. absurd (status_never s r m x p q z (inr ((plain_exactly s r m x).0 v))),
   )
-  status_table y p q j k error u e (answered _ _ _ (no_room_law ch v full)) =
+  status_table y p q j k error u e (answered _ _ _ (no_room_lem ch v full)) =
       (λ z. absurd (omega (arith, ap (λ (o : Said). o.answer) z)), λ z. absurd (status_never s r m x p q z (inl (is_asked s r m x ch v))))
   status_table y p q j k error u e (answered _ _ _ (carried ch v fits)) =
       (λ z. absurd (omega (arith, carried_longer s (edit ch) fits, ap (λ (o : Said). o.session.used) z)), λ z. absurd (status_never s r m x p q z (inl (is_asked s r m x ch v))))
@@ -302,7 +302,7 @@ module _ (s : Session) (typed : TypedSession s) (r d m x : List ℕ) where
   called_reply u e (short_request w l h) z = absurd (omega (arith, z))
   called_reply u e (answered _ _ _ (declined a b v)) z = inr ((a, b), error_is a b a b (refl, refl))
   called_reply u e (answered _ _ _ (plain v)) z = inl (front_is (response_bytes 0x00 0x00 r) d)
-  called_reply u e (answered _ _ _ (no_room_law ch v full)) z = absurd (omega (arith, z))
+  called_reply u e (answered _ _ _ (no_room_lem ch v full)) z = absurd (omega (arith, z))
   called_reply u e (answered _ _ _ (carried ch v fits)) z = inl (front_is (response_bytes 0x00 0x00 r) d)
 
   pub sbe_reply : (sbe_call s r d m x).answer ≡ 0 → ((sbe_call s r d m x).reply ≡ at_front (response_bytes 0x00 0x00 r) d) ⊎ ((n : Status) × (sbe_call s r d m x ≡ sbe_error s r d n))

@@ -45,7 +45,7 @@ module _ (image room offset size : ℕ) where
 
   data ReadAs : ℕ → Type 0 where
     outside : (Inside → ⊥) → ReadAs 0x19
-    too_long_law : Inside → room < size → ReadAs 0x18
+    too_long_lem : Inside → room < size → ReadAs 0x18
     fits : Inside → size ≤ room → ReadAs 0x00
 
   read_as : ReadAs (read_status image room offset size)
@@ -56,7 +56,7 @@ module _ (image room offset size : ℕ) where
       (λ b. cond_cases ReadAs (ltb (counted_in image) (offset + size)) (λ c. outside (λ h. not-le_of_lt (ltb-true _ _ c) ((counted _ image).1 h.1.1)))
       (λ c.
       let inside : Inside = (eqb-true _ 0 (not-false _ a), (eqb-true _ 0 (not-false _ b), (counted _ image).0 (ltb-false _ _ c))) in
-      cond_cases ReadAs (ltb room size) (λ d. too_long_law inside (ltb-true room size d)) (λ d. fits inside (ltb-false room size d)))))
+      cond_cases ReadAs (ltb room size) (λ d. too_long_lem inside (ltb-true room size d)) (λ d. fits inside (ltb-false room size d)))))
 
   -- as rows
   same_status : (q : ℕ) (n : Status) → Decline 0x02 q ≡ Decline n.0 n.1 → n ≡ (0x02, q)
@@ -72,7 +72,7 @@ module _ (image room offset size : ℕ) where
   read_rows : (n : ℕ) → ReadAs n → ByTable Refuses (read_at n) (row (0x02, 0x19) (Inside → ⊥) (row (0x02, 0x18) (room < size) none))
   unfolding read_at
   read_rows n (outside h) = hit Refuses h (refuses 0x19)
-  read_rows n (too_long_law h l) = miss Refuses (λ k. k h) (hit Refuses l (refuses 0x18))
+  read_rows n (too_long_lem h l) = miss Refuses (λ k. k h) (hit Refuses l (refuses 0x18))
   read_rows n (fits h l) = miss Refuses (λ k. k h) (miss Refuses (λ k. not-le_of_lt k l) serves)
 
   -- and served
@@ -83,12 +83,12 @@ module _ (image room offset size : ℕ) where
   read_done : (n : ℕ) → ReadAs n → (read_at n ≡ Done) ↔ (Inside and (size ≤ room))
   unfolding read_at
   read_done n (outside h) = (λ e. absurd (declined_not _ _ e), λ z. absurd (h z.0))
-  read_done n (too_long_law h l) = (λ e. absurd (declined_not _ _ e), λ z. absurd (not-le_of_lt l z.1))
+  read_done n (too_long_lem h l) = (λ e. absurd (declined_not _ _ e), λ z. absurd (not-le_of_lt l z.1))
   read_done n (fits h l) = (λ e. (h, l), λ z. refl)
 
   read_served : (n : ℕ) → ReadAs n → Inside and (size ≤ room) → n ≡ 0
   read_served n (outside h) z = absurd (h z.0)
-  read_served n (too_long_law h l) z = absurd (not-le_of_lt l z.1)
+  read_served n (too_long_lem h l) z = absurd (not-le_of_lt l z.1)
   read_served n (fits h l) z = refl
 
 never_grants : (status : ℕ) → grants (read_at status) ≡ false
@@ -201,10 +201,10 @@ module _ (s : Session) (r m x : List ℕ) where
   ruling = by_profile s.profile (sbe_ruling r m x)
 
   -- it is the one that was judged, in a full session or where nothing is granted; else 05/20
-  by_profile_law : (P : Ruling → Type 0) → ((s.profile ≡ 0) ⊎ (grants (sbe_ruling r m x) ≡ false) → P (sbe_ruling r m x))
+  by_profile_lem : (P : Ruling → Type 0) → ((s.profile ≡ 0) ⊎ (grants (sbe_ruling r m x) ≡ false) → P (sbe_ruling r m x))
       → ((s.profile ≡ 0 → ⊥) → grants (sbe_ruling r m x) ≡ true → P (Decline 0x05 0x20)) → P ruling
   unfolding by_profile
-  by_profile_law P same other =
+  by_profile_lem P same other =
       cond_cases P (eqb s.profile 0) (λ t. same (inl (eqb-true s.profile 0 t)))
       (λ t. go (eqb-false s.profile 0 t) (grants (sbe_ruling r m x)) refl)
     where
@@ -216,29 +216,29 @@ module _ (s : Session) (r m x : List ℕ) where
   pub change_granted : (ch : Change) → ruling ≡ Grant ch → (request_ruling r ≡ Grant ch) × (s.profile ≡ 0)
   unfolding grants
   change_granted ch =
-      by_profile_law (λ (v : Ruling). v ≡ Grant ch → (request_ruling r ≡ Grant ch) × (s.profile ≡ 0))
+      by_profile_lem (λ (v : Ruling). v ≡ Grant ch → (request_ruling r ≡ Grant ch) × (s.profile ≡ 0))
       (λ p e. (change_ruled r m x ch e, ⊎_elim (λ z. z) (λ g. absurd (true≢false (sym (ap grants e) ∙ g))) p))
       (λ z g e. absurd (false≢true (ap grants e)))
 
   pub changes_granted : Changes r → s.profile ≡ 0 → grants ruling ≡ true
-  changes_granted c full = by_profile_law (λ (v : Ruling). grants v ≡ true) (λ p. changes_ruled r m x c) (λ z g. absurd (z full))
+  changes_granted c full = by_profile_lem (λ (v : Ruling). grants v ≡ true) (λ p. changes_ruled r m x c) (λ z g. absurd (z full))
 
   -- what is answered without a change is so in any
   pub plain_exactly : (ruling ≡ Done) ↔ (Plainly r ⊎ Served r m x)
   unfolding grants accepts
   plain_exactly = (
-    by_profile_law (λ (v : Ruling). v ≡ Done → Plainly r ⊎ Served r m x) (λ p e. (done_ruled r m x).0 e) (λ z g e. absurd (false≢true (ap accepts e))),
+    by_profile_lem (λ (v : Ruling). v ≡ Done → Plainly r ⊎ Served r m x) (λ p e. (done_ruled r m x).0 e) (λ z g e. absurd (false≢true (ap accepts e))),
     λ h. let e = (done_ruled r m x).1 h in stays s.profile (sbe_ruling r m x) (ap grants e) ∙ e,
   )
 
   pub never_changes : ruling ≡ Done → Changes r → ⊥
   unfolding grants accepts
   never_changes e c =
-      by_profile_law (λ (v : Ruling). v ≡ Done → ⊥) (λ p h. false≢true (sym (ap grants h) ∙ changes_ruled r m x c)) (λ z g h. false≢true (ap accepts h)) e
+      by_profile_lem (λ (v : Ruling). v ≡ Done → ⊥) (λ p h. false≢true (sym (ap grants h) ∙ changes_ruled r m x c)) (λ z g h. false≢true (ap accepts h)) e
 
   pub never_read : (offset size : ℕ) → ruling ≡ Read offset size → ⊥
   never_read offset size =
-      by_profile_law (λ (v : Ruling). v ≡ Read offset size → ⊥) (λ p e. none_read r m x offset size e) (λ z g e. false≢true (ap is_read e))
+      by_profile_lem (λ (v : Ruling). v ≡ Read offset size → ⊥) (λ p e. none_read r m x offset size e) (λ z g e. false≢true (ap is_read e))
 
   -- the statuses
   granted_changes : (v : Ruling) → sbe_ruling r m x ≡ v → grants v ≡ true → Changes r
@@ -260,12 +260,12 @@ module _ (s : Session) (r m x : List ℕ) where
 
   watch_refuses : (s.profile ≡ 0 → ⊥) → Changes r → ruling ≡ Decline 0x05 0x20
   watch_refuses z c =
-      by_profile_law (λ (v : Ruling). v ≡ Decline 0x05 0x20) (⊎_elim (λ full. absurd (z full)) (λ g. absurd (true≢false (sym (changes_ruled r m x c) ∙ g)))) (λ y g. refl)
+      by_profile_lem (λ (v : Ruling). v ≡ Decline 0x05 0x20) (⊎_elim (λ full. absurd (z full)) (λ g. absurd (true≢false (sym (changes_ruled r m x c) ∙ g)))) (λ y g. refl)
 
   pub status_ruled : (n : Status) → (ruling ≡ Decline n.0 n.1) ↔ SbeStatus s r m x n
   unfolding SbeStatus
   status_ruled n = (
-    by_profile_law (λ (v : Ruling). v ≡ Decline n.0 n.1 → SbeStatus s r m x n) (λ p e. ⊎_elim (λ t. inl t) (λ t. inr (inl t)) ((own_ruled r m x n).0 e))
+    by_profile_lem (λ (v : Ruling). v ≡ Decline n.0 n.1 → SbeStatus s r m x n) (λ p e. ⊎_elim (λ t. inl t) (λ t. inr (inl t)) ((own_ruled r m x n).0 e))
         (λ z g e. inr (inr (z, (granted_changes (sbe_ruling r m x) refl g, five_twenty n e)))),
     ⊎_elim (λ t. own_stays n (inl t))
         (⊎_elim (λ t. own_stays n (inr t)) (λ t. watch_refuses t.0 t.1.0 ∙ five_is n t.1.1)),
@@ -307,7 +307,7 @@ module _ (s : Session) (r d : List ℕ) where
     read_kept : (n : ℕ) → ReadIs r m x n → (InImage r m and (word_at 12 r ≤ length x) → ⊥) → served_at n (word_at 8 r) (word_at 12 r) m x ≡ x
     unfolding served_at
     read_kept n (outside h) z = refl
-    read_kept n (too_long_law h l) z = refl
+    read_kept n (too_long_lem h l) z = refl
     read_kept n (fits h l) z = absurd (z (h, l))
 
     request_kept : (v : Ruling) → request_ruling r ≡ v → (Served r m x → ⊥) → served_by v m x ≡ x

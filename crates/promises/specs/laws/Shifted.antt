@@ -126,9 +126,9 @@ module _ (k : ℕ) (low : 1 ≤ k) where
   used_test : (i : ℕ) → eqb (shifted k i) 0 ≡ eqb i 0
   used_test i = ap (eqb (shifted k i)) (sym no_id) ∙ id_test i 0
 
-  pub no_log_law : f no_log ≡ no_log
+  pub no_log_lem : f no_log ≡ no_log
   unfolding shifted_log
-  no_log_law = λ i. record { id = no_id i; reason = 0 }
+  no_log_lem = λ i. record { id = no_id i; reason = 0 }
 
   -- ---- logs
 
@@ -147,7 +147,7 @@ module _ (k : ℕ) (low : 1 ≤ k) where
   find_shifted i l = ap₂ (λ (b : Bool) (n : ℕ). cond b 4 n) (used_test i) (first_shifted i l)
 
   pub get_shifted : (l : List Log) (p : ℕ) → get_or (map f l) p no_log ≡ f (get_or l p no_log)
-  get_shifted l p = ap (get_or (map f l) p) (sym no_log_law) ∙ get_or-map f l p no_log
+  get_shifted l p = ap (get_or (map f l) p) (sym no_log_lem) ∙ get_or-map f l p no_log
 
   take_shifted : (n : ℕ) (l : List Log) → take n (map f l) ≡ map f (take n l)
   take_shifted zero l = refl
@@ -166,7 +166,7 @@ module _ (k : ℕ) (low : 1 ≤ k) where
   out_shifted : (p : ℕ) (l : List Log) → take p (map f l) ++ (drop (suc p) (map f l) ++ (no_log ∷ [])) ≡ map f (take p l ++ (drop (suc p) l ++ (no_log ∷ [])))
   out_shifted p l =
       let tail : drop (suc p) (map f l) ++ (no_log ∷ []) ≡ map f (drop (suc p) l ++ (no_log ∷ [])) =
-      ap₂ (λ (a : List Log) (x : Log). a ++ (x ∷ [])) (drop_shifted (suc p) l) (sym no_log_law) ∙ sym (append_shifted (drop (suc p) l) (no_log ∷ [])) in
+      ap₂ (λ (a : List Log) (x : Log). a ++ (x ∷ [])) (drop_shifted (suc p) l) (sym no_log_lem) ∙ sym (append_shifted (drop (suc p) l) (no_log ∷ [])) in
       ap₂ (λ (a b : List Log). a ++ b) (take_shifted p l) tail ∙ sym (append_shifted (take p l) (drop (suc p) l ++ (no_log ∷ [])))
 
   remove_shifted : (p : ℕ) (l : List Log) → remove_at p (map f l) ≡ map f (remove_at p l)
@@ -203,23 +203,23 @@ module _ (k : ℕ) (low : 1 ≤ k) where
   kept r = refl
 
   -- a record with other logs
-  with_logs_law : (r : Record) (m l : List Log) → m ≡ map f l → accepted (with_logs (R r) m) ≡ there (accepted (with_logs r l))
+  with_logs_lem : (r : Record) (m l : List Log) → m ≡ map f l → accepted (with_logs (R r) m) ≡ there (accepted (with_logs r l))
   unfolding accepted with_logs shifted_record shifted_put
-  with_logs_law r m l e = ap (λ (t : List Log). accepted (with_logs r t)) e
+  with_logs_lem r m l e = ap (λ (t : List Log). accepted (with_logs r t)) e
 
   clear_shifted : (r : Record) (p : ℕ) (x : Log) → clear_of (R r) p (f x) ≡ there (clear_of r p x)
   unfolding clear_of shifted_record with_logs
-  clear_shifted r p x = choose there (ap not (pends_shifted p x r.logs)) (kept r) (with_logs_law r _ _ (remove_shifted p r.logs))
+  clear_shifted r p x = choose there (ap not (pends_shifted p x r.logs)) (kept r) (with_logs_lem r _ _ (remove_shifted p r.logs))
 
   unclear_shifted : (r : Record) (p : ℕ) (x : Log) → unclear_of (R r) p (f x) ≡ there (unclear_of r p x)
   unfolding unclear_of shifted_record with_logs
   unclear_shifted r p x =
       choose there (ap (λ (n : ℕ). ltb n p) (pending_shifted r.logs)) (kept r)
-      (choose there (ap (leb 4) (pending_shifted r.logs)) (kept r) (with_logs_law r _ _ (insert_shifted p x r.logs)))
+      (choose there (ap (leb 4) (pending_shifted r.logs)) (kept r) (with_logs_lem r _ _ (insert_shifted p x r.logs)))
 
-  with_state_law : (r : Record) (state : ℕ) → accepted (with_state (R r) state) ≡ there (accepted (with_state r state))
+  with_state_lem : (r : Record) (state : ℕ) → accepted (with_state (R r) state) ≡ there (accepted (with_state r state))
   unfolding accepted with_state with_logs shifted_record shifted_put
-  with_state_law r state = refl
+  with_state_lem r state = refl
 
   reset_shifted : (r : Record) (x : Log) → reset_of (R r) (f x) ≡ there (reset_of r x)
   unfolding reset_of shifted_record shifted_log with_logs with_state
@@ -227,8 +227,8 @@ module _ (k : ℕ) (low : 1 ≤ k) where
       let n = pending_of r.logs in
       let last : insert_at (pending_of (map f r.logs)) (f x) (map f r.logs) ≡ map f (insert_at n x r.logs) =
       ap (λ (m : ℕ). insert_at m (f x) (map f r.logs)) (pending_shifted r.logs) ∙ insert_shifted n x r.logs in
-      choose there (used_test x.id) (with_state_law r 1)
-      (choose there (ap (leb 4) (pending_shifted r.logs)) (kept r) (with_logs_law (with_state r 1) _ (insert_at n x r.logs) last))
+      choose there (used_test x.id) (with_state_lem r 1)
+      (choose there (ap (leb 4) (pending_shifted r.logs)) (kept r) (with_logs_lem (with_state r 1) _ (insert_at n x r.logs) last))
 
   unreset_shifted : (r : Record) (state made : ℕ) → unreset_of (R r) state made ≡ there (unreset_of r state made)
   unfolding unreset_of shifted_record with_logs with_state
@@ -236,32 +236,32 @@ module _ (k : ℕ) (low : 1 ≤ k) where
       let n = pending_of r.logs - 1 in
       let last : remove_at (pending_of (map f r.logs) - 1) (map f r.logs) ≡ map f (remove_at n r.logs) =
       ap (λ (m : ℕ). remove_at (m - 1) (map f r.logs)) (pending_shifted r.logs) ∙ remove_shifted n r.logs in
-      choose there {b = eqb made 0} refl (with_state_law r state)
-      (choose there (ap (λ (m : ℕ). eqb m 0) (pending_shifted r.logs)) (kept r) (with_logs_law (with_state r state) _ (remove_at n r.logs) last))
+      choose there {b = eqb made 0} refl (with_state_lem r state)
+      (choose there (ap (λ (m : ℕ). eqb m 0) (pending_shifted r.logs)) (kept r) (with_logs_lem (with_state r state) _ (remove_at n r.logs) last))
 
-  put_with_law : (r : Record) (t : Tables) (ch : Change) → put_with (R r) t (shifted_change k ch) ≡ there (put_with r t ch)
+  put_with_lem : (r : Record) (t : Tables) (ch : Change) → put_with (R r) t (shifted_change k ch) ≡ there (put_with r t ch)
   unfolding put_with shifted_change shifted_record shifted_put accepted with_state with_role with_caps with_throttles with_user with_thermal with_logs with_mask with_deadman with_areas
-  put_with_law r t (Clear place log) = clear_shifted r place log
-  put_with_law r t (Unclear place log) = unclear_shifted r place log
-  put_with_law r t (SetState state) = refl
-  put_with_law r t (SetRole got role) = refl
-  put_with_law r t (SetCaps got caps) = refl
-  put_with_law r t (SetUser user) = refl
-  put_with_law r t (SetThermal got) = refl
-  put_with_law r t (SetThrottles got) = refl
-  put_with_law r t (Reset log) = reset_shifted r log
-  put_with_law r t (Unreset state made) = unreset_shifted r state made
-  put_with_law r t (SetMask mask) = refl
-  put_with_law r t (SetDeadman deadman) = refl
-  put_with_law r t (SetAreas areas) = refl
-  put_with_law r t (SetTimer timer) = refl
+  put_with_lem r t (Clear place log) = clear_shifted r place log
+  put_with_lem r t (Unclear place log) = unclear_shifted r place log
+  put_with_lem r t (SetState state) = refl
+  put_with_lem r t (SetRole got role) = refl
+  put_with_lem r t (SetCaps got caps) = refl
+  put_with_lem r t (SetUser user) = refl
+  put_with_lem r t (SetThermal got) = refl
+  put_with_lem r t (SetThrottles got) = refl
+  put_with_lem r t (Reset log) = reset_shifted r log
+  put_with_lem r t (Unreset state made) = unreset_shifted r state made
+  put_with_lem r t (SetMask mask) = refl
+  put_with_lem r t (SetDeadman deadman) = refl
+  put_with_lem r t (SetAreas areas) = refl
+  put_with_lem r t (SetTimer timer) = refl
 
   pub applied_shifted : (base : Record) → R base ≡ base → (es : List Edit) → applied base (map (shifted_edit k) es) ≡ R (applied base es)
   unfolding applied put_of shifted_edit shifted_put
   applied_shifted base b [] = sym b
   applied_shifted base b (e ∷ es) =
       ap (λ (r : Record). (put_with r e.tables (shifted_change k e.change)).after) (applied_shifted base b es)
-      ∙ ap (λ (p : Changed). p.after) (put_with_law (applied base es) e.tables e.change)
+      ∙ ap (λ (p : Changed). p.after) (put_with_lem (applied base es) e.tables e.change)
 
   made_shifted : (x : Log) → made_by (f x) ≡ made_by x
   unfolding made_by shifted_log

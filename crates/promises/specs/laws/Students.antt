@@ -45,7 +45,7 @@ use Rattle.watch_call.specs.Watch.{watch_asks, watch_call}
 use Rattle.promises.specs.Calls.{Call, occ, sbe, undo, redo, forget, time, asks, said}
 use Rattle.promises.specs.Demand2.{Newest}
 use Rattle.promises.specs.Sittings.{Act, calls, watch, handed, Unbroken}
-use Rattle.promises.specs.laws.Moves.{clear_of_law}
+use Rattle.promises.specs.laws.Moves.{clear_of_lem}
 use Rattle.promises.specs.laws.OccWalk.{judged, final, asked_by, occ_walk}
 use Rattle.promises.specs.laws.Profiles.{clear_makes_none}
 use Rattle.promises.specs.laws.UndoDemands.{Called, ill_formed, empty, barred, goes, called}
@@ -120,7 +120,7 @@ module _ (s : Session) (on : s.profile ≡ 1) where
         let says : kind_of e.change ≡ n.entry.kind = (subst (λ (x : Found). Says w n.entry.kind x) n.change (found_says w n.entry.kind n.entry.body)).0 in
         ⊎_elim (λ z. absurd (not_full z))
         (λ h.
-        let all = clear_of_law s w h.1 h.2 in
+        let all = clear_of_lem s w h.1 h.2 in
         says ∙ (clears_first n.entry n.older (sym (ap only_clears (entries_read (used_of w s) (store_of w s) (n.entry ∷ n.older) n.read)) ∙ all)).0)
         (formed s ok).profile_is
 

@@ -36,7 +36,7 @@ use Rattle.undo_call.specs.Undo.{put_asks, edit_asks, found_asks, got_asks, entr
 use Rattle.undo_call.specs.laws.NoneLeft.{none_zero}
 use Rattle.promises.specs.Demand1.{MoveAnswer, UndoAnswer, RedoAnswer}
 use Rattle.promises.specs.Demand2.{Newest, GoesIn, Movable, MoveAccepted, UndoAccepted, RedoAccepted}
-use Rattle.promises.specs.laws.FormedStores.{all_parts, store_of_law}
+use Rattle.promises.specs.laws.FormedStores.{all_parts, store_of_lem}
 use Rattle.session.specs.laws.Reads.{reads}
 
 -- ---- what can be put in
@@ -126,7 +126,7 @@ module _ (w : Way) (s : Session) where
         (λ g. goes x e n (exactly.0 (not-false _ h), not-false _ g)))
 
     whole : length used_part ≡ used_of w s
-    whole = length-take-le (used_of w s) (store_of w s) (store_of_law s (formed s x) w).fits
+    whole = length-take-le (used_of w s) (store_of w s) (store_of_lem s (formed s x) w).fits
 
     -- entries that were read, the newest first
     module _ (y : Entry) (es : List Entry) (read : scan used_part ≡ between (y ∷ es)) (good : all_ok w (y ∷ es) ≡ true) where
@@ -176,7 +176,7 @@ module _ (w : Way) (s : Session) where
   called =
       cond_cases Called (not (well_formed s)) (λ f. ill_formed (λ x. true≢false (sym x ∙ not-true _ f)))
       (λ f. let x = not-false _ f in
-      let r = reads w used_part (store_of_law s (formed s x) w).reads in
+      let r = reads w used_part (store_of_lem s (formed s x) w).reads in
       cond_cases Called (eqb (used_of w s) 0) (λ z. empty x (eqb-true (used_of w s) 0 z)) (λ z. called_read x r.entries (eqb-false (used_of w s) 0 z) r.scanned r.good))
 
   -- ---- demand 2

@@ -45,7 +45,7 @@ module _ (s : Session) where
         journal_is = (refl, refl);
         redo_is = (refl, refl);
         marks_are = refl;
-        watch_only_law = refl;
+        watch_only_lem = refl;
       }
 
   pub watch_effect : well_formed s ≡ true → ((watch_call s).answer ≡ 0) × WatchEffect s (watch_call s).session

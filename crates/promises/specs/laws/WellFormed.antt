@@ -35,7 +35,7 @@ use Rattle.time_call.specs.Time.{time_asks, time_call}
 use Rattle.undo_call.specs.Undo.{move_asks, move_call, undo_call, redo_call}
 use Rattle.links.specs.Typed.{TypedSession}
 use Rattle.links.specs.laws.Made.{Made}
-use Rattle.links.specs.laws.Entry.{entry_ok_law}
+use Rattle.links.specs.laws.Entry.{entry_ok_lem}
 use Rattle.links.specs.laws.Links.{Link, link}
 use Rattle.promises.specs.laws.FormedStores.{none_clears, one_more, more_clears}
 use Rattle.promises.specs.laws.Moves.{timer_after_ok, moved_formed}
@@ -53,7 +53,7 @@ written_timed : (t : Timer) → timer_ok t ≡ true → t.left < 256 ^ 8 → (ta
 unfolding edit_ok change_ok
 written_timed t ok fits tables =
     timed_cases t (λ (a b : Change). Written tables a → Written tables b)
-    (λ x h. let w : Writable Before tables (SetTimer t) = (fits, h.writable.1) in record { writable = w; good = entry_ok_law Before (record { change = SetTimer t; tables = tables }) w ok })
+    (λ x h. let w : Writable Before tables (SetTimer t) = (fits, h.writable.1) in record { writable = w; good = entry_ok_lem Before (record { change = SetTimer t; tables = tables }) w ok })
     (λ ch n h. h)
 
 module _ (s : Session) (f : Formed s) (typed : TypedSession s) (e : Edit) (m : Made s.held s.next e.tables e.change) (fits : (carried_of s e).full ≡ false) where
@@ -61,12 +61,12 @@ module _ (s : Session) (f : Formed s) (typed : TypedSession s) (e : Edit) (m : M
   b = takes_back s.held s.timer e
 
   l : Link s.held s.next e
-  l = link s.held s.next e f.record_ok_law typed.held m
+  l = link s.held s.next e f.record_ok_lem typed.held m
 
   back_written : Written b.tables b.change
   unfolding takes_back timed
   back_written =
-      written_timed s.timer f.timer_ok_law typed.timer (inverse_of s.held e).tables (inverse_of s.held e).change (record { writable = l.back_writable; good = l.entry_good })
+      written_timed s.timer f.timer_ok_lem typed.timer (inverse_of s.held e).tables (inverse_of s.held e).change (record { writable = l.back_writable; good = l.entry_good })
 
   pub back_writable : Writable Before b.tables b.change
   back_writable = back_written.writable
@@ -84,7 +84,7 @@ module _ (s : Session) (f : Formed s) (typed : TypedSession s) (e : Edit) (m : M
 
   timer_passes : timer_ok (timer_after s.timer e.change) ≡ true
   unfolding change_ok
-  timer_passes = timer_after_ok (Made s.held s.next e.tables) (λ x h. h.ok) s.timer f.timer_ok_law e.change m
+  timer_passes = timer_after_ok (Made s.held s.next e.tables) (λ x h. h.ok) s.timer f.timer_ok_lem e.change m
 
   -- the entry has the change's kind
   back_kind : (entry_for b).kind ≡ kind_of e.change
@@ -105,9 +105,9 @@ module _ (s : Session) (f : Formed s) (typed : TypedSession s) (e : Edit) (m : M
   carried_formed lets =
       ap well_formed session_is
       ∙ formed_ok after (record {
-        record_ok_law = l.put_sound;
+        record_ok_lem = l.put_sound;
         worked_is = refl;
-        timer_ok_law = timer_passes;
+        timer_ok_lem = timer_passes;
         both_fit = omega (arith, room, typed.journal);
         journal = one_more Before s.journal s.used f.journal b back_writable back_written.good room;
         marks_are = refl;
@@ -137,7 +137,7 @@ module _ (s : Session) (typed : TypedSession s) (whole : well_formed s ≡ true)
 module _ (s : Session) (typed : TypedSession s) (whole : well_formed s ≡ true) where
   pub occ_formed : (sender : ℕ) (c d : List ℕ) → Bytes c → well_formed (occ_call s sender c d).session ≡ true
   unfolding occ_call
-  occ_formed sender c d bytes = asked_formed s typed whole d (occ_asks s sender c d) (occ_sound s (formed s whole).record_ok_law typed.held sender c d bytes)
+  occ_formed sender c d bytes = asked_formed s typed whole d (occ_asks s sender c d) (occ_sound s (formed s whole).record_ok_lem typed.held sender c d bytes)
 
   pub sbe_formed : (r d m x : List ℕ) → Bytes r → well_formed (sbe_call s r d m x).session ≡ true
   unfolding sbe_call

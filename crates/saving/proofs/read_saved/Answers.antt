@@ -1,11 +1,11 @@
 use native.Mathlib.Omega.{arith}
 use Rattle.wire.specs.laws.Wire.{bytes_of}
-use Rattle.saving.proofs.Calls.{saved_length_law, saved_kinds, saved_found}
+use Rattle.saving.proofs.Calls.{saved_length_lem, saved_kinds, saved_found}
 use Rattle.wire.specs.laws.Pairs.{first_of_two, second_of_two}
 use Rattle.saving.proofs.read_saved.Goals as goal
 
 pub returns-then-b-ne-SAVED : goal.returns-then-b-ne-SAVED
-returns-then-b-ne-SAVED c = record { value = first_of_two (saved_length_law c.args.b.now c.args.d.now c.if-b-ne-SAVED.true); d_after = second_of_two (saved_length_law c.args.b.now c.args.d.now c.if-b-ne-SAVED.true) }
+returns-then-b-ne-SAVED c = record { value = first_of_two (saved_length_lem c.args.b.now c.args.d.now c.if-b-ne-SAVED.true); d_after = second_of_two (saved_length_lem c.args.b.now c.args.d.now c.if-b-ne-SAVED.true) }
 
 pub returns-then-not-kinds_ok : goal.returns-then-not-kinds_ok
 returns-then-not-kinds_ok c = record { value = first_of_two (saved_kinds c.args.b.now c.if-b-ne-SAVED.false _ c.kinds_ok.ensures c.args.d.now c.if-not-kinds_ok.true-raw); d_after = second_of_two (saved_kinds c.args.b.now c.if-b-ne-SAVED.false _ c.kinds_ok.ensures c.args.d.now c.if-not-kinds_ok.true-raw) }

@@ -28,7 +28,7 @@ use Rattle.image.specs.Image.{part_at, record_rows, record_in}
 use Rattle.image.specs.laws.Image.{Typed, number_back}
 use Rattle.saving.specs.Forms.{base_head, base_most, base_rows, base_of, padded, session_of_base, used_in}
 use Rattle.saving.specs.Moves.{goes_down}
-use Rattle.saving.specs.laws.Record.{length_record, record_back, record_typed, record_again, worked_fits_law}
+use Rattle.saving.specs.laws.Record.{length_record, record_back, record_typed, record_again, worked_fits_lem}
 use Rattle.saving.specs.laws.Forms.{zeros_are, number, fits}
 
 pub length_padded : (j : List ℕ) → length j ≤ 2048 → length (padded j) ≡ 2048
@@ -80,7 +80,7 @@ module _ (b : List ℕ) (bytes : Bytes b) (long : base_head ≤ length b) where
           marks = length_marks _;
           timer = lit< tt;
         };
-        limit = worked_fits_law (record_in b) held;
+        limit = worked_fits_lem (record_in b) held;
       }
 
   -- writing what was read gives the bytes
@@ -164,6 +164,6 @@ module _ (s : Session) (t : TypedSession s) where
         redo = no-redo i;
         ahead = sym empty i;
         marks = (ap (λ (j : List ℕ). marks_of (entries_of (scan j))) journal_part ∙ sym f.marks_are) i;
-        timer = record { running = sym off i; left = sym (clock_off s.timer.running s.timer.left f.timer_ok_law off) i };
+        timer = record { running = sym off i; left = sym (clock_off s.timer.running s.timer.left f.timer_ok_lem off) i };
         profile = sym (eqb-true s.profile 0 d2.0) i;
       }

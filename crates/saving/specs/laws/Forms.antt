@@ -24,7 +24,7 @@ use Rattle.image.specs.Image.{byte, byte_at, part_at, number_at, record_in}
 use Rattle.image.specs.laws.Rows.{length_joined, rows_joined, joined_rows}
 use Rattle.image.specs.laws.Image.{Typed, byte_back, number_back}
 use Rattle.saving.specs.Forms.{saved_length, saved_rows, saved_of, kinds_ok, used_in, timer_from, session_of_saved}
-use Rattle.saving.specs.laws.Record.{length_record, record_back, record_typed, record_again, worked_fits_law}
+use Rattle.saving.specs.laws.Record.{length_record, record_back, record_typed, record_again, worked_fits_lem}
 
 -- ---- a store's used length is read off its entries
 
@@ -166,7 +166,7 @@ module _ (b : List ℕ) (bytes : Bytes b) where
         marks = part_long 64 4333 (inside 4333 64 (lit< tt));
         timer = fits 8 4401 (inside 4401 8 (lit< tt));
       };
-      limit = worked_fits_law (record_in (drop 1 b)) (record_typed (drop 1 b) (bytes_drop 1 b bytes) behind);
+      limit = worked_fits_lem (record_in (drop 1 b)) (record_typed (drop 1 b) (bytes_drop 1 b bytes) behind);
     }
 
     module _ (kinds : kinds_ok b ≡ true) where

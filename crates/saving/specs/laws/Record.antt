@@ -148,6 +148,6 @@ limit_fits role got user caps f u =
     (cond_elim Small (eqb got 0) (omega arith)
     (cond_elim Small (eqb user 0) f.max (cond_elim Small (ltb user caps.min) f.min (cond_elim Small (ltb caps.max user) f.max u))))
 
-pub worked_fits_law : (r : Record) → TypedRecord r → (worked_of r).limit < 256 ^ 2
+pub worked_fits_lem : (r : Record) → TypedRecord r → (worked_of r).limit < 256 ^ 2
 unfolding worked_of
-worked_fits_law r t = limit_fits r.role r.received.caps r.user r.caps t.caps t.user
+worked_fits_lem r t = limit_fits r.role r.received.caps r.user r.caps t.caps t.user

@@ -238,8 +238,8 @@ module _ (r : List ℕ) where
     unfolding start_or_stop
     stop_flag e = let other : flags_of r % 0x0100 ≡ 0x01 → ⊥ = λ z. omega (arith, e) in else_le _ _ h (else_eq _ _ other (if_eq _ _ e refl))
 
-  plain_flags_law : (v : Ruling) → Plain (flags_of r) → v ≡ cond (not (plain_flags (flags_of r))) (Decline 0x02 0x19) v
-  plain_flags_law v p = else_b _ _ (ap not ((plain_exactly (flags_of r)).1 p)) refl
+  plain_flags_lem : (v : Ruling) → Plain (flags_of r) → v ≡ cond (not (plain_flags (flags_of r))) (Decline 0x02 0x19) v
+  plain_flags_lem v p = else_b _ _ (ap not ((plain_exactly (flags_of r)).1 p)) refl
 
   pub deadman_start : Names 0xD1 0x01 r → flags_of r < 0x0400 → flags_of r % 0x0100 ≡ 0x01 → request_ruling r ≡ Grant (SetDeadman (start_asked r))
   unfolding request_for core_state deadman_of
@@ -251,17 +251,17 @@ module _ (r : List ℕ) where
 
   pub exit_done : ExitAsked r → request_ruling r ≡ Done
   unfolding request_for core_state exit_of
-  exit_done a = named a.0 ∙ sym (plain_flags_law _ a.1)
+  exit_done a = named a.0 ∙ sym (plain_flags_lem _ a.1)
 
   pub cores_set : CoresAsked r → request_ruling r ≡ Grant (SetMask (word_at 8 r))
   unfolding request_for core_state cores_of
-  cores_set a = named a.0 ∙ sym (plain_flags_law _ a.1)
+  cores_set a = named a.0 ∙ sym (plain_flags_lem _ a.1)
 
   pub ring_done : RingAsked r → request_ruling r ≡ Done
   unfolding request_for ring_class ring_of ring_at
   ring_done a =
       named a.names
-      ∙ sym (plain_flags_law _ a.flags)
+      ∙ sym (plain_flags_lem _ a.flags)
       ∙ sym (else_lt _ _ a.target (else_b _ _ (ap not ((known_exactly (target_of r) (chiplet_of r)).1 a.chiplet)) refl))
 
   pub timer_started : Names 0xD4 0x01 r → flags_of r < 0x0400 → flags_of r % 0x0100 ≡ 0x01 → request_ruling r ≡ Grant (SetTimer (timer_start r))
@@ -274,13 +274,13 @@ module _ (r : List ℕ) where
 
   pub read_asked : ReadAsked r → request_ruling r ≡ Read (word_at 8 r) (word_at 12 r)
   unfolding request_for general seeprom_of
-  read_asked a = named a.0 ∙ sym (plain_flags_law _ a.1)
+  read_asked a = named a.0 ∙ sym (plain_flags_lem _ a.1)
 
   pub areas_set : AreasAsked r → request_ruling r ≡ Grant (SetAreas (areas_asked r))
   unfolding request_for general areas_of areas_at
   areas_set a =
       named a.names
-      ∙ sym (plain_flags_law _ a.flags)
+      ∙ sym (plain_flags_lem _ a.flags)
       ∙ sym (else_ne _ _ (fine_status _ _ a.ffdc) (else_ne _ _ (fine_status _ _ a.pass) refl))
 
   -- ---- what holds of the changes that the four commands make holds of the change made

@@ -19,9 +19,9 @@ use Rattle.sbe.specs.Conditions.{AreaFine}
 
 -- ---- a change made is one that a well-formed record could hold
 
-area_ok_law : (address size : ℕ) → AreaFine address size → area_ok (area_of address size) ≡ true
+area_ok_lem : (address size : ℕ) → AreaFine address size → area_ok (area_of address size) ≡ true
 unfolding area_of area_ok multiple_of128 in_memory
-area_ok_law address size f = go (eqb size 0) refl
+area_ok_lem address size f = go (eqb size 0) refl
   where
     go : (t : Bool) → eqb size 0 ≡ t → area_ok (cond t no_area (record { address = address; size = size })) ≡ true
     go true e = refl
@@ -29,9 +29,9 @@ area_ok_law address size f = go (eqb size 0) refl
         let h = ⊎_elim (λ z. absurd (eqb-false size 0 e z)) (λ h. h) f in
         sym (else_b _ _ e (sym (hold_both (eq-eqb (address % 128) 0 h.0) (hold_both (le-leb (address + size) (2 ^ 64) h.1) (eq-eqb (size % 128) 0 h.2)))))
 
-pub change_ok_law : (r : List ℕ) (ch : Change) → request_ruling r ≡ Grant ch → change_ok no_tables ch ≡ true
+pub change_ok_lem : (r : List ℕ) (ch : Change) → request_ruling r ≡ Grant ch → change_ok no_tables ch ≡ true
 unfolding change_ok deadman_ok timer_ok clock_ok flag_ok areas_ok
-change_ok_law r = of_change r (λ (ch : Change). change_ok no_tables ch ≡ true) refl refl refl refl refl (λ a. hold_both (area_ok_law _ _ a.ffdc) (area_ok_law _ _ a.pass))
+change_ok_lem r = of_change r (λ (ch : Change). change_ok no_tables ch ≡ true) refl refl refl refl refl (λ a. hold_both (area_ok_lem _ _ a.ffdc) (area_ok_lem _ _ a.pass))
 
 -- ---- its numbers are of their widths
 

@@ -188,9 +188,9 @@ module _ (r : List ℕ) where
       (λ a. other known
       (not_core (differ 0xD3 0xD1 refl e) (⊎_elim (λ h. eqb-false command 0x01 a h.1) (⊎_elim timer (⊎_elim (apart 0xD3 0xD7 0x03 refl e) (apart 0xD3 0xD7 0x04 refl e))))))
 
-  timer_rows_law : class ≡ 0xD4 → ToldSo (timer_class command r)
+  timer_rows_lem : class ≡ 0xD4 → ToldSo (timer_class command r)
   unfolding timer_class timer_of
-  timer_rows_law e =
+  timer_rows_lem e =
       let known = classed 0xD4 (lit≤ tt) (lit≤ tt) e in
       cond_cases ToldSo (eqb command 0x01)
       (λ a. let n : Names 0xD4 0x01 r = (e, eqb-true command 0x01 a) in two_flags known (inr (inr (inr (inr (inl n))))) _ _ (inr n))
@@ -222,7 +222,7 @@ module _ (r : List ℕ) where
       cond_cases ToldSo (ltb class 0xD3) (λ b. unknown (core, inl (ltb-true class 0xD3 b)))
       (λ b. cond_cases ToldSo (ltb 0xD7 class) (λ c. unknown (core, inr (ltb-true 0xD7 class c)))
       (λ c. cond_cases ToldSo (eqb class 0xD3) (λ d. ring_rows (eqb-true class 0xD3 d))
-      (λ d. cond_cases ToldSo (eqb class 0xD4) (λ f. timer_rows_law (eqb-true class 0xD4 f))
+      (λ d. cond_cases ToldSo (eqb class 0xD4) (λ f. timer_rows_lem (eqb-true class 0xD4 f))
       (λ f. cond_cases ToldSo (eqb class 0xD7) (λ g. general_rows (eqb-true class 0xD7 g))
       (λ g. other (λ h. ⊎_elim (λ k. not-le_of_lt k (ltb-false class 0xD3 b)) (λ k. not-le_of_lt k (ltb-false 0xD7 class c)) h.1)
       (not_core core (⊎_elim (λ h. eqb-false class 0xD3 d h.0) (⊎_elim (λ h. eqb-false class 0xD4 f h.0)

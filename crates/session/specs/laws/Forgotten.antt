@@ -121,9 +121,9 @@ forgotten_formed n s whole =
     ∙ clears_take (length r.entries - n) r.entries (sym (ap only_clears (entries_read s.used s.journal r.entries r.scanned)) ∙ j) in
     formed_ok (forgotten n s)
     (record {
-      record_ok_law = f.record_ok_law;
+      record_ok_lem = f.record_ok_lem;
       worked_is = refl;
-      timer_ok_law = f.timer_ok_law;
+      timer_ok_lem = f.timer_ok_lem;
       both_fit = omega (arith, f.both_fit);
       journal = subst (λ (k : ℕ). Store Before (moved_down k s.journal) (s.used - k)) (sym is) stands;
       marks_are = refl;

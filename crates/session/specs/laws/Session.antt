@@ -42,9 +42,9 @@ worked_same a b h =
     let w = eqb-true a.wanted b.wanted r.1 in
     λ i. record { limit = l i; observation = o i; active = c i; wanted = w i }
 
-pub worked_fits_law : (a : Worked) → worked_fits a a ≡ true
+pub worked_fits_lem : (a : Worked) → worked_fits a a ≡ true
 unfolding worked_fits
-worked_fits_law a =
+worked_fits_lem a =
     sym (else_ne _ _ {m = a.limit} {n = a.limit} refl
     (else_ne _ _ {m = a.observation} {n = a.observation} refl
     (else_ne _ _ {m = a.active} {n = a.active} refl (sym (eq-eqb a.wanted a.wanted refl)))))
@@ -62,9 +62,9 @@ store w j used h =
     let t = both_hold (entries_ok w (take used j)) _ r.1 in
     record { fits = r.0; reads = t.0; unused = t.1 }
 
-pub store_ok_law : (w : Way) (j : List ℕ) (used : ℕ) → Store w j used → store_ok w j used ≡ true
+pub store_ok_lem : (w : Way) (j : List ℕ) (used : ℕ) → Store w j used → store_ok w j used ≡ true
 unfolding store_ok
-store_ok_law w j used f = sym (else_lt _ _ {m = length j} {n = used} f.fits (sym (hold_both f.reads f.unused)))
+store_ok_lem w j used f = sym (else_lt _ _ {m = length j} {n = used} f.fits (sym (hold_both f.reads f.unused)))
 
 pub record Stores (s : Session) : Type 0 where
   pub both_fit : s.used + s.ahead ≤ 2048
@@ -90,17 +90,17 @@ profile p js rs =
     cond_cases (λ (x : Bool). x ≡ true → Profile p js rs) (eqb p 0) (λ t h. inl (eqb-true p 0 t))
     (λ t h. let one = both_hold (eqb p 1) _ h in let clears = both_hold (only_clears js) _ one.1 in inr (eqb-true p 1 one.0, clears.0, clears.1))
 
-profile_ok_law : (p : ℕ) (js rs : List Entry) → Profile p js rs → profile_ok p js rs ≡ true
+profile_ok_lem : (p : ℕ) (js rs : List Entry) → Profile p js rs → profile_ok p js rs ≡ true
 unfolding profile_ok
-profile_ok_law p js rs (inl z) = sym (if_eq _ _ z refl)
-profile_ok_law p js rs (inr h) =
+profile_ok_lem p js rs (inl z) = sym (if_eq _ _ z refl)
+profile_ok_lem p js rs (inr h) =
     let z : p ≡ 0 → ⊥ = λ z. omega (arith, z, h.0) in
     sym (else_eq _ _ {m = p} {n = 0} z (sym (hold_both (eq-eqb p 1 h.0) (hold_both h.1 h.2))))
 
 pub record Formed (s : Session) : Type 0 where
-  pub record_ok_law : record_ok s.held s.next ≡ true
+  pub record_ok_lem : record_ok s.held s.next ≡ true
   pub worked_is : s.worked ≡ worked_of s.held
-  pub timer_ok_law : timer_ok s.timer ≡ true
+  pub timer_ok_lem : timer_ok s.timer ≡ true
   pub both_fit : s.used + s.ahead ≤ 2048
   pub journal : Store Before s.journal s.used
   pub marks_are : s.marks ≡ marks_for s.journal s.used
@@ -116,9 +116,9 @@ formed s h =
     let rest = both_hold (stores_ok s) _ timer.1 in
     let r = stores s rest.0 in
     record {
-      record_ok_law = q.0;
+      record_ok_lem = q.0;
       worked_is = sym (worked_same _ _ q.1);
-      timer_ok_law = timer.0;
+      timer_ok_lem = timer.0;
       both_fit = r.both_fit;
       journal = r.journal;
       marks_are = r.marks_are;
@@ -130,15 +130,15 @@ pub formed_ok : (s : Session) → Formed s → well_formed s ≡ true
 unfolding well_formed held_ok stores_ok
 formed_ok s f =
     hold_both
-    (hold_both f.record_ok_law (ap (worked_fits (worked_of s.held)) f.worked_is ∙ worked_fits_law (worked_of s.held)))
-    (hold_both f.timer_ok_law
+    (hold_both f.record_ok_lem (ap (worked_fits (worked_of s.held)) f.worked_is ∙ worked_fits_lem (worked_of s.held)))
+    (hold_both f.timer_ok_lem
     (hold_both
-    (sym (else_lt _ _ {m = 2048} {n = s.used + s.ahead} f.both_fit (sym (hold_both (store_ok_law Before _ _ f.journal) (hold_both (ap (same s.marks) (sym f.marks_are) ∙ is_same s.marks) (store_ok_law After _ _ f.redo))))))
-    (profile_ok_law s.profile _ _ f.profile_is)))
+    (sym (else_lt _ _ {m = 2048} {n = s.used + s.ahead} f.both_fit (sym (hold_both (store_ok_lem Before _ _ f.journal) (hold_both (ap (same s.marks) (sym f.marks_are) ∙ is_same s.marks) (store_ok_lem After _ _ f.redo))))))
+    (profile_ok_lem s.profile _ _ f.profile_is)))
 
 pub formed_next : (s : Session) → well_formed s ≡ true → s.next ≤ 256
 unfolding next_ok
-formed_next s h = leb-true s.next 256 (ltb_hold s.next 1 _ (sound (formed s h).record_ok_law).next).1
+formed_next s h = leb-true s.next 256 (ltb_hold s.next 1 _ (sound (formed s h).record_ok_lem).next).1
 
 -- a refusal that begins with answer 1 is none only of a well-formed session
 pub none_due : (b : Bool) (n : ℕ) → cond (not b) 1 n ≡ 0 → b ≡ true

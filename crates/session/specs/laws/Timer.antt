@@ -25,7 +25,7 @@ pub timer_formed : (s : Session) (t : Timer) → well_formed s ≡ true → time
 unfolding with_timer
 timer_formed s t whole ok =
     let f = formed s whole in
-    formed_ok (with_timer s t) (record { record_ok_law = f.record_ok_law; worked_is = f.worked_is; timer_ok_law = ok; both_fit = f.both_fit; journal = f.journal; marks_are = f.marks_are; redo = f.redo; profile_is = f.profile_is })
+    formed_ok (with_timer s t) (record { record_ok_lem = f.record_ok_lem; worked_is = f.worked_is; timer_ok_lem = ok; both_fit = f.both_fit; journal = f.journal; marks_are = f.marks_are; redo = f.redo; profile_is = f.profile_is })
 
 -- one that runs may have any time left
 runs_ok : (t : Timer) (left : ℕ) → timer_ok t ≡ true → eqb t.running 0 ≡ false → timer_ok (record { running = t.running; left = left }) ≡ true
@@ -46,7 +46,7 @@ ticked_ok n t ok =
 
 pub passed_formed : (n : ℕ) (s : Session) → well_formed s ≡ true → well_formed (time_passed n s) ≡ true
 unfolding time_passed
-passed_formed n s whole = timer_formed s (ticked n s.timer) whole (ticked_ok n s.timer (formed s whole).timer_ok_law)
+passed_formed n s whole = timer_formed s (ticked n s.timer) whole (ticked_ok n s.timer (formed s whole).timer_ok_lem)
 
 -- after carrying out, the timer is the one that the change sets
 pub carried_timer : (s : Session) (e : Edit) → (carried_of s e).full ≡ false → (carried_of s e).session.timer ≡ timer_after s.timer e.change

@@ -62,9 +62,9 @@ watch_formed s whole =
     let f = formed s whole in
     formed_ok (watch_only s)
     (record {
-      record_ok_law = f.record_ok_law;
+      record_ok_lem = f.record_ok_lem;
       worked_is = refl;
-      timer_ok_law = f.timer_ok_law;
+      timer_ok_lem = f.timer_ok_lem;
       both_fit = omega arith;
       journal = none_used Before 2048;
       marks_are = refl;

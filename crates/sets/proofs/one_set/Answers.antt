@@ -1,4 +1,4 @@
--- `one_set_law` meets its contract: its tests are those of `one_set`, in that order.
+-- `one_set_lem` meets its contract: its tests are those of `one_set`, in that order.
 use Rattle.wire.specs.laws.Cases.{if_lt, else_lt, if_ne, else_ne}
 use Rattle.sets.specs.Sets.{bit_of, one_set}
 use Rattle.sets.proofs.Stored.{pair_below, bit_fits, set_refused, pair_stored}

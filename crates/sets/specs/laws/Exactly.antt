@@ -191,10 +191,10 @@ sets_read t = t.ok
 abbrev pub pairs_held : Sets → ℕ
 pairs_held t = t.table.present
 
-pub one_set_law : (t : Sets) (s : List ℕ)
+pub one_set_lem : (t : Sets) (s : List ℕ)
     → Ends sets_read (one_set t s) ((t.ok ≡ true) and (get_or s 0 0 ≤ 7) and (get_or s 1 0 ≤ 1) and (bit_of t.table.present (pair_of s) ≡ 0)) (with_pair t (pair_of s) (take 10 (drop 2 s)))
 unfolding one_set bad_sets with_pair
-one_set_law t s =
+one_set_lem t s =
     ends_on sets_read t
     (ends_unless sets_read refl (lt_passes _ _)
     (ends_unless sets_read refl (lt_passes _ _)
@@ -202,7 +202,7 @@ one_set_law t s =
 
 pub set_stepped : Stepped sets_parted sets_read pairs_held InPairs pair_of
 unfolding with_pair
-set_stepped = record { exactly = λ t s. grouped (one_set_law t s).exactly; adds = λ t s h. ap pairs_held ((one_set_law t s).is h) }
+set_stepped = record { exactly = λ t s. grouped (one_set_lem t s).exactly; adds = λ t s h. ap pairs_held ((one_set_lem t s).is h) }
 
 pub sets_exactly : (n : ℕ) (l : List ℕ) → ((sets_of n empty_sets l).ok ≡ true) ↔ SetsOk n l
 unfolding SetsOk empty_sets
@@ -214,10 +214,10 @@ frus_read t = t.ok
 abbrev pub frus_held : Frus → ℕ
 frus_held t = t.seen
 
-pub one_fru_law : (t : Frus) (s : List ℕ)
+pub one_fru_lem : (t : Frus) (s : List ℕ)
     → Ends frus_read (one_fru t s) ((t.ok ≡ true) and (get_or s 0 0 ≤ 2) and InOrder (get_or s 1 0) (get_or s 2 0) and (bit_of t.seen (fru_of s) ≡ 0)) (with_fru t (fru_of s) (take 3 (drop 1 s)))
 unfolding one_fru bad_frus with_fru
-one_fru_law t s =
+one_fru_lem t s =
     ends_on frus_read t
     (ends_unless frus_read refl (lt_passes _ _)
     (ends_unless frus_read refl (not_passes (order_exactly _ _))
@@ -225,7 +225,7 @@ one_fru_law t s =
 
 pub fru_stepped : Stepped frus_parted frus_read frus_held InFrus fru_of
 unfolding with_fru
-fru_stepped = record { exactly = λ t s. grouped (one_fru_law t s).exactly; adds = λ t s h. ap frus_held ((one_fru_law t s).is h) }
+fru_stepped = record { exactly = λ t s. grouped (one_fru_lem t s).exactly; adds = λ t s h. ap frus_held ((one_fru_lem t s).is h) }
 
 pub frus_exactly : (n : ℕ) (l : List ℕ) → ((frus_of n empty_frus l).ok ≡ true) ↔ FrusOk n l
 unfolding FrusOk empty_frus

@@ -15,7 +15,7 @@ use Rattle.sets.specs.declared.Frus.{Frus}
 use Rattle.sets.specs.Sets.{bit_of, empty_sets, with_pair, one_set, sets_of, empty_frus, with_fru, one_fru, frus_of}
 use Rattle.sets.specs.Conditions.{set_at, InPairs, pair_of, SentPairs, InFrus, fru_of, SentFrus}
 use Rattle.sets.specs.laws.Sets.{Parted, sets_parted, frus_parted, paste_past, past_front, sets_formed, frus_formed}
-use Rattle.sets.specs.laws.Exactly.{bit_none, bit_added, bit_kept, Stepped, all_exactly, sets_read, pairs_held, one_set_law, set_stepped, frus_read, frus_held, one_fru_law, fru_stepped}
+use Rattle.sets.specs.laws.Exactly.{bit_none, bit_added, bit_kept, Stepped, all_exactly, sets_read, pairs_held, one_set_lem, set_stepped, frus_read, frus_held, one_fru_lem, fru_stepped}
 
 -- ---- parts of k bytes
 
@@ -151,10 +151,10 @@ PairsLong t = length t.table.sets ≡ 160
 
 module _ (t : Sets) (s : List ℕ) (whole : length s ≡ 12) (long : PairsLong t) (read : (one_set t s).ok ≡ true) where
   set_conditions : (t.ok ≡ true) and (get_or s 0 0 ≤ 7) and (get_or s 1 0 ≤ 1) and (bit_of t.table.present (pair_of s) ≡ 0)
-  set_conditions = (one_set_law t s).exactly.0 read
+  set_conditions = (one_set_lem t s).exactly.0 read
 
   set_is : one_set t s ≡ with_pair t (pair_of s) (drop 2 s)
-  set_is = (one_set_law t s).is read ∙ ap (with_pair t (pair_of s)) (rest_taken 10 2 s whole).0
+  set_is = (one_set_lem t s).is read ∙ ap (with_pair t (pair_of s)) (rest_taken 10 2 s whole).0
 
   pair_room : suc (pair_of s) * 10 ≤ length t.table.sets
   pair_room = omega (arith, set_conditions.1.0, set_conditions.1.1.0, long)
@@ -205,10 +205,10 @@ FrusLong t = length t.bytes ≡ 9
 
 module _ (t : Frus) (s : List ℕ) (whole : length s ≡ 4) (long : FrusLong t) (read : (one_fru t s).ok ≡ true) where
   fru_is : one_fru t s ≡ with_fru t (fru_of s) (drop 1 s)
-  fru_is = (one_fru_law t s).is read ∙ ap (with_fru t (fru_of s)) (rest_taken 3 1 s whole).0
+  fru_is = (one_fru_lem t s).is read ∙ ap (with_fru t (fru_of s)) (rest_taken 3 1 s whole).0
 
   fru_room : suc (fru_of s) * 3 ≤ length t.bytes
-  fru_room = omega (arith, ((one_fru_law t s).exactly.0 read).1.0, long)
+  fru_room = omega (arith, ((one_fru_lem t s).exactly.0 read).1.0, long)
 
   fru_stored : fru_in (one_fru t s) (fru_of s) ≡ drop 1 s
   unfolding with_fru

@@ -1,10 +1,10 @@
 use native.Mathlib.Omega.{arith}
 use Rattle.inplace.specs.laws.InPlace.{stands}
-use Rattle.time_call.proofs.Passing.{no_image_law, ill_formed, passed_in_law}
+use Rattle.time_call.proofs.Passing.{no_image_lem, ill_formed, passed_in_lem}
 use Rattle.time_call.proofs.time.Goals as goal
 
 pub returns-then-lent-ne-IMAGE : goal.returns-then-lent-ne-IMAGE
-returns-then-lent-ne-IMAGE c = no_image_law c.args.n c.args.lent.now c.if-lent-ne-IMAGE.true _ c.answer_with.ensures
+returns-then-lent-ne-IMAGE c = no_image_lem c.args.n c.args.lent.now c.if-lent-ne-IMAGE.true _ c.answer_with.ensures
 
 pub read_head-h-requires : goal.read_head-h-requires
 read_head-h-requires c = omega (arith, c.if-lent-ne-IMAGE.false)
@@ -19,4 +19,4 @@ pub pass-requires : goal.pass-requires
 pass-requires c = stands c.args.lent.now c.if-lent-ne-IMAGE.false _ c.read_head-h.ensures.value c.read_head-h.ensures.bytes
 
 pub returns : goal.returns
-returns c = passed_in_law c.args.n c.args.lent.now c.if-lent-ne-IMAGE.false _ c.read_head-h.ensures.value _ c.well_formed-2.ensures _ _ c.if-not-well_formed.false-raw (c.pass.ensures.value, c.pass.ensures.lent_after)
+returns c = passed_in_lem c.args.n c.args.lent.now c.if-lent-ne-IMAGE.false _ c.read_head-h.ensures.value _ c.well_formed-2.ensures _ _ c.if-not-well_formed.false-raw (c.pass.ensures.value, c.pass.ensures.lent_after)

@@ -1,6 +1,6 @@
 use native.Mathlib.Omega.{arith}
 use mathlib.Core.Path.{refl}
-use Rattle.undo_call.proofs.Taking.{room, at_fits, session_moved_law}
+use Rattle.undo_call.proofs.Taking.{room, at_fits, session_moved_lem}
 use Rattle.undo_call.proofs.Marking.{marked_again, two_more}
 use Rattle.undo_call.proofs.carry_on.Goals as goal
 
@@ -21,4 +21,4 @@ write_head-requires c = c.move_entry.ensures.long
 
 pub returns : goal.returns
 returns c = let k = marked_again c.args.way c.args.h c.args.lent.now c.requires.0 c.args.at c.args.e _ c.takes_back-back.ensures c.entry_len-n.ensures.sized c.requires.1 c.requires.2 (room c.args.way c.args.h c.args.lent.now c.args.at c.args.e c.args.after _ _ refl c.takes_back-back.ensures c.requires.1 c.requires.2) c.requires.3 _ c.mark_again.ensures in
-    session_moved_law c.args.way c.args.h c.args.lent.now c.args.at c.args.e c.args.after _ _ _ _ c.by_way-from.ensures.value c.by_way-to.ensures.value c.takes_back-back.ensures c.entry_len-n.ensures.value _ _ c.move_entry.ensures k.1 k.2 k.3 _ _ _ c.timer_after-timer.ensures c.head_moved-head.ensures c.write_head.ensures
+    session_moved_lem c.args.way c.args.h c.args.lent.now c.args.at c.args.e c.args.after _ _ _ _ c.by_way-from.ensures.value c.by_way-to.ensures.value c.takes_back-back.ensures c.entry_len-n.ensures.value _ _ c.move_entry.ensures k.1 k.2 k.3 _ _ _ c.timer_after-timer.ensures c.head_moved-head.ensures c.write_head.ensures

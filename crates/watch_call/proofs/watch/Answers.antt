@@ -1,9 +1,9 @@
 use native.Mathlib.Omega.{arith}
-use Rattle.watch_call.proofs.Opening.{no_image_law, ill_formed, opened_in}
+use Rattle.watch_call.proofs.Opening.{no_image_lem, ill_formed, opened_in}
 use Rattle.watch_call.proofs.watch.Goals as goal
 
 pub returns-then-lent-ne-IMAGE : goal.returns-then-lent-ne-IMAGE
-returns-then-lent-ne-IMAGE c = no_image_law c.args.lent.now c.if-lent-ne-IMAGE.true _ c.answer_with.ensures
+returns-then-lent-ne-IMAGE c = no_image_lem c.args.lent.now c.if-lent-ne-IMAGE.true _ c.answer_with.ensures
 
 pub read_head-h-requires : goal.read_head-h-requires
 read_head-h-requires c = omega (arith, c.if-lent-ne-IMAGE.false)

@@ -1,6 +1,6 @@
 -- `listing::list` meets its contract: each judgement puts what the definition says for it, in its order. Assumes nothing.
 use native.Mathlib.Omega.{arith}
-use Rattle.text.specs.laws.Pieces.{last_piece}
+use Rattle.text.proofs.laws.Pieces.{last_piece}
 use Rattle.listing.proofs.Judged.{whole_between, pieces_long, pieces_read, listed_none, listed_put, listing_as}
 use Rattle.listing.proofs.list.Goals as goal
 

@@ -10,11 +10,11 @@ use lib.ListN.{length, take, drop}
 use lib.Seq.{take_all}
 use borrow.Author.Tests.{ltb-false}
 use Rattle.wire.specs.Wire.{pasted, be_nat}
-use Rattle.wire.specs.laws.Cases.{if_lt, else_lt, if_eq, else_eq, if_ne, else_ne}
+use Rattle.wire.proofs.laws.Cases.{if_lt, else_lt, if_eq, else_eq, if_ne, else_ne}
 use Rattle.text.specs.Text.{Sheet, sheet, ascii, put_on, put_all, from_front, line_end, hexes, decimal, numbers}
-use Rattle.text.specs.laws.Pieces.{same_pieces, put_fits}
+use Rattle.text.proofs.laws.Pieces.{same_pieces, put_fits}
 use Rattle.listing.specs.Listing.{too_long, listing, longest, listed, listed_length}
-use Rattle.listing.specs.laws.Lengths.{length_listing}
+use Rattle.listing.proofs.laws.Lengths.{length_listing}
 use Rattle.places.specs.Reasons.{words_for}
 use Rattle.answers.specs.Answers.{line_text, call_text, whole_reply, reply_length, data_text, bytes_read, read_for, read_text, plan_text, saved_text, why_text, list_text}
 

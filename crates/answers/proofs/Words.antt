@@ -5,9 +5,9 @@ use mathlib.Core.Path.{◌≡◌, refl, ap, ◌∙◌}
 use mathlib.Core.List.{List}
 use lib.Dec.{eqb}
 use native.Mathlib.Omega.{arith}
-use Rattle.wire.specs.laws.Cases.{if_eq, else_eq}
+use Rattle.wire.proofs.laws.Cases.{if_eq, else_eq}
 use Rattle.text.specs.Text.{Sheet, sheet, from_front, ascii}
-use Rattle.text.specs.laws.Pieces.{same_pieces}
+use Rattle.text.proofs.laws.Pieces.{same_pieces}
 use Rattle.words.specs.Words.{begun_by, words_in, word_at}
 use Rattle.places.specs.Reasons.{named, words_among, words_for}
 use Rattle.orders.specs.declared.Wrong.{Wrong}

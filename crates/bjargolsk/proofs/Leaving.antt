@@ -3,7 +3,7 @@ use mathlib.Core.Path.{◌≡◌, refl, sym, ap, ◌∙◌}
 use mathlib.Core.List.{List, []}
 use Prim.Native.Nat.{ℕ, ◌≤◌, ◌<◌}
 use lib.ListN.{length}
-use Rattle.wire.specs.laws.Cases.{if_ne, else_ne, if_lt, else_lt}
+use Rattle.wire.proofs.laws.Cases.{if_ne, else_ne, if_lt, else_lt}
 use Rattle.session.specs.Session.{fresh_session}
 use Rattle.session.specs.declared.Session.{Session}
 use Rattle.image.specs.Image.{image_of, written_to}

@@ -1,2 +1,3 @@
+pub mod laws
 pub mod Logs
 pub mod Puts

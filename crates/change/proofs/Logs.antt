@@ -9,7 +9,7 @@ use native.Mathlib.Omega.{arith}
 use lib.ListN.{length, get_or, drop, drop_of_length-le}
 use lib.Dec.{eqb}
 use lib.Seq.{drop-cons}
-use Rattle.wire.specs.laws.Cases.{if_eq, else_eq, cond_elim}
+use Rattle.wire.proofs.laws.Cases.{if_eq, else_eq, cond_elim}
 use Rattle.record.specs.Record.{no_log}
 use Rattle.record.specs.declared.Log.{Log}
 use Rattle.change.specs.Logs.{pending_of, first_with, remove_at, insert_at}

@@ -14,7 +14,7 @@ use Rattle.change.specs.declared.Edit.{Edit}
 use Rattle.change.specs.declared.Changed.{Changed}
 use Rattle.change.specs.Change.{accepted, put_with, put_of, back_of, timer_after}
 use Rattle.change.specs.With.{with_logs}
-use Rattle.change.specs.laws.Timed.{by_timer, timer_kept}
+use Rattle.change.proofs.laws.Timed.{by_timer, timer_kept}
 
 pub with_logs_put : (r y : Record) (x : Changed) (l m : List Log) → x ≡ accepted y → y ≡ with_logs r l → l ≡ m → x ≡ accepted (with_logs r m)
 with_logs_put r y x l m p q e = p ∙ ap accepted (q ∙ ap (with_logs r) e)

@@ -1,4 +1,3 @@
 pub mod Logs
 pub mod With
 pub mod Change
-pub mod laws

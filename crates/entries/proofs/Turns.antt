@@ -10,9 +10,10 @@ use lib.Dec.{leb}
 use lib.ListN.{length, get_or, get_or-eq_default}
 use Rattle.entries.specs.declared.Reading.TheVariants.{Whole, Unknown, Cut}
 use Rattle.entries.specs.Entries.{Entry, Table, body_lengths, body_len, journal_table, Scan, scan_by, entries_of, newest_at, reading_of}
-use Rattle.entries.specs.laws.ByTable.{count_written, newest_written}
-use Rattle.entries.specs.laws.Entries.{known_kind}
-use Rattle.entries.specs.laws.Placed.{Placed, first_place, place_written, scan_end, scan_unknown, scan_cut, entry_at, next_place}
+use Rattle.entries.proofs.laws.ByTable.{count_written, newest_written}
+use Rattle.entries.proofs.laws.Entries.{known_kind}
+use Rattle.entries.proofs.laws.Placed.{first_place, place_written, scan_end, scan_unknown, scan_cut, entry_at, next_place}
+use Rattle.entries.specs.Places.{Placed}
 
 -- ---- the journal's kinds
 

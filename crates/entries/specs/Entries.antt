@@ -111,3 +111,7 @@ scan j = scan_by journal_table j
 pub record ReadsWhole (j : List ℕ) : Type 0 where
   pub entries : List Entry
   pub reads : scan j ≡ between entries
+
+-- a body as long as its kind says, and a kind that there is
+abbrev pub Sized : Entry → Type 0
+Sized e = (body_len e.kind ≡ length e.body) × (1 ≤ length e.body)

@@ -8,26 +8,26 @@ use native.Mathlib.Omega.{arith}
 use lib.ListN.{length, get_or, set, take, drop, replicate, length-drop, length-append, drop_of_length-le}
 use lib.Seq.{take_all, take_at, drop_at, take-suc, drop-cons, set_at, get_or-drop, length-take-le}
 use Rattle.wire.specs.Wire.{Bytes, pasted}
-use Rattle.wire.specs.laws.Cases.{if_lt, else_lt}
-use Rattle.wire.specs.laws.Wire.{tail_part}
+use Rattle.wire.proofs.laws.Cases.{if_lt, else_lt}
+use Rattle.wire.proofs.laws.Wire.{tail_part}
 use Rattle.record.specs.Record.{worked_of}
 use Rattle.entries.specs.Entries.{Entry, entries_of, scan, written, ReadsWhole}
 use Rattle.marks.specs.Marks.{marks_of}
-use Rattle.marks.specs.laws.Marks.{length_marks}
+use Rattle.marks.proofs.laws.Marks.{length_marks}
 use Rattle.journal.specs.declared.Way.TheVariants.{Before, After}
 use Rattle.session.specs.Session.{entries_in, marks_for, well_formed, renewed}
 use Rattle.session.specs.Road.{held_in, oldest, freed_by, moved_down, session_freed, forgotten, Asks, refuses, forgets, kept, done, settled}
-use Rattle.session.specs.laws.Forgotten.{newer, length_moved, moved_part, rest_reads, freed_low}
+use Rattle.session.proofs.laws.Forgotten.{newer, length_moved, moved_part, rest_reads, freed_low}
 use Rattle.session.specs.declared.Session.{Session}
 use Rattle.image.specs.declared.Head.{Head}
 use Rattle.image.specs.Image.{head_renewed, image_of, head_in, store_at, with_part, with_store, journal_in, redo_in, marks_in, session_in}
-use Rattle.image.specs.laws.Stores.{store_long, store_back, store_above, marks_long, marks_back, marks_store, part_pasted}
+use Rattle.image.proofs.laws.Stores.{store_long, store_back, store_above, marks_long, marks_back, marks_store, part_pasted}
 use Rattle.layout.specs.Layout.{journal_at, marks_size, marks_at, image_length}
 use Rattle.inplace.proofs.Watching.{used_part}
 use Rattle.inplace.specs.declared.Told.{Told}
 use Rattle.inplace.specs.InPlace.{HeadStands, Marked}
-use Rattle.inplace.specs.laws.Silent as silent
-use Rattle.inplace.specs.laws.Marked.{formed_marked}
+use Rattle.inplace.proofs.laws.Silent as silent
+use Rattle.inplace.proofs.laws.Marked.{formed_marked}
 use Rattle.forget_call.specs.declared.Oldest.{Oldest}
 use Rattle.forget_call.specs.declared.Oldest.TheVariants.{End, Fewer}
 use Rattle.forget_call.specs.Forget.{oldest_asks, forget_asks, forget_call, forget_left, forgot_by, forget_on, OldestEnd}

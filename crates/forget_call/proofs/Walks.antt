@@ -7,12 +7,13 @@ use native.Mathlib.Omega.{arith}
 use lib.ListN.{length, get_or, take, drop, replicate, length-append}
 use lib.Seq.{drop_at}
 use Rattle.wire.specs.Wire.{to_be, pasted}
-use Rattle.wire.specs.laws.Cases.{if_eq, else_eq}
+use Rattle.wire.proofs.laws.Cases.{if_eq, else_eq}
 use Rattle.entries.specs.Entries.{Entry, body_len, scan, entries_of, written, ReadsWhole}
-use Rattle.entries.specs.laws.Entries.{scan_proper}
-use Rattle.entries.specs.laws.Places.{Place, entry_at, first_place, place_written, place_entries, scan_end, whole_fits, next_place}
+use Rattle.entries.proofs.laws.Entries.{scan_proper}
+use Rattle.entries.proofs.laws.Places.{entry_at, first_place, place_written, place_entries, scan_end, whole_fits, next_place}
+use Rattle.entries.specs.Places.{Place}
 use Rattle.marks.specs.Marks.{milestones, spelled, marks_of}
-use Rattle.marks.specs.laws.Marks.{thirty_second, two_each, length_marks, keeps_marks, marks_more}
+use Rattle.marks.proofs.laws.Marks.{thirty_second, two_each, length_marks, keeps_marks, marks_more}
 use Rattle.session.specs.Road.{oldest}
 use Rattle.forget_call.specs.declared.Oldest.TheVariants.{End, Fewer}
 use Rattle.forget_call.specs.Forget.{OldestEnd, marked_at}

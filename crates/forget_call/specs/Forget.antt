@@ -4,7 +4,7 @@ use Rattle.std.specs.Prelude.{ℕ, ◌*◌, ◌/◌, ◌%◌, ◌<◌, cond, not
 use Rattle.wire.specs.Conditions.{◌and◌}
 use Rattle.wire.specs.Wire.{to_be, pasted}
 use Rattle.entries.specs.Entries.{Entry, entries_of, scan}
-use Rattle.entries.specs.laws.Places.{Place}
+use Rattle.entries.specs.Places.{Place}
 use Rattle.session.specs.Session.{well_formed}
 use Rattle.session.specs.Road.{held_in, Asks, refuses, forgets, Said, settled}
 use Rattle.session.specs.declared.Session.{Session}

@@ -8,7 +8,7 @@ use native.Mathlib.Nat.{add-sub_cancel_left}
 use native.Mathlib.Omega.{arith}
 use lib.ListN.{length, get_or, take, drop, drop_of_length-le}
 use lib.Seq.{drop-cons, drop-drop}
-use Rattle.wire.specs.laws.Cases.{if_b, else_b, if_eq, else_eq, if_ne, else_ne}
+use Rattle.wire.proofs.laws.Cases.{if_b, else_b, if_eq, else_eq, if_ne, else_ne}
 use Rattle.record.specs.Record.{no_log}
 use Rattle.record.specs.declared.Log.{Log}
 use Rattle.formed.specs.Formed.{pair_ok, pairs_ok, unused, log_ok, logs_above}

@@ -8,7 +8,7 @@ use lib.Dec.{lit<}
 use lib.ListN.{length, take, drop, length-append, drop_of_length-le}
 use lib.Seq.{drop-drop}
 use Rattle.wire.specs.Wire.{sum_of, to_be, pasted, joined}
-use Rattle.wire.specs.laws.Wire.{take_pasted, drop_pasted, joined_append}
+use Rattle.wire.proofs.laws.Wire.{take_pasted, drop_pasted, joined_append}
 use Rattle.record.specs.declared.Caps.{Caps}
 use Rattle.record.specs.declared.Areas.{Areas}
 use Rattle.record.specs.declared.Deadman.{Deadman}
@@ -18,8 +18,8 @@ use Rattle.record.specs.declared.Timer.{Timer}
 use Rattle.record.specs.declared.Worked.{Worked}
 use Rattle.session.specs.declared.Session.{Session}
 use Rattle.image.specs.Rows.{widths_of}
-use Rattle.image.specs.laws.Rows.{length_joined}
-use Rattle.image.specs.laws.Image.{record_widths, widths_record}
+use Rattle.image.proofs.laws.Rows.{length_joined}
+use Rattle.image.proofs.laws.Image.{record_widths, widths_record}
 use Rattle.image.specs.Image.{byte, head_rows, throttles_rows, thermal_rows, logs_rows, mailbox_rows, worked_rows, record_rows, timer_rows, later_rows, session_rows, image_of}
 use Rattle.layout.specs.Layout.{timer_at, image_length}
 

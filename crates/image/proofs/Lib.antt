@@ -1,2 +1,3 @@
+pub mod laws
 pub mod Fields
 pub mod Standing

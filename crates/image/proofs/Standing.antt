@@ -6,12 +6,12 @@ use native.Mathlib.Omega.{arith}
 use lib.ListN.{length, take, drop, length-drop}
 use lib.Seq.{length-take-le, drop-drop}
 use Rattle.wire.specs.Wire.{to_be, pasted, joined}
-use Rattle.wire.specs.laws.Wire.{drop_pasted, length_pasted, paste_self}
+use Rattle.wire.proofs.laws.Wire.{drop_pasted, length_pasted, paste_self}
 use Rattle.image.specs.declared.Head.{Head}
 use Rattle.image.specs.Image.{record_rows, worked_rows, timer_rows, image_of, part_at, store_at, journal_in, redo_in, marks_in, with_part, with_store, session_in}
 use Rattle.journal.specs.declared.Way.TheVariants.{Before, After}
 use Rattle.layout.specs.Layout.{image_length}
-use Rattle.image.specs.laws.Stores.{part_pasted, store_long, store_back, store_below, marks_back, marks_store}
+use Rattle.image.proofs.laws.Stores.{part_pasted, store_long, store_back, store_below, marks_back, marks_store}
 use Rattle.image.proofs.Fields.{filled, length_session, session_put}
 
 -- a store has its 2,048 bytes

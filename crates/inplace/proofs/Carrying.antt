@@ -7,7 +7,7 @@ use native.Mathlib.Omega.{arith}
 use borrow.Author.Tests.{ltb-false}
 use lib.Dec.{ltb, eqb}
 use lib.ListN.{length, replicate}
-use Rattle.wire.specs.laws.Cases.{cond_elim}
+use Rattle.wire.proofs.laws.Cases.{cond_elim}
 use Rattle.record.specs.declared.Log.{Log}
 use Rattle.change.specs.Change.{made_by, put_of, takes_back, timer_after}
 use Rattle.change.specs.declared.Change.{Change}

@@ -1,3 +1,4 @@
+pub mod laws
 pub mod Carrying
 pub mod Marking
 pub mod Watching

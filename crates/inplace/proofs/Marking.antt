@@ -13,17 +13,17 @@ use Rattle.marks.specs.declared.Mark.{Mark}
 use Rattle.marks.specs.declared.Newest.{Newest}
 use Rattle.marks.specs.declared.Newest.TheVariants.{At, Nothing}
 use Rattle.marks.specs.Marks.{marks_of, same, passed_of, Last, newest_of}
-use Rattle.marks.specs.laws.Last.{NewestIs}
+use Rattle.marks.proofs.laws.Last.{NewestIs}
 use Rattle.journal.specs.Ways.{by_way}
 use Rattle.journal.specs.Read.{marks_ok}
 use Rattle.journal.specs.declared.Way.TheVariants.{Before, After}
 use Rattle.session.specs.Session.{store_ok, entries_in, stores_ok}
 use Rattle.session.specs.declared.Session.{Session}
 use Rattle.image.specs.Image.{with_part, journal_in, redo_in, marks_in}
-use Rattle.image.specs.laws.Stores.{part_same}
+use Rattle.image.proofs.laws.Stores.{part_same}
 use Rattle.layout.specs.Layout.{marks_size, journal_at, redo_at, marks_at, image_length}
 use Rattle.inplace.specs.InPlace.{Marked, MarksMore, MarkedTo}
-use Rattle.inplace.specs.laws.Marked.{entries_are, empty_journal, newest_there, first_marks, same_marks, one_marked, next_low, still_marked, no_longer_marked, older_reads}
+use Rattle.inplace.proofs.laws.Marked.{entries_are, empty_journal, newest_there, first_marks, same_marks, one_marked, next_low, still_marked, no_longer_marked, older_reads}
 
 -- ---- the journal is tested with its marks, the redo store has none
 

@@ -10,31 +10,31 @@ use lib.Dec.{ltb}
 use lib.ListN.{length, take, drop, replicate, length-drop, length-replicate, replicate-append-replicate}
 use lib.Seq.{take_all, take_at, length-take-le}
 use Rattle.wire.specs.Wire.{all_are, pasted}
-use Rattle.wire.specs.laws.Cases.{else_lt}
-use Rattle.wire.specs.laws.Wire.{take_all_are}
+use Rattle.wire.proofs.laws.Cases.{else_lt}
+use Rattle.wire.proofs.laws.Wire.{take_all_are}
 use Rattle.record.specs.Record.{worked_of}
 use Rattle.change.specs.Change.{put_of, takes_back, timer_after}
 use Rattle.change.specs.declared.Edit.{Edit}
 use Rattle.entries.specs.Entries.{Entry, Scan, entries_of, scan}
-use Rattle.entries.specs.laws.Entries.{Sized}
+use Rattle.entries.specs.Entries.{Sized}
 use Rattle.marks.specs.Marks.{marks_of}
-use Rattle.marks.specs.laws.Marks.{length_marks}
+use Rattle.marks.proofs.laws.Marks.{length_marks}
 use Rattle.journal.specs.Add.{entry_len, end_of, added_to, cut_from}
 use Rattle.journal.specs.Bytes.{entry_for, entry_bytes}
-use Rattle.journal.specs.laws.Ends.{sized_reads}
+use Rattle.journal.proofs.laws.Ends.{sized_reads}
 use Rattle.journal.specs.declared.End.{End}
 use Rattle.journal.specs.declared.End.TheVariants.{At, Full}
 use Rattle.journal.specs.declared.Way.{Way}
 use Rattle.journal.specs.declared.Way.TheVariants.{Before, After}
 use Rattle.session.specs.Session.{Carried, entries_in, marks_for, well_formed, made_of, renewed, with_timer, carried_of}
-use Rattle.session.specs.laws.Session.{formed, formed_next}
+use Rattle.session.proofs.laws.Session.{formed, formed_next}
 use Rattle.image.specs.declared.Head.{Head}
 use Rattle.image.specs.Image.{image_of, head_renewed, head_timed, part_at, store_at, store_in, with_part, with_store, journal_in, redo_in, marks_in, session_in}
 use Rattle.layout.specs.Layout.{marks_size, journal_at, redo_at, marks_at, image_length}
-use Rattle.image.specs.laws.Stores.{store_low, store_long, store_back, store_above, store_below, store_marks, store_same, marks_long, marks_back, marks_store, lent_part, lent_back}
+use Rattle.image.proofs.laws.Stores.{store_low, store_long, store_back, store_above, store_below, store_marks, store_same, marks_long, marks_back, marks_store, lent_part, lent_back}
 use Rattle.image.proofs.Standing.{length_store}
 use Rattle.inplace.specs.InPlace.{Marked, MarksMore, HasMore, Entered, head_after, carried_in}
-use Rattle.inplace.specs.laws.Marked.{formed_marked, entries_are}
+use Rattle.inplace.proofs.laws.Marked.{formed_marked, entries_are}
 use Rattle.inplace.proofs.Carrying.{carried_full, carried_at}
 
 -- an entry without room changes nothing

@@ -11,8 +11,8 @@ use Rattle.entries.specs.Entries.{entries_of, scan, ReadsWhole}
 use Rattle.journal.specs.declared.Way.{Way}
 use Rattle.journal.specs.declared.Way.TheVariants.{Before, After}
 use Rattle.session.specs.Session.{stores_ok, entries_in, only_clears}
-use Rattle.session.specs.laws.Session.{Store, Stores, stores}
-use Rattle.session.specs.laws.Reads.{reads}
+use Rattle.session.proofs.laws.Session.{Store, Stores, stores}
+use Rattle.session.proofs.laws.Reads.{reads}
 use Rattle.image.specs.declared.Head.{Head}
 use Rattle.image.specs.Image.{part_at, journal_in, redo_in, session_in}
 use Rattle.layout.specs.Layout.{store_size, journal_at, redo_at}

@@ -4,7 +4,7 @@
 
 ghost use Rattle.std.specs.Prelude.{◌≡◌, true, ◌≤◌, ◌+◌, length};
 ghost use Rattle.wire.specs.Wire.{pasted};
-ghost use Rattle.entries.specs.laws.Entries.{Sized};
+ghost use Rattle.entries.specs.Entries.{Sized};
 ghost use Rattle.marks.specs.Marks.{marks_of};
 ghost use Rattle.journal.specs.Bytes.{entry_for, entry_bytes};
 ghost use Rattle.journal.specs.Add.{entry_len, end_of, added_to, cut_from};

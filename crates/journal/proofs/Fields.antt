@@ -5,7 +5,7 @@ use mathlib.Core.List.{List, [], ◌∷◌, ◌++◌}
 use native.Mathlib.Nat.{not-suc-le-zero}
 use lib.ListN.{length, set, length-set}
 use Rattle.wire.specs.Wire.{to_be, pasted}
-use Rattle.wire.specs.laws.Wire.{length_to_be, length_pasted, field_next}
+use Rattle.wire.proofs.laws.Wire.{length_to_be, length_pasted, field_next}
 use Rattle.journal.proofs.Spelled.{one_byte, marked_number}
 
 first_put : (k : ℕ) (d : List ℕ) → 1 ≤ length d → set d 0 k ≡ pasted 0 (k ∷ []) d

@@ -8,16 +8,17 @@ use native.Mathlib.Nat.{add-sub_cancel_left}
 use native.Mathlib.Omega.{arith}
 use borrow.Author.Tests.{not-true, not-false}
 use lib.ListN.{length, get_or, take, drop, take-append-drop}
-use Rattle.wire.specs.laws.Cases.{if_b, else_b, else_eq, cond_elim}
+use Rattle.wire.proofs.laws.Cases.{if_b, else_b, else_eq, cond_elim}
 use Rattle.wire.specs.Wire.{Bytes}
-use Rattle.wire.specs.laws.Wire.{bytes_of}
+use Rattle.wire.proofs.laws.Wire.{bytes_of}
 use Rattle.entries.specs.Entries.{Entry, body_len, written, journal_table, Scan, between, within, unknown, opened, eat, scan_from, entries_of, scan}
-use Rattle.entries.specs.laws.ByTable.{whole_length, whole_reads}
-use Rattle.entries.specs.laws.Entries.{scan_append, scan_proper}
-use Rattle.entries.specs.laws.Places.{Place, first_place, place_written, next_place, scan_end, scan_unknown, scan_cut, entry_at, length_body}
+use Rattle.entries.proofs.laws.ByTable.{whole_length, whole_reads}
+use Rattle.entries.proofs.laws.Entries.{scan_append, scan_proper}
+use Rattle.entries.proofs.laws.Places.{first_place, place_written, next_place, scan_end, scan_unknown, scan_cut, entry_at, length_body}
+use Rattle.entries.specs.Places.{Place}
 use Rattle.marks.specs.Marks.{stands_at, all_stand, rest_unused, marks_fit}
-use Rattle.marks.specs.laws.Marks.{two_each}
-use Rattle.marks.specs.laws.Tested.{tested}
+use Rattle.marks.proofs.laws.Marks.{two_each}
+use Rattle.marks.proofs.laws.Tested.{tested}
 use Rattle.journal.specs.declared.Way.{Way}
 use Rattle.journal.specs.declared.Way.TheVariants.{Before, After}
 use Rattle.journal.specs.Ways.{by_way}

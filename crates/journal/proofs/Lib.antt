@@ -1,3 +1,4 @@
+pub mod laws
 pub mod Spelled
 pub mod Fields
 pub mod Parts

@@ -10,14 +10,14 @@ use lib.Dec.{leb}
 use lib.ListN.{length, get_or, take, drop, replicate, length-drop, length-replicate, drop_of_length-le}
 use lib.Seq.{drop-drop, length-take-le}
 use Rattle.wire.specs.Wire.{pasted}
-use Rattle.wire.specs.laws.Wire.{tail_part}
+use Rattle.wire.proofs.laws.Wire.{tail_part}
 use Rattle.record.specs.declared.Log.{Log}
 use Rattle.change.specs.declared.Change.{Change}
 use Rattle.change.specs.declared.Edit.{Edit}
 use Rattle.change.specs.Change.{kind_of}
 use Rattle.entries.specs.Entries.{bytes_of, body_lengths, body_len}
-use Rattle.entries.specs.laws.Entries.{Sized}
-use Rattle.journal.specs.laws.Bodies.{lengths}
+use Rattle.entries.specs.Entries.{Sized}
+use Rattle.journal.proofs.laws.Bodies.{lengths}
 use Rattle.journal.specs.declared.Found.{Found}
 use Rattle.journal.specs.declared.Found.TheVariants.{Bad}
 use Rattle.journal.specs.declared.Got.{Got}

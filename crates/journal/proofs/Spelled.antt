@@ -12,8 +12,8 @@ use lib.ListN.{length}
 use types.Run.{OneOf}
 use denote.Enum.Declared.{tag_of}
 use Rattle.wire.specs.Wire.{be_onto, be_nat, to_be, Bytes, pasted}
-use Rattle.wire.specs.laws.Cases.{if_eq, cond_cases}
-use Rattle.wire.specs.laws.Wire.{to_be_be}
+use Rattle.wire.proofs.laws.Cases.{if_eq, cond_cases}
+use Rattle.wire.proofs.laws.Wire.{to_be_be}
 use Rattle.record.specs.declared.Log.{Log}
 use Rattle.record.specs.declared.Caps.{Caps}
 use Rattle.change.specs.contracts.Change.{the_type}

@@ -2,4 +2,3 @@ pub mod Bytes
 pub mod Ways
 pub mod Read
 pub mod Add
-pub mod laws

@@ -6,7 +6,7 @@ ghost use Rattle.std.specs.Prelude.{◌≡◌, ◌∷◌, true, ◌≤◌, ◌<�
 ghost use Rattle.wire.specs.Wire.{pasted, to_be};
 ghost use Rattle.change.specs.Change.{kind_of};
 ghost use Rattle.entries.specs.Entries.{body_len};
-ghost use Rattle.entries.specs.laws.Entries.{Sized};
+ghost use Rattle.entries.specs.Entries.{Sized};
 ghost use Rattle.marks.specs.Marks.{stands_at, rest_unused};
 ghost use Rattle.journal.specs.Bytes.{throttles_body, clock_body, areas_body, Spells, entry_for, entry_bytes};
 ghost use Rattle.journal.specs.Read.{caps_at, area_at, throttles_from, cleared_as, reset_as, reset_ok, found_for, tables_in, bad_got, got_of, entry_ok, read_ok};

@@ -7,9 +7,10 @@ use native.Mathlib.Nat.{add-sub_cancel_left}
 use native.Mathlib.Omega.{arith}
 use lib.ListN.{length, take, drop, get_or}
 use Rattle.entries.specs.Entries.{Entry, body_len, Scan, between, scan, entries_of}
-use Rattle.entries.specs.laws.Places.{Place, first_place, scan_end, whole_fits, entry_at, next_place}
+use Rattle.entries.proofs.laws.Places.{first_place, scan_end, whole_fits, entry_at, next_place}
+use Rattle.entries.specs.Places.{Place}
 use Rattle.text.specs.Text.{sheet, put_all}
-use Rattle.text.specs.laws.Pieces.{pieces}
+use Rattle.text.proofs.laws.Pieces.{pieces}
 use Rattle.listing.specs.Listing.{line, lines_of}
 
 pub record Lined (j : List ℕ) (at : ℕ) (d d' : List ℕ) (end i : ℕ) : Type 0 where

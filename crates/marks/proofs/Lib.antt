@@ -1,2 +1,3 @@
+pub mod laws
 pub mod Seen
 pub mod Found

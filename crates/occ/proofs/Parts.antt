@@ -7,7 +7,7 @@ use lib.ListN.{length, get_or, take, drop, length-take, length-drop}
 use lib.Seq.{take_all}
 use borrow.Author.Tests.{eq-eqb}
 use Rattle.occ.specs.Judge.{sets_status}
-use Rattle.occ.specs.laws.Exactly.{sets_status_exactly}
+use Rattle.occ.proofs.laws.Exactly.{sets_status_exactly}
 
 -- what is read from the part that starts at a place is read from all that is left there
 pub of_rest : {A : Type 0} (f : List ℕ → A) (d : List ℕ) (at : ℕ) {x : A} → x ≡ f (take (length d - at) (drop at d)) → x ≡ f (drop at d)

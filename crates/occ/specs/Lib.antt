@@ -3,4 +3,3 @@ pub mod Commands
 pub mod Judge
 pub mod Conditions
 pub mod Statuses
-pub mod laws

@@ -7,7 +7,7 @@ use native.Mathlib.Omega.{arith}
 use borrow.Author.Tests.{ltb-false}
 use lib.Dec.{ltb}
 use lib.ListN.{length, get_or}
-use Rattle.wire.specs.laws.Cases.{said_of, if_ne, else_ne}
+use Rattle.wire.proofs.laws.Cases.{said_of, if_ne, else_ne}
 use Rattle.change.specs.declared.Change.{Change}
 use Rattle.change.specs.declared.Edit.{Edit}
 use Rattle.packet.specs.Packet.{packet_status, data_of, replied}
@@ -25,7 +25,7 @@ use Rattle.places.specs.declared.Blame.{Blame}
 use Rattle.places.specs.declared.Blame.TheVariants.{Nothing}
 use Rattle.session.specs.Session.{well_formed, carried_of}
 use Rattle.session.specs.Road.{Asks, refuses, tells, makes, due, Said, kept, done, settled}
-use Rattle.session.specs.laws.Road.{made_full, made_done}
+use Rattle.session.proofs.laws.Road.{made_full, made_done}
 use Rattle.session.specs.declared.Session.{Session}
 use Rattle.occ_call.specs.Occ.{known_sender, refusal_of, occ_refusal, told_of, verdict_asks, judged_asks, asked_for, asked_of, occ_read, occ_asks, occ_call, fault_for, why_read, why_from, occ_why, beside_of, occ_left, occ_read_left, occ_on}
 use Rattle.wire.specs.Wire.{Bytes}
@@ -34,8 +34,8 @@ use Rattle.image.specs.Image.{head_in, session_in}
 use Rattle.layout.specs.Layout.{image_length}
 use Rattle.inplace.specs.declared.Told.{Told}
 use Rattle.inplace.specs.InPlace.{HeadStands, carried_in}
-use Rattle.inplace.specs.laws.InPlace.{Parts, parts, stands, on_read, carried_kept, carried_new}
-use Rattle.inplace.specs.laws.InPlace as inplace
+use Rattle.inplace.proofs.laws.InPlace.{Parts, parts, stands, on_read, carried_kept, carried_new}
+use Rattle.inplace.proofs.laws.InPlace as inplace
 
 -- no refusal is due: the session is well formed, the sender known and both buffers are long enough
 none_due : (a b c d : Bool) → cond {A = ℕ} (not a) 1 (cond (not b) 2 (cond c 3 (cond d 4 0))) ≡ 0 → (a ≡ true) × (c ≡ false) × (d ≡ false)

@@ -1,2 +1,1 @@
 pub mod Occ
-pub mod laws

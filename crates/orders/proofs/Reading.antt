@@ -11,8 +11,8 @@ use lib.ListN.{length, take, drop, length-take, length-drop, take-append-drop}
 use lib.Seq.{drop-append-le, drop-drop}
 use Rattle.layout.specs.Layout.{image_length}
 use Rattle.wire.specs.Wire.{pasted}
-use Rattle.wire.specs.laws.Wire.{tail_part}
-use Rattle.wire.specs.laws.Cases.{if_b, else_b, if_lt, else_lt, if_le, else_le, if_ne, else_ne}
+use Rattle.wire.proofs.laws.Wire.{tail_part}
+use Rattle.wire.proofs.laws.Cases.{if_b, else_b, if_lt, else_lt, if_le, else_le, if_ne, else_ne}
 use Rattle.text.specs.declared.Fault.{Fault}
 use Rattle.text.specs.declared.Fault.TheVariants.{Nothing, Digit, Over}
 use Rattle.text.specs.declared.Number.{Number}

@@ -7,9 +7,9 @@ use native.Mathlib.Nat.{add-sub_cancel_left}
 use native.Mathlib.Omega.{arith}
 use lib.ListN.{length, take, drop}
 use Rattle.wire.specs.Wire.{be_nat, packet_sum}
-use Rattle.wire.specs.laws.Cases.{if_lt, else_lt}
+use Rattle.wire.proofs.laws.Cases.{if_lt, else_lt}
 use Rattle.packet.specs.Packet.{data_length, packet_status, data_at, data_of}
-use Rattle.packet.specs.laws.Exactly.{status_overlong, status_summed, status_unsummed}
+use Rattle.packet.proofs.laws.Exactly.{status_overlong, status_summed, status_unsummed}
 use Rattle.packet.specs.Conditions.{Fits}
 
 module _ (c : List ℕ) where

@@ -6,9 +6,9 @@ use native.Mathlib.Nat.{zero-add}
 use native.Mathlib.Omega.{arith}
 use lib.ListN.{length, take}
 use Rattle.wire.specs.Wire.{to_be, packet_sum, pasted}
-use Rattle.wire.specs.laws.Wire.{take_pasted, field_next}
+use Rattle.wire.proofs.laws.Wire.{take_pasted, field_next}
 use Rattle.packet.specs.Packet.{unsummed, reply_bytes, replied}
-use Rattle.packet.specs.laws.Packet.{length_unsummed, replied_room}
+use Rattle.packet.proofs.laws.Packet.{length_unsummed, replied_room}
 
 -- the bytes written from the front are read back
 front : (xs d : List ℕ) → length xs ≤ length d → take (length xs) (pasted 0 xs d) ≡ xs

@@ -7,14 +7,14 @@ use native.Mathlib.Omega.{arith}
 use lib.ListN.{length, drop, get_or, drop_of_length-le}
 use lib.Seq.{drop-cons, length-take-le}
 use Rattle.io.specs.Counts.{IsPrefixLen}
-use Rattle.wire.specs.laws.Cases.{if_eq, else_eq}
+use Rattle.wire.proofs.laws.Cases.{if_eq, else_eq}
 use Rattle.entries.specs.declared.Reading.{Reading}
 use Rattle.entries.specs.declared.Reading.TheVariants.{Whole, Unknown, Cut}
 use Rattle.entries.specs.Entries.{written, Scan, between, within, unknown, entries_of, reading_of}
-use Rattle.entries.specs.laws.ByTable.{scan_written, whole_length}
+use Rattle.entries.proofs.laws.ByTable.{scan_written, whole_length}
 use Rattle.trace.specs.Trace.{trace_table, trace_scan}
 use Rattle.parting.specs.Parting.{front}
-use Rattle.parting.specs.laws.Front.{front_none}
+use Rattle.parting.proofs.laws.Front.{front_none}
 
 counts : (n : ℕ) (l : List ℕ) → n ≤ length l → IsPrefixLen n l
 counts n l h = (h, sym (length-take-le n l h))

@@ -5,24 +5,24 @@ use mathlib.Core.List.{List, [], ◌∷◌, ◌++◌}
 use native.Mathlib.Numerals.{add-one}
 use native.Mathlib.Omega.{arith}
 use lib.ListN.{length, take, length-append}
-use Rattle.wire.specs.laws.Wire.{joined_append}
+use Rattle.wire.proofs.laws.Wire.{joined_append}
 use Rattle.wire.specs.Wire.{joined}
 use Rattle.io.specs.Counts.{IsPrefixLen}
-use Rattle.wire.specs.laws.Cases.{if_lt, else_lt}
+use Rattle.wire.proofs.laws.Cases.{if_lt, else_lt}
 use Rattle.text.specs.Text.{Sheet, sheet, put_on, put_all, ascii, line_end, decimal}
-use Rattle.text.specs.laws.Pieces.{piece, pieces, last_piece, fitting}
+use Rattle.text.proofs.laws.Pieces.{piece, pieces, last_piece, fitting}
 use Rattle.entries.specs.declared.Next.{Next}
 use Rattle.entries.specs.Entries.{written, entries_of, next_by}
-use Rattle.entries.specs.laws.ByTable.{count_written}
+use Rattle.entries.proofs.laws.ByTable.{count_written}
 use Rattle.trace.specs.Trace.{trace_table, trace_scan}
 use Rattle.parting.specs.declared.Refusal.{Refusal}
 use Rattle.parting.specs.declared.Refusal.TheVariants.{Nothing, UnknownInFirst, CutInFirst, UnknownInSecond, CutInSecond}
 use Rattle.parting.specs.declared.Parting.{Parting}
 use Rattle.parting.specs.Parting.{front, shared_entries, shared_part, refused_for, refusal_of, parting_of}
 use Rattle.parting.specs.Lines.{shared_line, refusal_line, pieces_of, text_of, longest, told, told_length}
-use Rattle.parting.specs.laws.Front.{begins_take, begins_fits, front_first}
-use Rattle.parting.specs.laws.Parting.{part_common}
-use Rattle.parting.specs.laws.Lengths.{length_refusal}
+use Rattle.parting.proofs.laws.Front.{begins_take, begins_fits, front_first}
+use Rattle.parting.proofs.laws.Parting.{part_common}
+use Rattle.parting.proofs.laws.Lengths.{length_refusal}
 
 abbrev parting_at : ℕ → ℕ → Refusal → Parting
 parting_at entries next refusal = record { entries = entries; next = next; refusal = refusal }

@@ -1,4 +1,3 @@
 pub mod Reasons
 pub mod Places
 pub mod Faults
-pub mod laws

@@ -6,17 +6,17 @@ use mathlib.Core.List.{List}
 use native.Mathlib.Omega.{arith}
 use lib.ListN.{length}
 use borrow.Author.Tests.{not-true, not-false}
-use Rattle.wire.specs.laws.Cases.{if_b, else_b, if_lt, else_lt, if_ne, else_ne, if_not, else_not}
+use Rattle.wire.proofs.laws.Cases.{if_b, else_b, if_lt, else_lt, if_ne, else_ne, if_not, else_not}
 use Rattle.session.specs.Session.{well_formed}
-use Rattle.session.specs.laws.Session.{formed_next}
+use Rattle.session.proofs.laws.Session.{formed_next}
 use Rattle.session.specs.declared.Session.{Session}
 use Rattle.image.specs.declared.Head.{Head}
 use Rattle.image.specs.Image.{head_in, session_in, session_of}
 use Rattle.layout.specs.Layout.{image_length}
 use Rattle.inplace.specs.declared.Told.{Told}
 use Rattle.plan.specs.Plan.{packets_in, plan_ok, least_plan, wanted_ok, plan_refusal, start_of, answered, plan_ok_call, Planned, given, plan_call, plan_ok_on, plan_on, PlanAllows}
-use Rattle.plan.specs.laws.Least.{least_low}
-use Rattle.plan.specs.laws.Refusals.{none_refused}
+use Rattle.plan.proofs.laws.Least.{least_low}
+use Rattle.plan.proofs.laws.Refusals.{none_refused}
 use Rattle.plan.specs.declared.Trial.{Trial}
 
 module _ (formed : Bool) (p : List ℕ) (wanted : ℕ) where

@@ -1,3 +1,4 @@
+pub mod laws
 pub mod Calling
 pub mod Orders
 pub mod Packets

@@ -7,10 +7,10 @@ use native.Mathlib.Numerals.{add-one}
 use native.Mathlib.Omega.{arith}
 use lib.ListN.{length, get_or, take, drop, drop_of_length-le}
 use lib.Seq.{drop-cons}
-use Rattle.wire.specs.laws.Cases.{if_b, else_b, if_eq, else_eq, if_lt, else_lt}
-use Rattle.wire.specs.laws.Wire.{tail_part}
+use Rattle.wire.proofs.laws.Cases.{if_b, else_b, if_eq, else_eq, if_lt, else_lt}
+use Rattle.wire.proofs.laws.Wire.{tail_part}
 use Rattle.plan.specs.Plan.{comes_in, is_order, trimmed}
-use Rattle.plan.specs.laws.Orders.{Named, named}
+use Rattle.plan.proofs.laws.Orders.{Named, named}
 
 -- the numbers from i on: the one there, and the rest
 pub from_here : (i : ℕ) (o : List ℕ) → i < length o → drop i o ≡ get_or o i 0 ∷ drop (i + 1) o

@@ -8,8 +8,8 @@ use native.Mathlib.Omega.{arith}
 use lib.Dec.{eqb}
 use lib.ListN.{length, take, drop, length-drop, drop_of_length-le}
 use lib.Seq.{take_all}
-use Rattle.wire.specs.laws.Cases.{if_lt, else_lt}
-use Rattle.wire.specs.laws.Wire.{tail_part}
+use Rattle.wire.proofs.laws.Cases.{if_lt, else_lt}
+use Rattle.wire.proofs.laws.Wire.{tail_part}
 use Rattle.packet.specs.Packet.{packet_status}
 use Rattle.plan.specs.Plan.{packet_at, sound}
 

@@ -7,8 +7,8 @@ use native.Mathlib.Omega.{arith}
 use borrow.Author.Tests.{not-false, ltb-false}
 use lib.Dec.{eqb}
 use lib.ListN.{length, get_or, drop, drop_of_length-le}
-use Rattle.wire.specs.laws.Cases.{cond_elim, if_not, else_not}
-use Rattle.wire.specs.laws.Chains.{passed}
+use Rattle.wire.proofs.laws.Cases.{cond_elim, if_not, else_not}
+use Rattle.wire.proofs.laws.Chains.{passed}
 use Rattle.record.specs.Record.{worked_of}
 use Rattle.record.specs.declared.Worked.{Worked}
 use Rattle.change.specs.Change.{put_of}

@@ -9,11 +9,11 @@ use lib.ListN.{length, get_or, take, drop, replicate}
 use lib.Seq.{drop-drop}
 use borrow.Author.Tests.{eqb-true, eqb-false}
 use Rattle.wire.specs.Wire.{joined}
-use Rattle.wire.specs.laws.Wire.{tail_part}
-use Rattle.wire.specs.laws.Cases.{if_eq, else_eq, if_ne, else_ne, cond_cases}
+use Rattle.wire.proofs.laws.Wire.{tail_part}
+use Rattle.wire.proofs.laws.Cases.{if_eq, else_eq, if_ne, else_ne, cond_cases}
 use Rattle.io.specs.Counts.{IsPrefixLen}
 use Rattle.text.specs.Text.{Sheet, sheet, put_on, put_all, ascii, line_end, hexes, decimal}
-use Rattle.text.specs.laws.Pieces.{piece, pieces, last_piece}
+use Rattle.text.proofs.laws.Pieces.{piece, pieces, last_piece}
 use Rattle.inplace.specs.declared.Told.{Told}
 use Rattle.inplace.specs.InPlace.{Left}
 use Rattle.entries.specs.declared.Reading.{Reading}

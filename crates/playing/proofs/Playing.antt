@@ -13,19 +13,20 @@ use lib.ListN.{length, take, drop, get_or, length-append, length-drop}
 use lib.Seq.{length-take-le}
 use Rattle.wire.specs.Wire.{pasted, joined}
 use Rattle.wire.specs.Conditions.{◌and◌}
-use Rattle.wire.specs.laws.Wire.{tail_part, joined_append}
-use Rattle.wire.specs.laws.Cases.{if_not, else_not, if_ne, else_ne, if_lt, else_lt, else_eq, same_le}
+use Rattle.wire.proofs.laws.Wire.{tail_part, joined_append}
+use Rattle.wire.proofs.laws.Cases.{if_not, else_not, if_ne, else_ne, if_lt, else_lt, else_eq, same_le}
 use Rattle.io.specs.Counts.{IsPrefixLen}
 use Rattle.text.specs.Text.{sheet, put_all}
-use Rattle.text.specs.laws.Pieces.{pieces, fitting}
+use Rattle.text.proofs.laws.Pieces.{pieces, fitting}
 use Rattle.entries.specs.declared.Reading.{Reading}
 use Rattle.entries.specs.declared.Next.{Next}
 use Rattle.entries.specs.declared.Next.TheVariants.{Stands, NoKind, CutShort, End}
 use Rattle.entries.specs.contracts.Next.{the_type}
 use Rattle.entries.specs.Entries.{Entry, entry_of, entries_of, reading_of, next_by}
-use Rattle.entries.specs.laws.ByTable.{count_written}
-use Rattle.entries.specs.laws.Placed.{Placed, first_place, place_written, scan_end}
-use Rattle.entries.specs.laws.Next.{Leads, leads_on, next_fits}
+use Rattle.entries.proofs.laws.ByTable.{count_written}
+use Rattle.entries.proofs.laws.Placed.{first_place, place_written, scan_end}
+use Rattle.entries.specs.Places.{Placed}
+use Rattle.entries.proofs.laws.Next.{Leads, leads_on, next_fits}
 use Rattle.trace.specs.Trace.{trace_table, trace_scan}
 use Rattle.session.specs.Session.{fresh_session}
 use Rattle.session.specs.declared.Session.{Session}

@@ -5,7 +5,7 @@ use mathlib.Core.List.{List, [], ◌∷◌, ◌++◌, append-nil}
 use native.Mathlib.Omega.{arith}
 use lib.ListN.{length, drop, drop_of_length-le}
 use Rattle.wire.specs.Wire.{to_be, pasted}
-use Rattle.wire.specs.laws.Wire.{field_next}
+use Rattle.wire.proofs.laws.Wire.{field_next}
 use Rattle.record.specs.declared.Caps.{Caps}
 use Rattle.poll.specs.Poll.{log_length, code_level, sensor_text, poll_head, caps_block}
 

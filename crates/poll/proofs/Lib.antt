@@ -1,2 +1,3 @@
+pub mod laws
 pub mod Bytes
 pub mod Replied

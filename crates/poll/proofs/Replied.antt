@@ -5,12 +5,12 @@ use mathlib.Core.Path.{◌≡◌, sym, ap, ap₂, ◌∙◌}
 use mathlib.Core.List.{List, ◌++◌}
 use lib.ListN.{length, replicate, length-append}
 use Rattle.wire.specs.Wire.{pasted}
-use Rattle.wire.specs.laws.Cases.{if_b, else_b}
+use Rattle.wire.proofs.laws.Cases.{if_b, else_b}
 use Rattle.record.specs.declared.Record.{Record}
 use Rattle.record.specs.declared.Worked.{Worked}
 use Rattle.packet.specs.Packet.{replied}
 use Rattle.poll.specs.Poll.{status_byte, oldest_id, shows_caps, poll_head, caps_block, poll_data}
-use Rattle.poll.specs.laws.Poll.{length_head, length_block}
+use Rattle.poll.proofs.laws.Poll.{length_head, length_block}
 use Rattle.poll.proofs.Bytes.{both_put}
 
 module _ (r : Record) (w : Worked) (status seq : ℕ) (shows : Bool) (l d x : List ℕ) (e : shows ≡ shows_caps r.role r.received.caps) (s : status ≡ status_byte r.role w) where

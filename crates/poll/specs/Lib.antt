@@ -1,2 +1,1 @@
 pub mod Poll
-pub mod laws

@@ -1,4 +1,3 @@
-pub mod Promises
 pub mod Calls
 pub mod Outcomes
 pub mod WellFormed
@@ -20,4 +19,3 @@ pub mod Passed
 pub mod Replays
 pub mod Partings
 pub mod Examples
-pub mod laws

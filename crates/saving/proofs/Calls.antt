@@ -7,24 +7,24 @@ use borrow.Author.Tests.{not-false, not-true, eqb-true, ltb-false}
 use lib.Dec.{eqb, ltb}
 use lib.ListN.{length, take, drop, length-drop}
 use Rattle.wire.specs.Wire.{pasted, Bytes}
-use Rattle.wire.specs.laws.Cases.{if_b, else_b, if_ne, else_ne, if_not, else_not, if_lt, else_lt}
-use Rattle.wire.specs.laws.Wire.{tail_part}
-use Rattle.wire.specs.laws.Chains.{passed}
-use Rattle.formed.specs.laws.Formed.{both_hold}
+use Rattle.wire.proofs.laws.Cases.{if_b, else_b, if_ne, else_ne, if_not, else_not, if_lt, else_lt}
+use Rattle.wire.proofs.laws.Wire.{tail_part}
+use Rattle.wire.proofs.laws.Chains.{passed}
+use Rattle.formed.proofs.laws.Formed.{both_hold}
 use Rattle.entries.specs.Entries.{ReadsWhole}
 use Rattle.session.specs.Session.{well_formed}
 use Rattle.session.specs.declared.Session.{Session}
 use Rattle.image.specs.declared.Head.{Head}
 use Rattle.image.proofs.Fields.{filled}
 use Rattle.image.specs.Image.{image_of, head_in, session_in, session_of, written_to}
-use Rattle.image.specs.laws.Image.{Typed, session_image, length_image}
+use Rattle.image.proofs.laws.Image.{Typed, session_image, length_image}
 use Rattle.layout.specs.Layout.{image_length}
 use Rattle.inplace.specs.declared.Told.{Told}
-use Rattle.inplace.specs.laws.InPlace.{as_read}
+use Rattle.inplace.proofs.laws.InPlace.{as_read}
 use Rattle.saving.specs.Forms.{base_head, base_most, base_of, session_of_base, saved_length, saved_of, kinds_ok, used_in, session_of_saved}
 use Rattle.saving.specs.Moves.{base_holds, goes_down, base_reads, saved_reads, image_reads, Outcome, Allows, refused, put_into, save_to, restore_to, move_up_to, move_down_to}
-use Rattle.saving.specs.laws.Forms.{saved_typed}
-use Rattle.saving.specs.laws.Base.{all_used, formed_used, base_typed}
+use Rattle.saving.proofs.laws.Forms.{saved_typed}
+use Rattle.saving.proofs.laws.Base.{all_used, formed_used, base_typed}
 
 -- ---- a session written as its image, and its head read again
 

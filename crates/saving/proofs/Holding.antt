@@ -7,17 +7,18 @@ use native.Mathlib.Omega.{arith}
 use borrow.Author.Tests.{not-true, not-false}
 use lib.ListN.{length, get_or, take, drop, length-drop}
 use lib.Seq.{drop-cons, drop-drop, length-take-le}
-use Rattle.wire.specs.laws.Wire.{tail_part}
-use Rattle.wire.specs.laws.Cases.{if_b, if_not, else_not}
-use Rattle.formed.specs.laws.Formed.{hold_both}
+use Rattle.wire.proofs.laws.Wire.{tail_part}
+use Rattle.wire.proofs.laws.Cases.{if_b, if_not, else_not}
+use Rattle.formed.proofs.laws.Formed.{hold_both}
 use Rattle.entries.specs.Entries.{Entry, Scan, body_len, scan, entries_of, entry_of, ReadsWhole}
-use Rattle.entries.specs.laws.Places.{Place, entry_at, first_place, place_entries, scan_end, whole_fits, next_place}
+use Rattle.entries.proofs.laws.Places.{entry_at, first_place, place_entries, scan_end, whole_fits, next_place}
+use Rattle.entries.specs.Places.{Place}
 use Rattle.session.specs.Session.{entries_in, well_formed}
 use Rattle.image.specs.declared.Head.{Head}
 use Rattle.image.specs.Image.{part_at, record_in, head_in, journal_in, session_in}
 use Rattle.layout.specs.Layout.{journal_at}
 use Rattle.inplace.proofs.Watching.{used_part}
-use Rattle.inplace.specs.laws.Marked.{formed_marked}
+use Rattle.inplace.proofs.laws.Marked.{formed_marked}
 use Rattle.saving.specs.Moves.{first_rule, base_entry, base_entries, base_holds}
 
 -- one that isn't among them, newer ones before it

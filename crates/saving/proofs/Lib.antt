@@ -1,3 +1,4 @@
+pub mod laws
 pub mod Reading
 pub mod Holding
 pub mod Writing

@@ -7,7 +7,7 @@ use native.Mathlib.Omega.{arith}
 use lib.ListN.{length, take, drop, replicate, length-drop, length-replicate}
 use lib.Seq.{length-take-le, take_at}
 use Rattle.wire.specs.Wire.{pasted}
-use Rattle.wire.specs.laws.Wire.{tail_part}
+use Rattle.wire.proofs.laws.Wire.{tail_part}
 use Rattle.record.specs.Record.{worked_of}
 use Rattle.record.specs.declared.Record.{Record}
 use Rattle.record.specs.declared.Timer.{Timer}
@@ -15,12 +15,12 @@ use Rattle.record.specs.declared.Worked.{Worked}
 use Rattle.entries.specs.Entries.{written, Scan, between, within, unknown, entries_of, scan, reading_of, ReadingFits, ReadsWhole}
 use Rattle.entries.specs.declared.Reading.{Reading}
 use Rattle.entries.specs.declared.Reading.TheVariants.{Whole, Unknown, Cut}
-use Rattle.entries.specs.laws.Entries.{scan_written}
+use Rattle.entries.proofs.laws.Entries.{scan_written}
 use Rattle.marks.specs.Marks.{marks_of}
 use Rattle.journal.proofs.Parts.{part_copied}
 use Rattle.image.specs.Image.{byte_at, part_at, number_at, record_in}
 use Rattle.saving.specs.Forms.{padded, session_of_base, used_in, timer_from, session_of_saved}
-use Rattle.saving.specs.laws.Record.{same_front}
+use Rattle.saving.proofs.laws.Record.{same_front}
 
 -- ---- how far a store's entries go
 

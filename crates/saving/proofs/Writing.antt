@@ -7,19 +7,19 @@ use lib.Dec.{lit<}
 use lib.ListN.{length, take, drop, length-append, length-drop}
 use lib.Seq.{length-take-le, drop-cons}
 use Rattle.wire.specs.Wire.{to_be, joined, pasted, Bytes}
-use Rattle.wire.specs.laws.Cases.{if_lt, else_lt}
-use Rattle.wire.specs.laws.Wire.{field_next}
+use Rattle.wire.proofs.laws.Cases.{if_lt, else_lt}
+use Rattle.wire.proofs.laws.Wire.{field_next}
 use Rattle.image.proofs.Fields.{paste_on}
 use Rattle.image.specs.Image.{byte_at, part_at, number_at, journal_in, redo_in, marks_in, timer_in, head_in, session_in, session_of}
-use Rattle.image.specs.laws.Typed.{typed_image}
+use Rattle.image.proofs.laws.Typed.{typed_image}
 use Rattle.layout.specs.Layout.{journal_at, image_length}
 use Rattle.inplace.proofs.Watching.{used_part}
 use Rattle.inplace.specs.declared.Told.{Told}
-use Rattle.saving.specs.laws.Parts.{regroup}
+use Rattle.saving.proofs.laws.Parts.{regroup}
 use Rattle.saving.specs.Forms.{base_rows, base_of, saved_length, saved_rows, saved_of}
 use Rattle.saving.specs.Moves.{Outcome, Allows, refused, put_into}
-use Rattle.saving.specs.laws.Record.{record_again}
-use Rattle.saving.specs.laws.Forms.{one, number, length_saved, part_long as part_of}
+use Rattle.saving.proofs.laws.Record.{record_again}
+use Rattle.saving.proofs.laws.Forms.{one, number, length_saved, part_long as part_of}
 
 -- a kind and its body
 pub part_put : (at kind : ℕ) (body d x y : List ℕ) → at + (length body + 1) ≤ length d → x ≡ pasted at (kind ∷ []) d → y ≡ pasted (at + 1) body x → y ≡ pasted at (kind ∷ body) d

@@ -1,3 +1,2 @@
 pub mod Forms
 pub mod Moves
-pub mod laws

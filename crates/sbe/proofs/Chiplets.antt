@@ -7,7 +7,7 @@ use mathlib.Core.Path.{◌≡◌, refl, ap, subst}
 use native.Mathlib.Omega.{arith}
 use native.Mathlib.Nat.{eq-or-lt_of_le}
 use lib.Dec.{lit≤}
-use Rattle.wire.specs.laws.Cases.{else_eq}
+use Rattle.wire.proofs.laws.Cases.{else_eq}
 use Rattle.sbe.specs.Mailbox.{chiplet_ranges, in_ranges, chiplet_known}
 
 module _ (f g : ℕ → Bool) where

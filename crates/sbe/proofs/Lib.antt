@@ -1,3 +1,4 @@
+pub mod laws
 pub mod Requests
 pub mod Chiplets
 pub mod Responses

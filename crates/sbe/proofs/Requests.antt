@@ -6,7 +6,7 @@ use mathlib.Core.List.{List}
 use native.Mathlib.Omega.{arith}
 use lib.ListN.{take, drop}
 use Rattle.wire.specs.Wire.{be_nat}
-use Rattle.wire.specs.laws.Cases.{if_le, else_le, if_lt, else_lt, if_eq, else_eq, if_ne, else_ne}
+use Rattle.wire.proofs.laws.Cases.{if_le, else_le, if_lt, else_lt, if_eq, else_eq, if_ne, else_ne}
 use Rattle.record.specs.declared.Area.{Area}
 use Rattle.change.specs.declared.Change.{Change}
 use Rattle.change.specs.declared.Change.TheVariants.{SetAreas}

@@ -6,7 +6,7 @@ use native.Mathlib.Omega.{arith}
 use lib.ListN.{length, take, drop, replicate, length-drop}
 use lib.Seq.{length-take-le}
 use Rattle.wire.specs.Wire.{to_be, pasted}
-use Rattle.wire.specs.laws.Wire.{field_next}
+use Rattle.wire.proofs.laws.Wire.{field_next}
 use Rattle.sbe.specs.Mailbox.{response_bytes}
 
 pub response_put : (primary secondary : ℕ) (r d v w x y : List ℕ) → 32 ≤ length r → v ≡ pasted 0 (to_be 2 primary) d → w ≡ pasted 2 (to_be 2 secondary) v

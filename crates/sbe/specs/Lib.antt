@@ -1,4 +1,3 @@
 pub mod Mailbox
 pub mod Conditions
 pub mod Statuses
-pub mod laws

@@ -11,7 +11,7 @@ use lib.Dec.{ltb, eqb}
 use lib.ListN.{length, take, drop, length-drop}
 use lib.Seq.{length-take-le}
 use Rattle.wire.specs.Wire.{Bytes, pasted}
-use Rattle.wire.specs.laws.Cases.{cond_cases, said_of, if_ne, else_ne}
+use Rattle.wire.proofs.laws.Cases.{cond_cases, said_of, if_ne, else_ne}
 use Rattle.change.specs.Change.{no_tables}
 use Rattle.change.specs.declared.Change.{Change}
 use Rattle.change.specs.declared.Edit.{Edit}
@@ -20,7 +20,7 @@ use Rattle.sbe.specs.declared.Ruling.{Ruling}
 use Rattle.sbe.specs.declared.Ruling.TheVariants.{Decline, Grant, Done, Read}
 use Rattle.session.specs.Session.{well_formed, carried_of}
 use Rattle.session.specs.Road.{Asks, refuses, tells, makes, due, Said, kept, done, settled}
-use Rattle.session.specs.laws.Road.{made_full, made_done}
+use Rattle.session.proofs.laws.Road.{made_full, made_done}
 use Rattle.session.specs.declared.Session.{Session}
 use Rattle.sbe_call.specs.Sbe.{refusal_of, sbe_refusal, counted_in, read_status, read_at, judged_for, served_at, served_by, told_of, ruling_asks, sbe_ruling, by_profile, sbe_read, sbe_asks, sbe_call, ruled_left, sbe_on, data_for, sbe_data, data_on}
 use Rattle.image.specs.declared.Head.{Head}
@@ -28,8 +28,8 @@ use Rattle.image.specs.Image.{head_in, session_in}
 use Rattle.layout.specs.Layout.{image_length}
 use Rattle.inplace.specs.declared.Told.{Told}
 use Rattle.inplace.specs.InPlace.{Left, rung_left, HeadStands, carried_in}
-use Rattle.inplace.specs.laws.InPlace.{Parts, parts, as_read, stands, on_read, carried_kept, carried_new}
-use Rattle.inplace.specs.laws.InPlace as inplace
+use Rattle.inplace.proofs.laws.InPlace.{Parts, parts, as_read, stands, on_read, carried_kept, carried_new}
+use Rattle.inplace.proofs.laws.InPlace as inplace
 use Rattle.sbe.specs.contracts.Ruling.{the_type}
 use denote.Enum.Declared.{tag_of}
 use Rattle.change.specs.declared.Tables.{Tables}

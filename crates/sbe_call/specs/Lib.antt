@@ -1,2 +1,1 @@
 pub mod Sbe
-pub mod laws

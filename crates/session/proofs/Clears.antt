@@ -6,9 +6,10 @@ use mathlib.Core.List.{List, [], ◌∷◌}
 use native.Mathlib.Omega.{arith}
 use lib.ListN.{length, get_or, drop}
 use Rattle.entries.specs.Entries.{Entry, Scan, body_len, scan, entries_of, ReadsWhole}
-use Rattle.entries.specs.laws.Places.{Place, entry_at, first_place, place_entries, scan_end, whole_fits, next_place}
+use Rattle.entries.proofs.laws.Places.{entry_at, first_place, place_entries, scan_end, whole_fits, next_place}
+use Rattle.entries.specs.Places.{Place}
 use Rattle.session.specs.Session.{only_clears}
-use Rattle.session.specs.laws.Watch.{clears_more, not_clears}
+use Rattle.session.proofs.laws.Watch.{clears_more, not_clears}
 
 -- before a place stand clears only
 pub record Cleared (j : List ℕ) (at : ℕ) : Type 0 where

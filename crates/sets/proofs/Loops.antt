@@ -9,10 +9,10 @@ use lib.ListN.{length, take, drop, length-drop}
 use lib.Seq.{drop-drop, length-take-le}
 use lib.Dec.{eqb}
 use borrow.Author.Tests.{eq-eqb, ne_eqb}
-use Rattle.wire.specs.laws.Cases.{if_b}
+use Rattle.wire.proofs.laws.Cases.{if_b}
 use Rattle.sets.specs.declared.Sets.{Sets}
 use Rattle.sets.specs.Sets.{sets_as, one_set, sets_of}
-use Rattle.sets.specs.laws.Sets.{Parted, sets_parted}
+use Rattle.sets.proofs.laws.Sets.{Parted, sets_parted}
 
 -- the w bytes from a place on, as the code takes them
 pub part_length : (l : List ℕ) (at w : ℕ) → at + w ≤ length l → length (take (at + w - at) (drop at l)) ≡ w

@@ -11,7 +11,7 @@ use lib.Pow.{pow_pos, pow-lt}
 use Rattle.wire.specs.Wire.{pasted}
 use Rattle.sets.specs.declared.Frus.{Frus}
 use Rattle.sets.specs.Sets.{sets_as, bad_sets, with_pair, with_fru}
-use Rattle.sets.specs.laws.Sets.{bit_free}
+use Rattle.sets.proofs.laws.Sets.{bit_free}
 
 -- ---- the bit of a pair or FRU, as the code shifts it
 

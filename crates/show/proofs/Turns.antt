@@ -7,7 +7,7 @@ use native.Mathlib.Numerals.{add-one}
 use native.Mathlib.Omega.{arith}
 use lib.Dec.{eqb}
 use Rattle.text.specs.Text.{Sheet, put_all}
-use Rattle.text.specs.laws.Pieces.{pieces}
+use Rattle.text.proofs.laws.Pieces.{pieces}
 use Rattle.show.specs.Show.{where_set}
 
 module _ (bit rest : ℕ → ℕ) (what : ℕ → List (List ℕ)) (n i bits : ℕ) (p : Sheet) where

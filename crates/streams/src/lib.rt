@@ -196,3 +196,75 @@ pub fn argument(rt: &impl Env, number: usize, space: &mut [u8]) -> usize
 {
     rt.arg(number, space).unwrap_or(0)
 }
+
+#[cfg(test)]
+mod tests {
+    use super::*;
+
+    // A stream that a signal interrupts, that isn't ready once, moves a byte at a time, and breaks.
+    #[derive(Drop)]
+    struct Frail {
+        turn: u8,
+    }
+
+    impl Frail {
+        fn answer(&mut self) -> io::Result<usize>
+            ensures { IfOk result (λ n. n ≤ 1) }
+        {
+            self.turn = self.turn.saturating_add(1);
+            match self.turn {
+                1 => Err(Error::from(ErrorKind::Interrupted)),
+                3 => Err(Error::from(ErrorKind::WouldBlock)),
+                5 => Err(Error::other("broken")),
+                _ => Ok(1),
+            }
+        }
+    }
+
+    impl Read for Frail {
+        fn read(&mut self, space: &mut [u8]) -> io::Result<usize> {
+            let n = self.answer()?.min(space.len());
+            if n > 0 {
+                space[0] = b'0' + self.turn % 10;
+            }
+            Ok(n)
+        }
+    }
+
+    impl Write for Frail {
+        fn write(&mut self, bytes: &[u8]) -> io::Result<usize> {
+            Ok(self.answer()?.min(bytes.len()))
+        }
+
+        fn flush(&mut self) -> io::Result<()> {
+            Ok(())
+        }
+    }
+
+    #[test]
+    fn reads_on_until_it_breaks(rt: HostRuntime) {
+        let mut space = [0u8; 3];
+        let got = read_full(&rt, &mut Frail { turn: 0 }, b"frail", &mut space);
+        assert!(rt; got.failed);
+        assert_eq!(rt; got.count, 2);
+        assert_eq!(rt; space[0], b'2');
+        assert_eq!(rt; space[1], b'4');
+        let whole = read_full(&rt, &mut Frail { turn: 5 }, b"frail", &mut space);
+        assert!(rt; !whole.failed);
+        assert_eq!(rt; whole.count, 3);
+    }
+
+    #[test]
+    fn writes_on_until_it_breaks(rt: HostRuntime) {
+        assert!(rt; write_to(&rt, &mut Frail { turn: 0 }, b"frail", b"ab"));
+        assert!(rt; !write_to(&rt, &mut Frail { turn: 0 }, b"frail", b"abc"));
+        assert!(rt; write(&rt, b""));
+    }
+
+    #[test]
+    fn a_file_that_is_missing_is_said(rt: HostRuntime) {
+        let mut space = [0u8; 8];
+        assert!(rt; read_named(&rt, b"no such file", &mut space).failed);
+        assert!(rt; read_named(&rt, b"\xFF", &mut space).failed);
+    }
+}

@@ -1,2 +1,3 @@
+pub mod laws
 pub mod Turns
 pub mod Numbers

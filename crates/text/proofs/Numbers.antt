@@ -9,7 +9,7 @@ use lib.Dec.{leb}
 use lib.ListN.{length, get_or, drop, drop_of_length-le}
 use lib.Seq.{drop-cons}
 use borrow.Author.Tests.{le-leb, lt-leb}
-use Rattle.wire.specs.laws.Cases.{if_b, else_b, if_lt, else_lt, cond_elim, same_le}
+use Rattle.wire.proofs.laws.Cases.{if_b, else_b, if_lt, else_lt, cond_elim, same_le}
 use Rattle.text.specs.declared.Number.{Number}
 use Rattle.text.specs.declared.Number.TheVariants.{Missing, TooGreat, Is}
 use Rattle.text.specs.Text.{digit_of, digit_at, leading}

@@ -11,7 +11,7 @@ use lib.ListN.{length, get_or, drop, set, drop_of_length-le}
 use lib.Seq.{drop-cons}
 use borrow.Author.Tests.{ltb-true, ltb-false}
 use Rattle.wire.specs.Wire.{pasted}
-use Rattle.wire.specs.laws.Cases.{if_b, else_b, if_lt, else_lt, if_le, else_le, if_ne, else_ne, cond_elim}
+use Rattle.wire.proofs.laws.Cases.{if_b, else_b, if_lt, else_lt, if_le, else_le, if_ne, else_ne, cond_elim}
 use Rattle.wire.proofs.Loops.{store_first, paste_none}
 use Rattle.text.specs.declared.Fault.{Fault}
 use Rattle.text.specs.declared.Fault.TheVariants.{Nothing, Digit, Over}

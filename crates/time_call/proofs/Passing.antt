@@ -8,7 +8,7 @@ use borrow.Author.Tests.{leb-false}
 use lib.Dec.{leb}
 use lib.ListN.{length}
 use Rattle.wire.specs.Wire.{Bytes}
-use Rattle.wire.specs.laws.Cases.{else_eq}
+use Rattle.wire.proofs.laws.Cases.{else_eq}
 use Rattle.record.specs.declared.Timer.{Timer}
 use Rattle.session.specs.Session.{well_formed, with_timer}
 use Rattle.session.specs.Road.{passes, expires, ticked, timer_bell, time_passed, done, settled}
@@ -18,7 +18,7 @@ use Rattle.image.specs.Image.{image_of, head_in, head_timed, session_in}
 use Rattle.layout.specs.Layout.{image_length}
 use Rattle.inplace.specs.declared.Told.{Told}
 use Rattle.inplace.specs.InPlace.{rung_left, HeadStands}
-use Rattle.inplace.specs.laws.Silent as silent
+use Rattle.inplace.proofs.laws.Silent as silent
 use Rattle.time_call.specs.Time.{time_asks, time_call, timed_by, time_on}
 
 -- one that runs has more left than is taken off

@@ -9,27 +9,27 @@ use lib.Dec.{eqb}
 use lib.ListN.{length, take, drop}
 use lib.Seq.{length-take-le, take-take}
 use Rattle.entries.specs.Entries.{Entry, written, Scan, between, entries_of, scan, newest_at, reading_of}
-use Rattle.entries.specs.laws.Entries.{scan_written, newest_written}
+use Rattle.entries.proofs.laws.Entries.{scan_written, newest_written}
 use Rattle.entries.specs.declared.Reading.{Reading}
 use Rattle.entries.specs.declared.Reading.TheVariants.{Whole, Unknown, Cut}
 use Rattle.marks.specs.declared.Mark.{Mark}
 use Rattle.marks.specs.declared.Newest.{Newest}
 use Rattle.marks.specs.declared.Newest.TheVariants.{At, Nothing}
 use Rattle.marks.specs.Marks.{passed_of, newest_of}
-use Rattle.marks.specs.laws.Last.{IsAt, place_of}
+use Rattle.marks.proofs.laws.Last.{IsAt, place_of}
 use Rattle.journal.specs.Ways.{by_way}
 use Rattle.journal.specs.declared.Way.{Way}
 use Rattle.journal.specs.declared.Way.TheVariants.{Before, After}
 use Rattle.session.specs.Session.{entries_in, well_formed}
 use Rattle.session.specs.Road.{store_of, used_of}
-use Rattle.session.specs.laws.Session.{formed}
-use Rattle.session.specs.laws.Reads.{Reads, reads}
+use Rattle.session.proofs.laws.Session.{formed}
+use Rattle.session.proofs.laws.Reads.{Reads, reads}
 use Rattle.session.specs.declared.Session.{Session}
 use Rattle.image.specs.declared.Head.{Head}
 use Rattle.image.specs.Image.{store_at, redo_in, session_in}
 use Rattle.layout.specs.Layout.{journal_at, redo_at}
 use Rattle.inplace.specs.InPlace.{HeadStands, Marked}
-use Rattle.inplace.specs.laws.Marked.{formed_marked, used_is, place_low, empty_journal, newest_there}
+use Rattle.inplace.proofs.laws.Marked.{formed_marked, used_is, place_low, empty_journal, newest_there}
 use Rattle.undo_call.specs.Undo.{passed_by, LooksFrom, NewestFound, MarksBefore}
 
 abbrev count_in : Reading → ℕ

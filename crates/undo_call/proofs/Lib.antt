@@ -1,3 +1,4 @@
+pub mod laws
 pub mod Finding
 pub mod Taking
 pub mod Marking

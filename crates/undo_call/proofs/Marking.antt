@@ -6,20 +6,20 @@ use native.Mathlib.Omega.{arith}
 use lib.ListN.{length, take, length-take}
 use lib.Seq.{take_at, length-take-le}
 use Rattle.wire.specs.Wire.{pasted}
-use Rattle.wire.specs.laws.Cases.{else_lt}
+use Rattle.wire.proofs.laws.Cases.{else_lt}
 use Rattle.change.specs.Change.{takes_back}
 use Rattle.change.specs.declared.Edit.{Edit}
 use Rattle.entries.specs.Entries.{Entry, Scan, entries_of, scan}
-use Rattle.entries.specs.laws.Entries.{Sized}
+use Rattle.entries.specs.Entries.{Sized}
 use Rattle.marks.specs.declared.Mark.{Mark}
 use Rattle.marks.specs.declared.Newest.{Newest}
 use Rattle.marks.specs.declared.Newest.TheVariants.{At}
 use Rattle.marks.specs.Marks.{marks_of, passed_of, Last, NewestFits}
-use Rattle.marks.specs.laws.Marks.{length_marks}
+use Rattle.marks.proofs.laws.Marks.{length_marks}
 use Rattle.journal.specs.Ways.{by_way, other}
 use Rattle.journal.specs.Bytes.{entry_for, entry_bytes}
 use Rattle.journal.specs.Add.{entry_len, cut_from}
-use Rattle.journal.specs.laws.Ends.{sized_reads}
+use Rattle.journal.proofs.laws.Ends.{sized_reads}
 use Rattle.journal.specs.declared.Way.{Way}
 use Rattle.journal.specs.declared.Way.TheVariants.{Before, After}
 use Rattle.session.specs.Session.{entries_in, marks_for}
@@ -27,11 +27,11 @@ use Rattle.session.specs.Road.{store_of, used_of, lessened, grown, grown_to}
 use Rattle.session.specs.declared.Session.{Session}
 use Rattle.image.specs.declared.Head.{Head}
 use Rattle.image.specs.Image.{store_in, with_part, journal_in, marks_in, session_in}
-use Rattle.image.specs.laws.Stores.{marks_long, marks_back, marks_store}
+use Rattle.image.proofs.laws.Stores.{marks_long, marks_back, marks_store}
 use Rattle.image.proofs.Standing.{length_store}
 use Rattle.layout.specs.Layout.{marks_size, journal_at, marks_at, image_length}
 use Rattle.inplace.specs.InPlace.{Marked}
-use Rattle.inplace.specs.laws.Marked.{entries_are}
+use Rattle.inplace.proofs.laws.Marked.{entries_are}
 use Rattle.undo_call.specs.Undo.{passed_by, LooksFrom, MarksBefore, MarksAfter}
 
 -- ---- what the new marks are: g are the lent bytes with them

@@ -8,9 +8,9 @@ use lib.Dec.{ltb, eqb}
 use lib.ListN.{length, take, drop, replicate, length-drop, length-replicate}
 use borrow.Author.Tests.{not-false, ltb-false}
 use lib.Seq.{length-take-le, drop-drop}
-use Rattle.wire.specs.laws.Cases.{cond_cases, if_b, else_b, if_eq, else_eq}
+use Rattle.wire.proofs.laws.Cases.{cond_cases, if_b, else_b, if_eq, else_eq}
 use Rattle.wire.specs.Wire.{pasted, Bytes}
-use Rattle.wire.specs.laws.Wire.{part_of_part, length_pasted}
+use Rattle.wire.proofs.laws.Wire.{part_of_part, length_pasted}
 use Rattle.record.specs.declared.Record.{Record}
 use Rattle.record.specs.declared.Timer.{Timer}
 use Rattle.change.specs.Change.{kind_of, put_of, back_of, inverse_of, timed, takes_back, timer_after}
@@ -26,7 +26,7 @@ use Rattle.journal.specs.Ways.{by_way, other}
 use Rattle.journal.specs.Bytes.{entry_bytes}
 use Rattle.journal.specs.Read.{got_of}
 use Rattle.journal.specs.Add.{entry_len, cut_from}
-use Rattle.journal.specs.laws.Says.{Whole as Entry, got_whole}
+use Rattle.journal.proofs.laws.Says.{Whole as Entry, got_whole}
 use Rattle.journal.specs.declared.Way.{Way}
 use Rattle.journal.specs.declared.Way.TheVariants.{Before, After}
 use Rattle.journal.specs.declared.Found.TheVariants.{Good, Bad}
@@ -34,18 +34,18 @@ use Rattle.journal.specs.declared.Got.{Got}
 use Rattle.record.specs.Record.{worked_of}
 use Rattle.session.specs.Session.{marks_for, well_formed, renewed, with_timer}
 use Rattle.session.specs.Road.{Asks, refuses, moves, store_of, used_of, lessened, grown, grown_to, session_moved, kept, done, settled}
-use Rattle.session.specs.laws.Session.{formed}
+use Rattle.session.proofs.laws.Session.{formed}
 use Rattle.session.specs.declared.Session.{Session}
-use Rattle.change.specs.laws.Timed.{kind_of_back, timed_kind}
+use Rattle.change.proofs.laws.Timed.{kind_of_back, timed_kind}
 use Rattle.image.specs.declared.Head.{Head}
 use Rattle.image.specs.Image.{head_renewed, head_timed, image_of, part_at, head_in, store_at, store_in, with_store, journal_in, redo_in, marks_in, session_in}
 use Rattle.layout.specs.Layout.{journal_at, redo_at, image_length}
-use Rattle.image.specs.laws.Stores.{store_low, store_long, store_back, store_above, store_below, store_marks}
+use Rattle.image.proofs.laws.Stores.{store_low, store_long, store_back, store_above, store_below, store_marks}
 use Rattle.image.proofs.Standing.{length_store}
 use Rattle.inplace.specs.declared.Told.{Told}
 use Rattle.inplace.specs.InPlace.{Left, HeadStands}
-use Rattle.inplace.specs.laws.InPlace.{stands, on_read}
-use Rattle.inplace.specs.laws.InPlace as inplace
+use Rattle.inplace.proofs.laws.InPlace.{stands, on_read}
+use Rattle.inplace.proofs.laws.InPlace as inplace
 use Rattle.undo_call.specs.Undo.{put_asks, edit_asks, found_asks, got_asks, entry_asks, read_asks, none_left, newest_asks, move_asks, move_call, head_moved, passed_by, moved_left, moved_by, move_on, NewestFound, Moved}
 use Rattle.undo_call.proofs.Finding.{newest_low}
 

@@ -1,2 +1,1 @@
 pub mod Undo
-pub mod laws

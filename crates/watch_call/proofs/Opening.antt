@@ -5,7 +5,7 @@ use mathlib.Core.Path.{◌≡◌, refl, sym, ap, ◌∙◌}
 use mathlib.Core.List.{List, []}
 use lib.ListN.{length, replicate}
 use Rattle.wire.specs.Wire.{Bytes}
-use Rattle.wire.specs.laws.Cases.{else_ne}
+use Rattle.wire.proofs.laws.Cases.{else_ne}
 use Rattle.record.specs.Record.{worked_of}
 use Rattle.record.specs.declared.Worked.{Worked}
 use Rattle.entries.specs.Entries.{scan_from, scan_by, entries_of}
@@ -18,7 +18,7 @@ use Rattle.image.specs.Image.{image_of, head_in, session_in, written_to}
 use Rattle.layout.specs.Layout.{image_length}
 use Rattle.inplace.specs.declared.Told.{Told}
 use Rattle.inplace.specs.InPlace.{rung_left}
-use Rattle.inplace.specs.laws.Silent as silent
+use Rattle.inplace.proofs.laws.Silent as silent
 use Rattle.watch_call.specs.Watch.{watch_asks, watch_call, opened_by, watch_on}
 
 abbrev pub Tells : Session → Told → List ℕ → Type 0

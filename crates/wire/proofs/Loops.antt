@@ -12,7 +12,7 @@ use lib.Dec.{lit<, ltb, eqb}
 use lib.ListN.{length, get_or, take, drop, set, replicate, length-append, length-drop, length-set, take-append-drop, drop_of_length-le}
 use lib.Seq.{take_all, take-add, length-take-le, drop-drop, take-suc, take-length, drop-length, drop-cons, get_or-drop, take-set-le, drop-set-lt, take-suc-set, get_or-set_same}
 use Rattle.wire.specs.Wire.{be_onto, be_nat, to_be, pasted, all_are}
-use Rattle.wire.specs.laws.Wire.{onto_append, length_to_be, tail_part, all_append, all_drop}
+use Rattle.wire.proofs.laws.Wire.{onto_append, length_to_be, tail_part, all_append, all_drop}
 
 -- ---- be: the first i bytes are read
 

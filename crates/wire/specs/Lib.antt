@@ -1,3 +1,2 @@
 pub mod Wire
 pub mod Conditions
-pub mod laws

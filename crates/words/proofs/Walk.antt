@@ -8,9 +8,9 @@ use native.Mathlib.Omega.{arith}
 use lib.Dec.{eqb}
 use lib.ListN.{length, take, drop, get_or, length-drop, drop_of_length-le}
 use lib.Seq.{drop-drop}
-use Rattle.wire.specs.laws.Wire.{tail_part}
+use Rattle.wire.proofs.laws.Wire.{tail_part}
 use Rattle.text.specs.Text.{Sheet, put_on, put_all, leading, other}
-use Rattle.text.specs.laws.Pieces.{piece}
+use Rattle.text.proofs.laws.Pieces.{piece}
 use Rattle.words.specs.Words.{begun_by, words_in}
 
 -- ---- the first word, and those after its bar

@@ -1,6 +1,6 @@
 -- `answers::at_column` meets its contract: its parts are put one after the other. Assumes nothing.
 use Rattle.answers.specs.Answers.{column_text}
-use Rattle.text.specs.laws.Pieces.{piece, last_piece}
+use Rattle.text.proofs.laws.Pieces.{piece, last_piece}
 use borrow.Author.Rules.{rules}
 use Rattle.answers.proofs.at_column.Goals as goal
 

@@ -1,5 +1,5 @@
 -- `answers::help` meets its contract: its parts are put one after the other. Assumes nothing.
-use Rattle.text.specs.laws.Pieces.{piece, pieces, last_piece}
+use Rattle.text.proofs.laws.Pieces.{piece, pieces, last_piece}
 use Rattle.words.specs.Words.{words_in, begun_by}
 use Rattle.answers.specs.Answers.{help_text}
 use Rattle.answers.proofs.help.Goals as goal

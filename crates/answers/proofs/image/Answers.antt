@@ -1,6 +1,6 @@
 -- `answers::image` meets its contract: its parts are put one after the other. Assumes nothing.
 use Rattle.answers.specs.Answers.{image_text}
-use Rattle.text.specs.laws.Pieces.{piece, pieces, last_piece}
+use Rattle.text.proofs.laws.Pieces.{piece, pieces, last_piece}
 use borrow.Author.Rules.{rules}
 use Rattle.answers.proofs.image.Goals as goal
 

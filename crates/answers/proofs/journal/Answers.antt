@@ -1,6 +1,6 @@
 -- `answers::journal` meets its contract: its parts are put one after the other. Assumes nothing.
 use Rattle.answers.specs.Answers.{journal_text}
-use Rattle.text.specs.laws.Pieces.{pieces, last_piece}
+use Rattle.text.proofs.laws.Pieces.{pieces, last_piece}
 use borrow.Author.Rules.{rules}
 use Rattle.answers.proofs.journal.Goals as goal
 

@@ -3,7 +3,7 @@ use Rattle.answers.specs.Answers.{bell_text}
 use mathlib.Core.Path.{refl}
 use mathlib.Core.Path.{refl, ap, ◌∙◌}
 use Rattle.text.specs.Text.{hexes}
-use Rattle.text.specs.laws.Pieces.{piece, same_pieces, filled}
+use Rattle.text.proofs.laws.Pieces.{piece, same_pieces, filled}
 use Rattle.answers.proofs.put_bell.Goals as goal
 
 pub returns : goal.returns

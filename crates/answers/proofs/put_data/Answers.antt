@@ -1,5 +1,5 @@
 use Rattle.answers.proofs.Saying.{data_none, data_some}
-use Rattle.text.specs.laws.Pieces.{piece, last_piece, same_pieces}
+use Rattle.text.proofs.laws.Pieces.{piece, last_piece, same_pieces}
 use Rattle.answers.proofs.put_data.Goals as goal
 
 pub returns-then-bytes-eq0 : goal.returns-then-bytes-eq0

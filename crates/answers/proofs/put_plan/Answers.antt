@@ -1,5 +1,5 @@
 use Rattle.answers.proofs.Saying.{plan_none, plan_some}
-use Rattle.text.specs.laws.Pieces.{piece, last_piece, same_pieces}
+use Rattle.text.proofs.laws.Pieces.{piece, last_piece, same_pieces}
 use Rattle.answers.proofs.put_plan.Goals as goal
 
 pub returns-then-found-eq0 : goal.returns-then-found-eq0

@@ -2,7 +2,7 @@ use mathlib.Core.Path.{refl, ap, ◌∙◌}
 use Rattle.text.specs.Text.{put_all}
 use Rattle.answers.specs.Answers.{data_text}
 use Rattle.answers.proofs.Saying.{read_no_request, read_no_response, read_other, read_refused, read_done}
-use Rattle.text.specs.laws.Pieces.{same_pieces}
+use Rattle.text.proofs.laws.Pieces.{same_pieces}
 use Rattle.answers.proofs.put_read.Goals as goal
 
 pub returns-then-request-lt32 : goal.returns-then-request-lt32

@@ -5,7 +5,7 @@ use lib.ListN.{take}
 use Rattle.text.specs.Text.{spaced}
 use Rattle.answers.specs.Answers.{reply_text}
 use Rattle.answers.proofs.Saying.{refused, accepted}
-use Rattle.text.specs.laws.Pieces.{piece, pieces, last_piece, same_pieces}
+use Rattle.text.proofs.laws.Pieces.{piece, pieces, last_piece, same_pieces}
 use borrow.Author.Rules.{rules}
 use Rattle.answers.proofs.reply.Goals as goal
 

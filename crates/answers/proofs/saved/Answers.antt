@@ -1,5 +1,5 @@
 use Rattle.answers.proofs.Saying.{save_refused, save_done}
-use Rattle.text.specs.laws.Pieces.{piece, pieces, last_piece, same_pieces}
+use Rattle.text.proofs.laws.Pieces.{piece, pieces, last_piece, same_pieces}
 use borrow.Author.Rules.{rules}
 use Rattle.answers.proofs.saved.Goals as goal
 

@@ -1,6 +1,6 @@
 use Rattle.answers.specs.Answers.{timed_text}
 use Rattle.answers.proofs.Saying.{refused, accepted}
-use Rattle.text.specs.laws.Pieces.{piece, pieces, last_piece, same_pieces}
+use Rattle.text.proofs.laws.Pieces.{piece, pieces, last_piece, same_pieces}
 use borrow.Author.Rules.{rules}
 use Rattle.answers.proofs.timed.Goals as goal
 

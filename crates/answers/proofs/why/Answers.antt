@@ -1,6 +1,6 @@
 -- `answers::why` meets its contract: the reason decides whether there is a place. Assumes nothing.
 use Rattle.answers.proofs.Saying.{why_none, why_some}
-use Rattle.text.specs.laws.Pieces.{piece, last_piece, same_pieces}
+use Rattle.text.proofs.laws.Pieces.{piece, last_piece, same_pieces}
 use borrow.Author.Rules.{rules}
 use Rattle.answers.proofs.why.Goals as goal
 

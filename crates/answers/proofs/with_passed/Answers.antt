@@ -1,7 +1,7 @@
 -- `answers::with_passed` meets its contract: the answer decides whether kind and number follow. Assumes nothing.
 use Rattle.answers.specs.Answers.{passed_text}
 use Rattle.answers.proofs.Saying.{refused, accepted}
-use Rattle.text.specs.laws.Pieces.{piece, last_piece, same_pieces}
+use Rattle.text.proofs.laws.Pieces.{piece, last_piece, same_pieces}
 use borrow.Author.Rules.{rules}
 use Rattle.answers.proofs.with_passed.Goals as goal
 

@@ -1,5 +1,5 @@
 use Rattle.change.proofs.Puts.{with_logs_put}
-use Rattle.wire.specs.laws.Cases.{if_b, else_b}
+use Rattle.wire.proofs.laws.Cases.{if_b, else_b}
 use Rattle.change.specs.Change.{clear_of}
 use mathlib.Core.Bool.{not}
 use mathlib.Core.Path.{sym, ap, ◌∙◌}

@@ -1,4 +1,4 @@
-use Rattle.wire.specs.laws.Cases.{if_eq, else_eq}
+use Rattle.wire.proofs.laws.Cases.{if_eq, else_eq}
 use Rattle.change.specs.Logs.{find_of}
 use mathlib.Core.Path.{refl}
 use Rattle.change.proofs.find.Goals as goal

@@ -1,5 +1,5 @@
 use Rattle.change.specs.Logs.{insert_at}
-use Rattle.wire.specs.laws.Cases.{else_lt}
+use Rattle.wire.proofs.laws.Cases.{else_lt}
 use Rattle.change.proofs.Logs.{insert_0, insert_1, insert_2, insert_3}
 use mathlib.Core.Path.{refl}
 use native.Mathlib.Omega.{arith}

@@ -1,4 +1,4 @@
-use Rattle.wire.specs.laws.Cases.{if_eq, else_eq}
+use Rattle.wire.proofs.laws.Cases.{if_eq, else_eq}
 use Rattle.change.specs.Change.{made_again}
 use mathlib.Core.Path.{refl}
 use Rattle.change.proofs.made_again.Goals as goal

@@ -1,5 +1,5 @@
 use mathlib.Core.Path.{refl}
-use Rattle.wire.specs.laws.Cases.{else_eq, else_lt, else_ne, if_eq, if_lt, if_ne}
+use Rattle.wire.proofs.laws.Cases.{else_eq, else_lt, else_ne, if_eq, if_lt, if_ne}
 use Rattle.change.specs.Logs.{pends_at}
 use Rattle.change.proofs.pends_at.Goals as goal
 

@@ -1,5 +1,5 @@
 use Rattle.change.specs.Logs.{remove_at}
-use Rattle.wire.specs.laws.Cases.{else_lt}
+use Rattle.wire.proofs.laws.Cases.{else_lt}
 use Rattle.change.proofs.Logs.{remove_0, remove_1, remove_2, remove_3}
 use mathlib.Core.Path.{refl}
 use native.Mathlib.Omega.{arith}

@@ -1,4 +1,4 @@
-use Rattle.wire.specs.laws.Cases.{if_eq, else_eq, if_le, else_le}
+use Rattle.wire.proofs.laws.Cases.{if_eq, else_eq, if_le, else_le}
 use Rattle.change.specs.Logs.{insert_at}
 use Rattle.change.specs.Change.{reset_of}
 use Rattle.change.proofs.Puts.{state_put, state_logs_put}

@@ -1,5 +1,5 @@
 use mathlib.Core.Path.{ap}
-use Rattle.wire.specs.laws.Cases.{else_eq, if_eq}
+use Rattle.wire.proofs.laws.Cases.{else_eq, if_eq}
 use Rattle.change.specs.Change.{tables_for}
 use Rattle.change.specs.declared.Tables.{Tables}
 use Rattle.change.proofs.tables_for.Goals as goal

@@ -1,5 +1,5 @@
 use Rattle.change.specs.Change.{timed_change}
-use Rattle.wire.specs.laws.Cases.{if_eq, else_eq}
+use Rattle.wire.proofs.laws.Cases.{if_eq, else_eq}
 use mathlib.Core.Path.{refl, sym, ◌∙◌}
 use Rattle.change.proofs.timed.Goals as goal
 

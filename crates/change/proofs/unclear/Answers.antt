@@ -1,4 +1,4 @@
-use Rattle.wire.specs.laws.Cases.{if_lt, else_lt, if_le, else_le}
+use Rattle.wire.proofs.laws.Cases.{if_lt, else_lt, if_le, else_le}
 use Rattle.change.specs.Change.{unclear_of}
 use Rattle.change.proofs.Puts.{with_logs_put}
 use mathlib.Core.Path.{subst}

@@ -1,4 +1,4 @@
-use Rattle.wire.specs.laws.Cases.{if_eq, else_eq}
+use Rattle.wire.proofs.laws.Cases.{if_eq, else_eq}
 use Rattle.change.specs.Logs.{remove_at}
 use Rattle.change.specs.Change.{unreset_of}
 use Rattle.change.proofs.Puts.{state_put, state_logs_put}

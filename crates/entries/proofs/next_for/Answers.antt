@@ -1,6 +1,6 @@
 -- `entries::next_for` meets its contract: its tests are the definition's. Assumes nothing.
 use mathlib.Core.Path.{refl}
-use Rattle.wire.specs.laws.Cases.{if_eq, else_eq, if_lt, else_lt}
+use Rattle.wire.proofs.laws.Cases.{if_eq, else_eq, if_lt, else_lt}
 use Rattle.entries.specs.Entries.{next_for}
 use Rattle.entries.proofs.next_for.Goals as goal
 

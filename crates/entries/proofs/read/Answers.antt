@@ -2,7 +2,7 @@
 use mathlib.Core.Path.{refl}
 use native.Mathlib.Omega.{arith}
 use Rattle.entries.specs.Entries.{journal_table}
-use Rattle.entries.specs.laws.Entries.{no_kind}
+use Rattle.entries.proofs.laws.Entries.{no_kind}
 use Rattle.entries.proofs.Turns.{kind_zero, whole_kind, some, passed_none, passed_all, passed_unknown, passed_cut, passed_next, count_fits, newest_fits}
 use Rattle.entries.proofs.read.Goals as goal
 

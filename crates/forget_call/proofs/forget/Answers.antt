@@ -1,5 +1,5 @@
 use native.Mathlib.Omega.{arith}
-use Rattle.inplace.specs.laws.InPlace.{stands}
+use Rattle.inplace.proofs.laws.InPlace.{stands}
 use Rattle.forget_call.proofs.Freeing.{no_image_lem, ill_formed, well_formed_is, oldest_forgotten}
 use Rattle.forget_call.proofs.forget.Goals as goal
 

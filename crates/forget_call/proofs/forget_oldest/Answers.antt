@@ -1,6 +1,6 @@
 use native.Mathlib.Omega.{arith}
 use Rattle.forget_call.proofs.Freeing.{used_low, journal_whole, fewer_held, at_low, rest_whole, all_forgotten}
-use Rattle.wire.specs.laws.Pairs.{first_of_two, second_of_two}
+use Rattle.wire.proofs.laws.Pairs.{first_of_two, second_of_two}
 use Rattle.forget_call.proofs.forget_oldest.Goals as goal
 
 pub overflow_add-end : goal.overflow_add-end

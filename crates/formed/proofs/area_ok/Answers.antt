@@ -1,6 +1,6 @@
 -- The definition goes by the tests that the code makes, in the order of D7 04.
 use mathlib.Core.Path.{refl}
-use Rattle.wire.specs.laws.Cases.{else_eq, if_eq, if_not, else_not}
+use Rattle.wire.proofs.laws.Cases.{else_eq, if_eq, if_not, else_not}
 use Rattle.formed.specs.Formed.{area_ok}
 use Rattle.formed.proofs.area_ok.Goals as goal
 

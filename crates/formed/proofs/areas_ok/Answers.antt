@@ -1,5 +1,5 @@
 -- The definition asks of one area after the other, as the code does.
-use Rattle.wire.specs.laws.Cases.{if_not, else_not}
+use Rattle.wire.proofs.laws.Cases.{if_not, else_not}
 use mathlib.Core.Path.{refl}
 use Rattle.formed.specs.Formed.{areas_ok}
 use Rattle.formed.proofs.areas_ok.Goals as goal

@@ -1,6 +1,6 @@
 -- The definition goes by the tests that the code makes: place, id, reason.
 use mathlib.Core.Path.{refl}
-use Rattle.wire.specs.laws.Cases.{else_eq, else_lt, if_eq, if_lt}
+use Rattle.wire.proofs.laws.Cases.{else_eq, else_lt, if_eq, if_lt}
 use Rattle.formed.specs.Formed.{cleared_ok}
 use Rattle.formed.proofs.cleared_ok.Goals as goal
 

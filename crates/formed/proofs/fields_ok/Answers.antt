@@ -1,5 +1,5 @@
 -- The definition asks the fields' rules in the order in which the code calls them.
-use Rattle.wire.specs.laws.Cases.{if_not, else_not}
+use Rattle.wire.proofs.laws.Cases.{if_not, else_not}
 use mathlib.Core.Path.{refl}
 use Rattle.formed.specs.Formed.{fields_ok}
 use Rattle.formed.proofs.fields_ok.Goals as goal

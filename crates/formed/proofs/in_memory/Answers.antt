@@ -1,7 +1,7 @@
 -- A size of 0 stays in memory at any address; any other size does exactly when its last byte does.
 use borrow.Author.Tests.{le-leb}
 use mathlib.Core.Path.{sym}
-use Rattle.wire.specs.laws.Cases.{same_le}
+use Rattle.wire.proofs.laws.Cases.{same_le}
 use Rattle.formed.specs.Formed.{in_memory}
 use native.Mathlib.Omega.{arith}
 use Prim.Native.Nat.{◌+◌, ◌-◌, ◌^◌}

@@ -1,6 +1,6 @@
 -- The definition goes by the tests that the code makes: id, next id, reason.
 use mathlib.Core.Path.{refl}
-use Rattle.wire.specs.laws.Cases.{else_le, if_le}
+use Rattle.wire.proofs.laws.Cases.{else_le, if_le}
 use Rattle.formed.specs.Formed.{log_ok}
 use Rattle.formed.proofs.log_ok.Goals as goal
 

@@ -1,6 +1,6 @@
 -- The definition goes by the tests that the code makes.
 use mathlib.Core.Path.{refl}
-use Rattle.wire.specs.laws.Cases.{else_lt, if_lt}
+use Rattle.wire.proofs.laws.Cases.{else_lt, if_lt}
 use Rattle.formed.specs.Formed.{next_ok}
 use Rattle.formed.proofs.next_ok.Goals as goal
 

@@ -1,6 +1,6 @@
 -- The definition goes by the test that the code makes, and `all_are` answers the rest.
 use mathlib.Core.Path.{refl}
-use Rattle.wire.specs.laws.Cases.{else_eq, if_eq}
+use Rattle.wire.proofs.laws.Cases.{else_eq, if_eq}
 use Rattle.formed.specs.Formed.{pair_ok}
 use Rattle.formed.proofs.pair_ok.Goals as goal
 

@@ -1,6 +1,6 @@
 -- The definition goes by the tests that the code makes.
 use mathlib.Core.Path.{refl}
-use Rattle.wire.specs.laws.Cases.{else_eq, if_eq}
+use Rattle.wire.proofs.laws.Cases.{else_eq, if_eq}
 use Rattle.formed.specs.Formed.{reason_ok}
 use Rattle.formed.proofs.reason_ok.Goals as goal
 

@@ -1,6 +1,6 @@
 -- The definition goes by the tests that the code makes, the flag first.
 use mathlib.Core.Path.{refl}
-use Rattle.wire.specs.laws.Cases.{else_eq, if_eq, if_not, else_not}
+use Rattle.wire.proofs.laws.Cases.{else_eq, if_eq, if_not, else_not}
 use Rattle.formed.specs.Formed.{role_ok}
 use Rattle.formed.proofs.role_ok.Goals as goal
 

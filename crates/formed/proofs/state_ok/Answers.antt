@@ -1,6 +1,6 @@
 -- The definition goes by the tests that the code makes.
 use mathlib.Core.Path.{refl}
-use Rattle.wire.specs.laws.Cases.{else_lt, if_lt}
+use Rattle.wire.proofs.laws.Cases.{else_lt, if_lt}
 use Rattle.formed.specs.Formed.{state_ok}
 use Rattle.formed.proofs.state_ok.Goals as goal
 

@@ -1,6 +1,6 @@
 -- The definition goes by the tests that the code makes, the flag first.
 use mathlib.Core.Path.{refl}
-use Rattle.wire.specs.laws.Cases.{else_ne, if_ne, if_not, else_not}
+use Rattle.wire.proofs.laws.Cases.{else_ne, if_ne, if_not, else_not}
 use Rattle.formed.specs.Formed.{thermal_ok}
 use Rattle.formed.proofs.thermal_ok.Goals as goal
 

@@ -1,6 +1,6 @@
 -- The definition goes by the tests that the code makes, one FRU type after the other.
 use mathlib.Core.Path.{refl}
-use Rattle.wire.specs.laws.Cases.{if_not, else_not}
+use Rattle.wire.proofs.laws.Cases.{if_not, else_not}
 use Rattle.formed.specs.Formed.{thermal_rule}
 use Rattle.formed.proofs.thermal_rule.Goals as goal
 

@@ -1,5 +1,5 @@
 -- The definition goes by the tests that the code makes.
-use Rattle.wire.specs.laws.Cases.{if_not, else_not}
+use Rattle.wire.proofs.laws.Cases.{if_not, else_not}
 use mathlib.Core.Path.{refl}
 use Rattle.formed.specs.Formed.{unreset_ok}
 use Rattle.formed.proofs.unreset_ok.Goals as goal

@@ -1,5 +1,5 @@
 use native.Mathlib.Omega.{arith}
-use Rattle.wire.specs.laws.Wire.{bytes_of}
+use Rattle.wire.proofs.laws.Wire.{bytes_of}
 use Rattle.image.specs.Image.{byte_at, head_in}
 use Rattle.image.proofs.read_head.Goals as goal
 

@@ -1,5 +1,5 @@
 use mathlib.Core.Path.{refl, ◌∙◌}
-use Rattle.wire.specs.laws.Cases.{if_ne, else_ne}
+use Rattle.wire.proofs.laws.Cases.{if_ne, else_ne}
 use Rattle.image.specs.Image.{image_of, session_in, written_to}
 use Rattle.image.proofs.write.Goals as goal
 

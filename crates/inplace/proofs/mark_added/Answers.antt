@@ -1,5 +1,5 @@
 use native.Mathlib.Omega.{arith}
-use Rattle.inplace.specs.laws.Marked.{place_low}
+use Rattle.inplace.proofs.laws.Marked.{place_low}
 use Rattle.inplace.proofs.Marking.{parts_long, none_more, unmarked_more, marked_more, next_room}
 use Rattle.inplace.proofs.mark_added.Goals as goal
 

@@ -1,6 +1,6 @@
 use native.Mathlib.Omega.{arith}
 use mathlib.Core.Path.{refl}
-use Rattle.wire.specs.laws.Cases.{if_eq, else_eq, if_ne, else_ne, if_not, else_not}
+use Rattle.wire.proofs.laws.Cases.{if_eq, else_eq, if_ne, else_ne, if_not, else_not}
 use Rattle.session.specs.Session.{profile_ok}
 use Rattle.inplace.proofs.Watching.{both_low, journal_whole, redo_whole, journal_clears, redo_clears}
 use Rattle.inplace.proofs.profile_ok.Goals as goal

@@ -1,6 +1,6 @@
 use native.Mathlib.Omega.{arith}
 use mathlib.Core.Path.{refl, ◌∙◌}
-use Rattle.wire.specs.laws.Cases.{if_lt, else_lt, if_not, else_not}
+use Rattle.wire.proofs.laws.Cases.{if_lt, else_lt, if_not, else_not}
 use Rattle.image.specs.Image.{session_in}
 use Rattle.inplace.proofs.Marking.{all_tests, parts_long}
 use Rattle.inplace.proofs.stores_ok.Goals as goal

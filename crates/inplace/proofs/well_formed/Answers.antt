@@ -1,6 +1,6 @@
 use mathlib.Core.Path.{refl, sym, ◌∙◌}
 use borrow.Author.Tests.{not-false}
-use Rattle.wire.specs.laws.Cases.{if_not, else_not}
+use Rattle.wire.proofs.laws.Cases.{if_not, else_not}
 use Rattle.session.specs.Session.{well_formed}
 use Rattle.image.specs.Image.{session_in}
 use Rattle.inplace.proofs.well_formed.Goals as goal

@@ -1,6 +1,6 @@
 use Rattle.journal.specs.declared.End.TheVariants.{At}
 use Rattle.journal.proofs.Parts.{add_room, less_than, at_most}
-use Rattle.wire.specs.laws.Cases.{if_lt, else_lt}
+use Rattle.wire.proofs.laws.Cases.{if_lt, else_lt}
 use Rattle.journal.specs.Add.{end_of, added_to}
 use mathlib.Core.Path.{refl, ap}
 use Prim.Native.Nat.{ℕ, ◌+◌}

@@ -2,7 +2,7 @@ use Prim.Native.Nat.{ℕ}
 use mathlib.Core.Path.{refl, ap, ◌∙◌}
 use native.Mathlib.Omega.{arith}
 use lib.ListN.{get_or}
-use Rattle.wire.specs.laws.Cases.{else_eq}
+use Rattle.wire.proofs.laws.Cases.{else_eq}
 use Rattle.entries.specs.Entries.{body_len}
 use Rattle.formed.specs.Formed.{caps_ok, thermal_ok, throttles_ok, deadman_ok, areas_ok, timer_ok, change_ok}
 use Rattle.journal.specs.Read.{found_for, tables_in, values_ok, entry_ok}

@@ -1,5 +1,5 @@
 use Rattle.journal.proofs.Parts.{part_zeroed}
-use Rattle.wire.specs.laws.Cases.{if_lt, else_lt}
+use Rattle.wire.proofs.laws.Cases.{if_lt, else_lt}
 use Rattle.journal.specs.Add.{cut_from}
 use mathlib.Core.Path.{refl}
 use Rattle.journal.proofs.cut.Goals as goal

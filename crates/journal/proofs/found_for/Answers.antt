@@ -1,7 +1,7 @@
 use Rattle.record.specs.declared.Caps.{Caps}
 use Rattle.change.specs.declared.Change.TheVariants.{SetCaps, SetUser, SetMask, SetDeadman, SetAreas, SetTimer}
 use Rattle.journal.specs.declared.Found.TheVariants.{Good}
-use Rattle.wire.specs.laws.Cases.{else_eq}
+use Rattle.wire.proofs.laws.Cases.{else_eq}
 use Rattle.journal.proofs.Parts.{room_for, found_by}
 use Rattle.entries.specs.Entries.{body_len}
 use Rattle.journal.specs.Read.{found_for}

@@ -1,5 +1,5 @@
 use Rattle.journal.proofs.Parts.{get_room, got_by}
-use Rattle.wire.specs.laws.Cases.{if_eq, else_eq, if_ne, else_ne}
+use Rattle.wire.proofs.laws.Cases.{if_eq, else_eq, if_ne, else_ne}
 use Rattle.journal.specs.Read.{got_for, got_of}
 use mathlib.Core.Path.{sym, ◌∙◌}
 use Rattle.journal.proofs.get.Goals as goal

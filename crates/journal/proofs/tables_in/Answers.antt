@@ -1,6 +1,6 @@
 use Rattle.entries.specs.Entries.{body_len}
 use Rattle.journal.proofs.Parts.{room_for}
-use Rattle.wire.specs.laws.Cases.{if_eq, else_eq}
+use Rattle.wire.proofs.laws.Cases.{if_eq, else_eq}
 use Rattle.journal.specs.Read.{tables_in}
 use Rattle.journal.proofs.tables_in.Goals as goal
 

@@ -1,5 +1,5 @@
 -- `listing::put_damaged` meets its contract: its three parts are put one after the other. Assumes nothing.
-use Rattle.text.specs.laws.Pieces.{piece, last_piece}
+use Rattle.text.proofs.laws.Pieces.{piece, last_piece}
 use Rattle.listing.specs.Listing.{damaged_at}
 use Rattle.listing.proofs.put_damaged.Goals as goal
 

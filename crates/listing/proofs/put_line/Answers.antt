@@ -1,5 +1,5 @@
 -- `listing::put_line` meets its contract: its four parts are put one after the other. Assumes nothing.
-use Rattle.text.specs.laws.Pieces.{piece, pieces, last_piece}
+use Rattle.text.proofs.laws.Pieces.{piece, pieces, last_piece}
 use Rattle.listing.specs.Listing.{line}
 use Rattle.listing.proofs.put_line.Goals as goal
 

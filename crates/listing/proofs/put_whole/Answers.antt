@@ -1,5 +1,5 @@
 -- `listing::put_whole` meets its contract: its four parts are put one after the other. Assumes nothing.
-use Rattle.text.specs.laws.Pieces.{piece}
+use Rattle.text.proofs.laws.Pieces.{piece}
 use Rattle.listing.specs.Listing.{whole}
 use Rattle.listing.proofs.put_whole.Goals as goal
 

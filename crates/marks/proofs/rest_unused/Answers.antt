@@ -1,7 +1,7 @@
 use native.Mathlib.Omega.{arith}
 use mathlib.Core.Path.{ap, ◌∙◌}
 use Rattle.wire.specs.Wire.{all_are}
-use Rattle.wire.specs.laws.Wire.{tail_part}
+use Rattle.wire.proofs.laws.Wire.{tail_part}
 use Rattle.marks.specs.Marks.{rest_unused}
 use Prim.Native.Nat.{◌*◌, ◌+◌, ◌/◌}
 use Rattle.marks.proofs.rest_unused.Goals as goal

@@ -1,4 +1,4 @@
-use Rattle.wire.specs.laws.Cases.{if_eq, else_eq}
+use Rattle.wire.proofs.laws.Cases.{if_eq, else_eq}
 use lib.Dec.{eqb}
 use Prim.Native.Nat.{ℕ}
 use mathlib.Core.Path.{refl, ap}

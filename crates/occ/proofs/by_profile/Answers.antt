@@ -1,5 +1,5 @@
 use mathlib.Core.Path.{refl, sym, ◌∙◌}
-use Rattle.wire.specs.laws.Cases.{if_b, else_b}
+use Rattle.wire.proofs.laws.Cases.{if_b, else_b}
 use Rattle.occ.specs.Open.{by_profile}
 use Rattle.occ.proofs.by_profile.Goals as goal
 

@@ -1,6 +1,6 @@
 -- The definition goes by the tests that the code makes: minimum over maximum, then slave.
 use mathlib.Core.Path.{refl}
-use Rattle.wire.specs.laws.Cases.{else_eq, else_lt, if_eq, if_lt}
+use Rattle.wire.proofs.laws.Cases.{else_eq, else_lt, if_eq, if_lt}
 use Rattle.occ.specs.Commands.{caps_for}
 use Rattle.occ.proofs.caps_for.Goals as goal
 

@@ -1,6 +1,6 @@
 -- The caps are the three numbers that `be16` reads, judged by `caps_for` after length and version.
 use Rattle.occ.specs.Commands.{caps_for, sent_caps, caps_verdict}
-use Rattle.wire.specs.laws.Cases.{if_ne, else_ne}
+use Rattle.wire.proofs.laws.Cases.{if_ne, else_ne}
 use mathlib.Core.Path.{refl, ap, ◌∙◌}
 use Rattle.occ.proofs.caps_format.Goals as goal
 

@@ -1,6 +1,6 @@
 -- The definition goes by the tests that the code makes, at the place that `find` gives.
 use Rattle.occ.specs.Commands.{clear_at, clear_verdict}
-use Rattle.wire.specs.laws.Cases.{if_ne, else_ne, if_le, else_le}
+use Rattle.wire.proofs.laws.Cases.{if_ne, else_ne, if_le, else_le}
 use mathlib.Core.Path.{refl, ap, ◌∙◌}
 use Prim.Native.Nat.{ℕ}
 use Rattle.occ.proofs.clear_log.Goals as goal

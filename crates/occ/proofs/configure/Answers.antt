@@ -1,6 +1,6 @@
 -- The format chooses by the same numbers in the code and in the definition.
 use Rattle.occ.specs.Judge.{plainly, format_judged, configure_judged}
-use Rattle.wire.specs.laws.Cases.{if_eq, else_eq, said_of}
+use Rattle.wire.proofs.laws.Cases.{if_eq, else_eq, said_of}
 use mathlib.Core.Path.{ap, ◌∙◌}
 use Prim.Native.Nat.{ℕ}
 use Rattle.occ.proofs.configure.Goals as goal

@@ -1,6 +1,6 @@
 -- After the sender the type chooses, by the same numbers in the code and in the definition.
 use Rattle.occ.specs.Judge.{plainly, type_judged, judge_of}
-use Rattle.wire.specs.laws.Cases.{else_eq, if_not, else_not, said_of}
+use Rattle.wire.proofs.laws.Cases.{else_eq, if_not, else_not, said_of}
 use mathlib.Core.Path.{ap, ◌∙◌}
 use Prim.Native.Nat.{ℕ}
 use Rattle.occ.proofs.judge.Goals as goal

@@ -1,6 +1,6 @@
 -- The definition goes by the reason, as the code does.
 use mathlib.Core.Path.{refl}
-use Rattle.wire.specs.laws.Cases.{else_eq, if_eq}
+use Rattle.wire.proofs.laws.Cases.{else_eq, if_eq}
 use Rattle.occ.specs.Commands.{log_due}
 use Rattle.occ.proofs.log_due.Goals as goal
 

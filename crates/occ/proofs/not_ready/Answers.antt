@@ -1,6 +1,6 @@
 -- The definition goes by the state, as the code does.
 use mathlib.Core.Path.{refl}
-use Rattle.wire.specs.laws.Cases.{else_eq, if_eq}
+use Rattle.wire.proofs.laws.Cases.{else_eq, if_eq}
 use Rattle.occ.specs.Commands.{not_ready}
 use Rattle.occ.proofs.not_ready.Goals as goal
 

@@ -1,5 +1,5 @@
 use mathlib.Core.Path.{refl, ap}
-use Rattle.wire.specs.laws.Cases.{if_eq, else_eq}
+use Rattle.wire.proofs.laws.Cases.{if_eq, else_eq}
 use Rattle.occ.specs.declared.Row.{Row}
 use Rattle.occ.specs.Open.{open_in}
 use Rattle.occ.proofs.open_in.Goals as goal

@@ -1,5 +1,5 @@
 use mathlib.Core.Path.{refl, ap}
-use Rattle.wire.specs.laws.Cases.{if_ne, else_ne}
+use Rattle.wire.proofs.laws.Cases.{if_ne, else_ne}
 use Rattle.occ.specs.declared.Row.{Row}
 use Rattle.occ.specs.Open.{open_to}
 use Rattle.occ.proofs.open_to.Goals as goal

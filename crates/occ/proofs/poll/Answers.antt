@@ -1,6 +1,6 @@
 -- The definition goes by the tests that the code makes: length, then version.
 use mathlib.Core.Path.{refl}
-use Rattle.wire.specs.laws.Cases.{else_ne, if_ne}
+use Rattle.wire.proofs.laws.Cases.{else_ne, if_ne}
 use Rattle.occ.specs.Commands.{poll_verdict}
 use Rattle.occ.proofs.poll.Goals as goal
 

@@ -1,6 +1,6 @@
 -- The definition asks whether a log is due, then for a place and an id, as the code does.
 use Rattle.occ.specs.Commands.{reset_for}
-use Rattle.wire.specs.laws.Cases.{if_le, else_le, if_not, else_not}
+use Rattle.wire.proofs.laws.Cases.{if_le, else_le, if_not, else_not}
 use mathlib.Core.Path.{refl, subst}
 use Prim.Native.Nat.{ℕ, ◌≤◌, ◌<◌}
 use Rattle.occ.proofs.reset_for.Goals as goal

@@ -1,6 +1,6 @@
 -- The definition goes by length, version and reason, and then by what `reset_for` gives.
 use mathlib.Core.Path.{refl}
-use Rattle.wire.specs.laws.Cases.{else_lt, else_ne, if_lt, if_ne}
+use Rattle.wire.proofs.laws.Cases.{else_lt, else_ne, if_lt, if_ne}
 use Rattle.occ.specs.Commands.{reset_verdict}
 use Rattle.occ.proofs.reset_prep.Goals as goal
 

@@ -1,6 +1,6 @@
 -- The definition goes by the tests that the code makes: length, role, standby.
 use mathlib.Core.Path.{refl}
-use Rattle.wire.specs.laws.Cases.{else_lt, else_ne, if_lt, if_ne}
+use Rattle.wire.proofs.laws.Cases.{else_lt, else_ne, if_lt, if_ne}
 use Rattle.occ.specs.Commands.{role_verdict}
 use Rattle.occ.proofs.role_format.Goals as goal
 

@@ -1,4 +1,4 @@
-use Rattle.wire.specs.laws.Cases.{else_eq, said_of}
+use Rattle.wire.proofs.laws.Cases.{else_eq, said_of}
 use Rattle.occ.specs.Open.{row_of}
 use Rattle.occ.proofs.row_of.Goals as goal
 

@@ -1,6 +1,6 @@
 -- The definition asks for length, fitting bytes and readiness, in the order of the code.
 use Rattle.occ.specs.Commands.{state_verdict}
-use Rattle.wire.specs.laws.Cases.{if_ne, else_ne, if_b, else_b, if_not, else_not}
+use Rattle.wire.proofs.laws.Cases.{if_ne, else_ne, if_b, else_b, if_not, else_not}
 use mathlib.Core.Path.{refl, sym, ◌∙◌}
 use Rattle.occ.proofs.set_state.Goals as goal
 

@@ -1,6 +1,6 @@
 -- The definition goes by the tests that the code makes.
 use Rattle.occ.specs.Judge.{sets_status, count_status}
-use Rattle.wire.specs.laws.Cases.{if_lt, else_lt, if_ne, else_ne, if_eq, else_eq}
+use Rattle.wire.proofs.laws.Cases.{if_lt, else_lt, if_ne, else_ne, if_eq, else_eq}
 use mathlib.Core.Path.{refl}
 use Prim.Native.Nat.{◌≤◌}
 use native.Mathlib.Nat.{mul-le-mul}

@@ -1,7 +1,7 @@
 use mathlib.Core.Path.{refl}
 use mathlib.Core.Logic.{⊎_elim}
 use native.Mathlib.Omega.{arith}
-use Rattle.wire.specs.laws.Cases.{if_eq, else_eq, said_of}
+use Rattle.wire.proofs.laws.Cases.{if_eq, else_eq, said_of}
 use Rattle.occ.specs.Open.{shut}
 use Rattle.occ.proofs.Shutting.{shut_other}
 use borrow.Enum.Refused.{opened}

@@ -1,6 +1,6 @@
 -- The definition goes by the tests that the code makes: version, state, last byte.
 use mathlib.Core.Path.{refl}
-use Rattle.wire.specs.laws.Cases.{else_lt, else_ne, if_lt, if_ne}
+use Rattle.wire.proofs.laws.Cases.{else_lt, else_ne, if_lt, if_ne}
 use Rattle.occ.specs.Commands.{state_fits}
 use Rattle.occ.proofs.state_fits.Goals as goal
 

@@ -6,7 +6,7 @@ use Rattle.sets.specs.declared.Frus.{Frus}
 use Rattle.sets.specs.Sets.{empty_frus, frus_of}
 use Rattle.occ.specs.Judge.{thermal_judged, thermal_for, frus_judged}
 use Rattle.occ.proofs.Parts.{of_rest, length_rest, counted_sets}
-use Rattle.wire.specs.laws.Cases.{if_ne, else_ne, if_not, else_not}
+use Rattle.wire.proofs.laws.Cases.{if_ne, else_ne, if_not, else_not}
 use Prim.Native.Nat.{ℕ}
 use mathlib.Core.Path.{ap, ◌∙◌}
 use native.Mathlib.Omega.{arith}

@@ -5,7 +5,7 @@ use Rattle.sets.specs.declared.Sets.{Sets}
 use Rattle.sets.specs.Sets.{empty_sets, sets_of}
 use Rattle.occ.specs.Judge.{throttles_judged, throttles_for, sets_judged}
 use Rattle.occ.proofs.Parts.{of_rest, length_rest, counted_sets}
-use Rattle.wire.specs.laws.Cases.{if_ne, else_ne, if_not, else_not}
+use Rattle.wire.proofs.laws.Cases.{if_ne, else_ne, if_not, else_not}
 use Prim.Native.Nat.{ℕ}
 use mathlib.Core.Path.{ap, ◌∙◌}
 use native.Mathlib.Omega.{arith}

@@ -1,6 +1,6 @@
 -- The definition goes by the tests that the code makes: 0, caps received, minimum, maximum.
 use mathlib.Core.Path.{refl}
-use Rattle.wire.specs.laws.Cases.{else_eq, else_lt, if_eq, if_lt}
+use Rattle.wire.proofs.laws.Cases.{else_eq, else_lt, if_eq, if_lt}
 use Rattle.occ.specs.Commands.{user_allowed}
 use Rattle.occ.proofs.user_allowed.Goals as goal
 

@@ -1,6 +1,6 @@
 -- The value is the number that `be16` reads, judged by `user_for` after the length.
 use Rattle.occ.specs.Commands.{user_for, user_verdict}
-use Rattle.wire.specs.laws.Cases.{if_ne, else_ne}
+use Rattle.wire.proofs.laws.Cases.{if_ne, else_ne}
 use mathlib.Core.Path.{refl, ap, ◌∙◌}
 use Prim.Native.Nat.{ℕ}
 use Rattle.occ.proofs.user_cap.Goals as goal

@@ -1,6 +1,6 @@
 -- The definition asks whether the value is allowed, then for a slave, as the code does.
 use Rattle.occ.specs.Commands.{user_for}
-use Rattle.wire.specs.laws.Cases.{if_eq, else_eq, if_not, else_not}
+use Rattle.wire.proofs.laws.Cases.{if_eq, else_eq, if_not, else_not}
 use mathlib.Core.Path.{refl}
 use Rattle.occ.proofs.user_for.Goals as goal
 

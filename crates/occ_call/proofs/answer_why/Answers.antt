@@ -1,4 +1,4 @@
-use Rattle.wire.specs.laws.Cases.{said_of}
+use Rattle.wire.proofs.laws.Cases.{said_of}
 use Rattle.occ_call.specs.Occ.{beside_of}
 use Rattle.occ_call.proofs.answer_why.Goals as goal
 

@@ -1,7 +1,7 @@
 use mathlib.Core.Logic.{⊎_elim}
 use native.Mathlib.Omega.{arith}
 use Rattle.occ_call.proofs.Answering.{told_in, full_in, done_in}
-use Rattle.wire.specs.laws.Pairs.{first_of_two, second_of_two}
+use Rattle.wire.proofs.laws.Pairs.{first_of_two, second_of_two}
 use borrow.Enum.Refused.{opened}
 use Rattle.occ_call.proofs.hear.Goals as goal
 

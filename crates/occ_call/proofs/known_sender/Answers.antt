@@ -1,5 +1,5 @@
 use mathlib.Core.Path.{refl}
-use Rattle.wire.specs.laws.Cases.{else_eq, if_eq}
+use Rattle.wire.proofs.laws.Cases.{else_eq, if_eq}
 use Rattle.occ_call.specs.Occ.{known_sender}
 use Rattle.occ_call.proofs.known_sender.Goals as goal
 

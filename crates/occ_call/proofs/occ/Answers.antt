@@ -1,5 +1,5 @@
 use native.Mathlib.Omega.{arith}
-use Rattle.inplace.specs.laws.InPlace.{stands}
+use Rattle.inplace.proofs.laws.InPlace.{stands}
 use Rattle.occ_call.proofs.Answering.{no_image_lem, met_in, refused_in, heard_in}
 use Rattle.occ_call.proofs.occ.Goals as goal
 

@@ -1,5 +1,5 @@
 use Rattle.occ_call.specs.Occ.{refusal_of}
-use Rattle.wire.specs.laws.Cases.{else_b, else_lt, if_b, if_lt}
+use Rattle.wire.proofs.laws.Cases.{else_b, else_lt, if_b, if_lt}
 use mathlib.Core.Bool.{not}
 use mathlib.Core.Path.{refl, sym, ap, ◌∙◌}
 use Rattle.occ_call.proofs.refusal.Goals as goal

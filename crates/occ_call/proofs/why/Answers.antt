@@ -1,4 +1,4 @@
-use Rattle.wire.specs.laws.Cases.{if_ne, else_ne, said_of}
+use Rattle.wire.proofs.laws.Cases.{if_ne, else_ne, said_of}
 use mathlib.Core.Logic.{⊎_elim}
 use mathlib.Core.Path.{refl, ap, ◌∙◌}
 use native.Mathlib.Omega.{arith}

@@ -1,5 +1,5 @@
 use mathlib.Core.Path.{refl, sym, ◌∙◌}
-use Rattle.wire.specs.laws.Cases.{else_b, if_b}
+use Rattle.wire.proofs.laws.Cases.{else_b, if_b}
 use Rattle.orders.specs.Orders.{given_of}
 use Rattle.orders.proofs.given_of.Goals as goal
 

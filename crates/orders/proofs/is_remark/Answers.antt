@@ -1,6 +1,6 @@
 -- `orders::is_remark` meets its contract: its tests are those of the definition, in its order. Assumes nothing.
 use mathlib.Core.Path.{refl}
-use Rattle.wire.specs.laws.Cases.{else_le, if_le}
+use Rattle.wire.proofs.laws.Cases.{else_le, if_le}
 use Rattle.orders.specs.Orders.{remark}
 use Rattle.orders.proofs.is_remark.Goals as goal
 

@@ -1,7 +1,7 @@
 -- `orders::take` meets its contract: the part lent has as many bytes as there is room. Assumes nothing.
 use Rattle.orders.proofs.Reading.{part_read}
 use native.Mathlib.Omega.{arith}
-use Rattle.wire.specs.laws.Pairs.{first_of_two, second_of_two}
+use Rattle.wire.proofs.laws.Pairs.{first_of_two, second_of_two}
 use Rattle.orders.proofs.take.Goals as goal
 
 pub returns : goal.returns

@@ -1,6 +1,6 @@
 -- `orders::view_of` meets its contract: its tests are those of the definition, in its order. Assumes nothing.
 use mathlib.Core.Path.{refl, sym, ◌∙◌}
-use Rattle.wire.specs.laws.Cases.{else_b, if_b}
+use Rattle.wire.proofs.laws.Cases.{else_b, if_b}
 use Rattle.orders.specs.Orders.{view_of}
 use Rattle.orders.proofs.view_of.Goals as goal
 

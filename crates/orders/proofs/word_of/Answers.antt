@@ -1,5 +1,5 @@
 use mathlib.Core.Path.{refl, sym, ◌∙◌}
-use Rattle.wire.specs.laws.Cases.{else_b, if_b}
+use Rattle.wire.proofs.laws.Cases.{else_b, if_b}
 use Rattle.orders.specs.Orders.{word_of}
 use Rattle.orders.proofs.word_of.Goals as goal
 

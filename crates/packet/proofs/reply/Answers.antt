@@ -2,7 +2,7 @@
 use lib.Seq.{length-take-le}
 use mathlib.Core.Path.{refl, sym}
 use Rattle.packet.specs.Packet.{replied}
-use Rattle.wire.specs.laws.Cases.{if_lt, else_lt}
+use Rattle.wire.proofs.laws.Cases.{if_lt, else_lt}
 use Rattle.packet.proofs.Written.{reply_put}
 use native.Mathlib.Omega.{arith}
 use Rattle.packet.proofs.reply.Goals as goal

@@ -1,7 +1,7 @@
 -- `parting::agree` meets its contract: the first `i` bytes of both are the same. Assumes nothing.
 use native.Mathlib.Omega.{arith}
 use Rattle.parting.proofs.Agreeing.{agreed_none, first_ends, second_ends, they_differ, agreed_next}
-use Rattle.wire.specs.laws.Pairs.{first_of_two, second_of_two}
+use Rattle.wire.proofs.laws.Pairs.{first_of_two, second_of_two}
 use Rattle.parting.proofs.agree.Goals as goal
 
 pub loop-i-init : goal.loop-i-init

@@ -1,7 +1,7 @@
 -- `parting::put_shared` meets its contract: its seven pieces are put one after the other. Assumes nothing.
 use native.Mathlib.Omega.{arith}
 use Rattle.text.specs.Text.{sheet}
-use Rattle.parting.specs.laws.Lengths.{length_shared}
+use Rattle.parting.proofs.laws.Lengths.{length_shared}
 use Rattle.parting.proofs.Told.{shared_put}
 use Rattle.parting.proofs.put_shared.Goals as goal
 

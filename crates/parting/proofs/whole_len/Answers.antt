@@ -1,6 +1,6 @@
 -- `parting::whole_len` meets its contract: the reading tells where the whole entries end. Assumes nothing.
 use Rattle.parting.proofs.Agreeing.{whole_as}
-use Rattle.wire.specs.laws.Pairs.{first_of_two, second_of_two}
+use Rattle.wire.proofs.laws.Pairs.{first_of_two, second_of_two}
 use Rattle.parting.proofs.whole_len.Goals as goal
 
 pub returns-in-Whole : goal.returns-in-Whole

@@ -1,4 +1,4 @@
-use Rattle.wire.specs.laws.Cases.{if_ne, else_ne, if_le, else_le}
+use Rattle.wire.proofs.laws.Cases.{if_ne, else_ne, if_le, else_le}
 use mathlib.Core.Path.{refl, ap, ◌∙◌}
 use Prim.Native.Nat.{ℕ}
 use mathlib.Core.Bool.{cond}

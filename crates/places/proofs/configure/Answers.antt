@@ -1,4 +1,4 @@
-use Rattle.wire.specs.laws.Cases.{if_eq, else_eq, said_of}
+use Rattle.wire.proofs.laws.Cases.{if_eq, else_eq, said_of}
 use mathlib.Core.Path.{refl}
 use Prim.Native.Nat.{ℕ}
 use Rattle.places.specs.Places.{format_fault, configure_fault}

@@ -1,4 +1,4 @@
-use Rattle.wire.specs.laws.Cases.{else_eq, said_of}
+use Rattle.wire.proofs.laws.Cases.{else_eq, said_of}
 use mathlib.Core.Path.{refl}
 use Prim.Native.Nat.{ℕ}
 use Rattle.places.specs.Places.{fault_of}

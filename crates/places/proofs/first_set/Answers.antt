@@ -1,7 +1,7 @@
 use mathlib.Core.Path.{sym, ap, ◌∙◌}
 use native.Mathlib.Omega.{arith}
 use Rattle.places.specs.Places.{set_fault, first_below, first_set}
-use Rattle.places.specs.laws.Below.{first_none, first_more, first_found}
+use Rattle.places.proofs.laws.Below.{first_none, first_more, first_found}
 use Rattle.places.proofs.Loops.{starts_apart}
 use Rattle.places.proofs.first_set.Goals as goal
 

@@ -1,4 +1,4 @@
-use Rattle.wire.specs.laws.Cases.{if_lt, else_lt, if_not, else_not}
+use Rattle.wire.proofs.laws.Cases.{if_lt, else_lt, if_not, else_not}
 use mathlib.Core.Path.{refl, sym, ap, ◌∙◌}
 use native.Mathlib.Omega.{arith}
 use Rattle.places.specs.declared.SetTable.{SetTable}

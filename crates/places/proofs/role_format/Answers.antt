@@ -1,4 +1,4 @@
-use Rattle.wire.specs.laws.Cases.{if_ne, else_ne, if_lt, else_lt}
+use Rattle.wire.proofs.laws.Cases.{if_ne, else_ne, if_lt, else_lt}
 use mathlib.Core.Path.{refl}
 use Rattle.places.specs.Places.{role_fault}
 use Rattle.places.proofs.role_format.Goals as goal

@@ -1,4 +1,4 @@
-use Rattle.wire.specs.laws.Cases.{if_ne, else_ne}
+use Rattle.wire.proofs.laws.Cases.{if_ne, else_ne}
 use mathlib.Core.Path.{refl, sym, ap}
 use Rattle.places.specs.declared.SetTable.{SetTable}
 use Rattle.places.specs.Places.{same_second, same_number}

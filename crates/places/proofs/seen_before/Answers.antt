@@ -3,7 +3,7 @@ use Prim.Native.Nat.{ℕ}
 use mathlib.Core.Bool.{false}
 use native.Mathlib.Omega.{arith}
 use Rattle.places.specs.Places.{start_of, same_number, any_below, seen_before}
-use Rattle.places.specs.laws.Below.{any_none, any_more, any_exactly}
+use Rattle.places.proofs.laws.Below.{any_none, any_more, any_exactly}
 use Rattle.places.proofs.Loops.{width_bounds, starts_apart}
 use Rattle.places.proofs.seen_before.Goals as goal
 

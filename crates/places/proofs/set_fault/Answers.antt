@@ -1,5 +1,5 @@
 use mathlib.Core.Path.{sym, ◌∙◌}
-use Rattle.wire.specs.laws.Cases.{if_b, else_b, if_lt, else_lt}
+use Rattle.wire.proofs.laws.Cases.{if_b, else_b, if_lt, else_lt}
 use Prim.Native.Nat.{◌+◌}
 use mathlib.Core.Bool.{cond}
 use native.Mathlib.Omega.{arith}

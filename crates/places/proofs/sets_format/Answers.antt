@@ -1,5 +1,5 @@
 use mathlib.Core.Path.{refl, sym, ap, ◌∙◌}
-use Rattle.wire.specs.laws.Cases.{if_lt, else_lt, if_ne, else_ne, if_eq, else_eq}
+use Rattle.wire.proofs.laws.Cases.{if_lt, else_lt, if_ne, else_ne, if_eq, else_eq}
 use Prim.Native.Nat.{ℕ, ◌*◌}
 use native.Mathlib.Omega.{arith}
 use lib.ListN.{get_or}

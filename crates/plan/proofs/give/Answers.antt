@@ -1,6 +1,6 @@
 use Rattle.plan.proofs.Searching.{none_given, order_given}
 use mathlib.Core.Path.{refl}
-use Rattle.wire.specs.laws.Pairs.{first_of_two, second_of_two}
+use Rattle.wire.proofs.laws.Pairs.{first_of_two, second_of_two}
 use Rattle.plan.proofs.give.Goals as goal
 
 pub returns-then-n-eq-ORDERS : goal.returns-then-n-eq-ORDERS

@@ -1,5 +1,5 @@
 use Rattle.plan.specs.Plan.{wanted_ok}
-use Rattle.wire.specs.laws.Cases.{if_eq, else_eq}
+use Rattle.wire.proofs.laws.Cases.{if_eq, else_eq}
 use mathlib.Core.Path.{refl}
 use Rattle.plan.proofs.wanted_ok.Goals as goal
 

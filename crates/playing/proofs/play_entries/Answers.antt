@@ -3,7 +3,7 @@ use mathlib.Core.Path.{refl}
 use native.Mathlib.Omega.{arith}
 use Rattle.playing.proofs.Playing.{playing_none, playing_next, played_all, played_stop, number_fits, stands_at_lem, next_ends, next_some, next_whole}
 use borrow.Author.Rules.{rules}
-use Rattle.wire.specs.laws.Pairs.{first_of_two, second_of_two}
+use Rattle.wire.proofs.laws.Pairs.{first_of_two, second_of_two}
 use borrow.Enum.Refused.{opened}
 use Rattle.playing.proofs.play_entries.Goals as goal
 

@@ -1,7 +1,7 @@
 use native.Mathlib.Omega.{arith}
 use Rattle.text.specs.Text.{sheet}
 use Rattle.playing.specs.Playing.{if_written}
-use Rattle.playing.specs.laws.Lengths.{length_line}
+use Rattle.playing.proofs.laws.Lengths.{length_line}
 use Rattle.playing.proofs.Lines.{line_put}
 use Rattle.playing.proofs.put_line.Goals as goal
 

@@ -1,6 +1,6 @@
 use native.Mathlib.Omega.{arith}
 use Rattle.text.specs.Text.{sheet}
-use Rattle.playing.specs.laws.Lengths.{length_place}
+use Rattle.playing.proofs.laws.Lengths.{length_place}
 use Rattle.playing.proofs.Lines.{place_put}
 use Rattle.playing.proofs.put_place.Goals as goal
 

@@ -1,7 +1,7 @@
 use mathlib.Core.Path.{sym, ◌∙◌}
 use borrow.Author.Tests.{not-false}
 use Rattle.playing.proofs.Playing.{step_none, step_short, step_put}
-use Rattle.wire.specs.laws.Pairs.{first_of_two, second_of_two}
+use Rattle.wire.proofs.laws.Pairs.{first_of_two, second_of_two}
 use Rattle.playing.proofs.step.Goals as goal
 
 pub returns-then-not-is_whole : goal.returns-then-not-is_whole

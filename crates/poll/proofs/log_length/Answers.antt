@@ -1,6 +1,6 @@
 -- `log_length` meets its contract: its test is that of `log_length`.
 use mathlib.Core.Path.{refl}
-use Rattle.wire.specs.laws.Cases.{else_eq, if_eq}
+use Rattle.wire.proofs.laws.Cases.{else_eq, if_eq}
 use Rattle.poll.specs.Poll.{log_length}
 use Rattle.poll.proofs.log_length.Goals as goal
 

@@ -1,7 +1,7 @@
 -- `mark_bit` meets its contract: its test is that of `mark_bit`.
 use mathlib.Core.Path.{refl}
 use native.Mathlib.Omega.{arith}
-use Rattle.wire.specs.laws.Cases.{else_eq, if_eq}
+use Rattle.wire.proofs.laws.Cases.{else_eq, if_eq}
 use Rattle.poll.specs.Poll.{mark_bit}
 use Rattle.poll.proofs.mark_bit.Goals as goal
 

@@ -1,7 +1,7 @@
 -- `master_bit` meets its contract: its test is that of `master_bit`.
 use mathlib.Core.Path.{refl}
 use native.Mathlib.Omega.{arith}
-use Rattle.wire.specs.laws.Cases.{else_eq, if_eq}
+use Rattle.wire.proofs.laws.Cases.{else_eq, if_eq}
 use Rattle.poll.specs.Poll.{master_bit}
 use Rattle.poll.proofs.master_bit.Goals as goal
 

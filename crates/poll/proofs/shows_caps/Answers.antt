@@ -1,6 +1,6 @@
 -- `shows_caps` meets its contract: its tests are those of `shows_caps`.
 use mathlib.Core.Path.{refl}
-use Rattle.wire.specs.laws.Cases.{else_ne, if_ne}
+use Rattle.wire.proofs.laws.Cases.{else_ne, if_ne}
 use Rattle.poll.specs.Poll.{shows_caps}
 use Rattle.poll.proofs.shows_caps.Goals as goal
 

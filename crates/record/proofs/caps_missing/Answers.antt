@@ -1,5 +1,5 @@
 use mathlib.Core.Path.{refl}
-use Rattle.wire.specs.laws.Cases.{else_eq, if_eq}
+use Rattle.wire.proofs.laws.Cases.{else_eq, if_eq}
 use Rattle.record.specs.Record.{caps_missing}
 use Rattle.record.proofs.caps_missing.Goals as goal
 

@@ -1,5 +1,5 @@
 use mathlib.Core.Path.{refl}
-use Rattle.wire.specs.laws.Cases.{else_b, if_b}
+use Rattle.wire.proofs.laws.Cases.{else_b, if_b}
 use Rattle.record.specs.Record.{flag_of}
 use Rattle.record.proofs.flag.Goals as goal
 

@@ -1,5 +1,5 @@
 use mathlib.Core.Path.{refl}
-use Rattle.wire.specs.laws.Cases.{else_eq, else_lt, if_eq, if_lt}
+use Rattle.wire.proofs.laws.Cases.{else_eq, else_lt, if_eq, if_lt}
 use Rattle.record.specs.Record.{limit_of, clamped}
 use Rattle.record.proofs.limit.Goals as goal
 

@@ -1,5 +1,5 @@
 use mathlib.Core.Path.{refl, sym, ◌∙◌}
-use Rattle.wire.specs.laws.Cases.{else_b, else_eq, if_b, if_eq}
+use Rattle.wire.proofs.laws.Cases.{else_b, else_eq, if_b, if_eq}
 use Rattle.record.specs.Record.{wanted_of}
 use Rattle.record.proofs.wanted.Goals as goal
 

@@ -1,5 +1,5 @@
 use Rattle.trace.specs.Trace.{trace_table}
-use Rattle.entries.specs.laws.Next.{next_fits}
+use Rattle.entries.proofs.laws.Next.{next_fits}
 use Rattle.replay.proofs.front.Goals as goal
 
 pub returns : goal.returns

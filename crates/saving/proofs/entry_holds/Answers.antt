@@ -1,6 +1,6 @@
 use native.Mathlib.Omega.{arith}
 use mathlib.Core.Path.{refl}
-use Rattle.wire.specs.laws.Cases.{if_eq, else_eq}
+use Rattle.wire.proofs.laws.Cases.{if_eq, else_eq}
 use Rattle.saving.specs.Moves.{base_entry}
 use Rattle.saving.proofs.Holding.{eleven, nine, thermal_of}
 use Rattle.saving.proofs.entry_holds.Goals as goal

@@ -1,7 +1,7 @@
 use mathlib.Core.Bool.{not}
 use mathlib.Core.Path.{refl, ap}
 use borrow.Author.Tests.{le-leb, lt-leb}
-use Rattle.wire.specs.laws.Cases.{if_b, else_b}
+use Rattle.wire.proofs.laws.Cases.{if_b, else_b}
 use Rattle.formed.specs.Formed.{in_order_first}
 use Rattle.saving.specs.Moves.{first_rule}
 use Rattle.saving.proofs.first_rule.Goals as goal

@@ -1,5 +1,5 @@
 use mathlib.Core.Path.{refl}
-use Rattle.wire.specs.laws.Cases.{if_ne, else_ne}
+use Rattle.wire.proofs.laws.Cases.{if_ne, else_ne}
 use Rattle.image.specs.Image.{session_in}
 use Rattle.saving.specs.Moves.{goes_down}
 use Rattle.saving.proofs.goes_down.Goals as goal

@@ -1,5 +1,5 @@
 use mathlib.Core.Path.{refl}
-use Rattle.wire.specs.laws.Cases.{if_ne, else_ne}
+use Rattle.wire.proofs.laws.Cases.{if_ne, else_ne}
 use Rattle.saving.specs.Forms.{kinds_ok}
 use Rattle.saving.proofs.kinds_ok.Goals as goal
 

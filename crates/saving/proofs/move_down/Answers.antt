@@ -1,5 +1,5 @@
 use native.Mathlib.Omega.{arith}
-use Rattle.wire.specs.laws.Wire.{bytes_of}
+use Rattle.wire.proofs.laws.Wire.{bytes_of}
 use Rattle.saving.proofs.Holding.{used_fits}
 use Rattle.saving.proofs.Calls.{down_ill, down_formed, down_used, down_not, down_put}
 use borrow.Author.Rules.{rules}

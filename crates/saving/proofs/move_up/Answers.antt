@@ -1,5 +1,5 @@
 use native.Mathlib.Omega.{arith}
-use Rattle.wire.specs.laws.Wire.{bytes_of}
+use Rattle.wire.proofs.laws.Wire.{bytes_of}
 use Rattle.saving.proofs.Calls.{up_ill, up_put}
 use Rattle.saving.proofs.move_up.Goals as goal
 

@@ -1,5 +1,5 @@
 use native.Mathlib.Omega.{arith}
-use Rattle.wire.specs.laws.Wire.{bytes_of}
+use Rattle.wire.proofs.laws.Wire.{bytes_of}
 use Rattle.image.specs.Image.{session_of}
 use Rattle.saving.specs.Forms.{base_of}
 use Rattle.saving.proofs.Writing.{base_long, put_short, put_done}

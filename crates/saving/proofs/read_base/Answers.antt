@@ -1,7 +1,7 @@
 use native.Mathlib.Omega.{arith}
-use Rattle.wire.specs.laws.Wire.{bytes_of}
+use Rattle.wire.proofs.laws.Wire.{bytes_of}
 use Rattle.saving.proofs.Calls.{base_short, base_over, base_broken, base_whole, base_image_long, base_ill, base_formed, base_found}
-use Rattle.wire.specs.laws.Pairs.{first_of_two, second_of_two}
+use Rattle.wire.proofs.laws.Pairs.{first_of_two, second_of_two}
 use Rattle.saving.proofs.read_base.Goals as goal
 
 pub returns-then-b-lt-BASE_HEAD : goal.returns-then-b-lt-BASE_HEAD

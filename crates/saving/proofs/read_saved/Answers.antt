@@ -1,7 +1,7 @@
 use native.Mathlib.Omega.{arith}
-use Rattle.wire.specs.laws.Wire.{bytes_of}
+use Rattle.wire.proofs.laws.Wire.{bytes_of}
 use Rattle.saving.proofs.Calls.{saved_length_lem, saved_kinds, saved_found}
-use Rattle.wire.specs.laws.Pairs.{first_of_two, second_of_two}
+use Rattle.wire.proofs.laws.Pairs.{first_of_two, second_of_two}
 use Rattle.saving.proofs.read_saved.Goals as goal
 
 pub returns-then-b-ne-SAVED : goal.returns-then-b-ne-SAVED

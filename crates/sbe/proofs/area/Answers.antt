@@ -1,7 +1,7 @@
 -- The definition goes by the test that the code makes.
 use mathlib.Core.Path.{refl}
 use Rattle.sbe.specs.Mailbox.{area_of}
-use Rattle.wire.specs.laws.Cases.{if_eq, else_eq}
+use Rattle.wire.proofs.laws.Cases.{if_eq, else_eq}
 use Rattle.sbe.proofs.area.Goals as goal
 
 pub returns-then-size-eq0 : goal.returns-then-size-eq0

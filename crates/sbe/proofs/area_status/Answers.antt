@@ -1,7 +1,7 @@
 -- The definition goes by the tests that the code makes, in the order of D7 04.
 use mathlib.Core.Path.{refl}
 use Rattle.sbe.specs.Mailbox.{area_status}
-use Rattle.wire.specs.laws.Cases.{if_eq, else_eq, if_not, else_not}
+use Rattle.wire.proofs.laws.Cases.{if_eq, else_eq, if_not, else_not}
 use Rattle.sbe.proofs.area_status.Goals as goal
 
 pub returns-then-size-eq0 : goal.returns-then-size-eq0

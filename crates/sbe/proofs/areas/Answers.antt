@@ -1,5 +1,5 @@
 -- The numbers read are the request's; the FFDC area is judged first, then the other.
-use Rattle.wire.specs.laws.Cases.{if_not, else_not}
+use Rattle.wire.proofs.laws.Cases.{if_not, else_not}
 use mathlib.Core.Path.{refl}
 use Rattle.sbe.specs.Mailbox.{areas_of}
 use Rattle.sbe.proofs.Requests.{plain_read, areas_read, first_refused, second_refused, areas_made}

@@ -1,5 +1,5 @@
 -- The flags read are the request's, and plain_flags judges them; the mask is the word read.
-use Rattle.wire.specs.laws.Cases.{if_not, else_not}
+use Rattle.wire.proofs.laws.Cases.{if_not, else_not}
 use Rattle.change.specs.declared.Change.TheVariants.{SetMask}
 use Rattle.sbe.specs.declared.Ruling.TheVariants.{Grant}
 use mathlib.Core.Path.{refl, ap}

@@ -1,5 +1,5 @@
 -- The flags read are the request's, and plain_flags judges them.
-use Rattle.wire.specs.laws.Cases.{if_not, else_not}
+use Rattle.wire.proofs.laws.Cases.{if_not, else_not}
 use mathlib.Core.Path.{refl}
 use Rattle.sbe.specs.Mailbox.{exit_of}
 use Rattle.sbe.proofs.Requests.{plain_read}

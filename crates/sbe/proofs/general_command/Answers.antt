@@ -1,7 +1,7 @@
 -- The match is on the numbers that the definition tests; any other command is refused.
 use mathlib.Core.Path.{refl}
 use Rattle.sbe.specs.Mailbox.{general}
-use Rattle.wire.specs.laws.Cases.{else_eq}
+use Rattle.wire.proofs.laws.Cases.{else_eq}
 use Rattle.sbe.proofs.Requests.{by_key}
 use Prim.Native.Nat.{ℕ}
 use Rattle.sbe.proofs.general_command.Goals as goal

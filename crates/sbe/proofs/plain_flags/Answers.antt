@@ -1,7 +1,7 @@
 -- The definition goes by the tests that the code makes.
 use mathlib.Core.Path.{refl}
 use Rattle.sbe.specs.Mailbox.{plain_flags}
-use Rattle.wire.specs.laws.Cases.{if_le, else_le}
+use Rattle.wire.proofs.laws.Cases.{if_le, else_le}
 use Rattle.sbe.proofs.plain_flags.Goals as goal
 
 pub returns-then-flags-ge1024 : goal.returns-then-flags-ge1024

@@ -1,5 +1,5 @@
 -- The flags, the target type and the chiplet read are the request's, tested in the definition's order.
-use Rattle.wire.specs.laws.Cases.{if_lt, else_lt, if_not, else_not}
+use Rattle.wire.proofs.laws.Cases.{if_lt, else_lt, if_not, else_not}
 use mathlib.Core.Path.{refl}
 use Rattle.sbe.specs.Mailbox.{chiplet_of, ring_at, ring_of}
 use Rattle.sbe.proofs.Requests.{plain_read, ring_read}

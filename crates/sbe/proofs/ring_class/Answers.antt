@@ -1,7 +1,7 @@
 -- The match is on the number that the definition tests; any other command is refused.
 use mathlib.Core.Path.{refl}
 use Rattle.sbe.specs.Mailbox.{ring_class}
-use Rattle.wire.specs.laws.Cases.{else_eq}
+use Rattle.wire.proofs.laws.Cases.{else_eq}
 use Rattle.sbe.proofs.Requests.{by_key}
 use Prim.Native.Nat.{ℕ}
 use Rattle.sbe.proofs.ring_class.Goals as goal

@@ -1,5 +1,5 @@
 -- The flags read are the request's, and plain_flags judges them; offset and size are the words read.
-use Rattle.wire.specs.laws.Cases.{if_not, else_not}
+use Rattle.wire.proofs.laws.Cases.{if_not, else_not}
 use mathlib.Core.Path.{refl}
 use Rattle.sbe.specs.declared.Ruling.TheVariants.{Read}
 use Rattle.sbe.specs.Mailbox.{word_at, seeprom_of}

@@ -1,5 +1,5 @@
 use mathlib.Core.Path.{refl}
-use Rattle.wire.specs.laws.Cases.{if_eq, else_eq}
+use Rattle.wire.proofs.laws.Cases.{if_eq, else_eq}
 use Rattle.sbe_call.specs.Sbe.{by_profile}
 use Rattle.sbe_call.proofs.by_profile.Goals as goal
 

@@ -1,5 +1,5 @@
 use mathlib.Core.Path.{refl}
-use Rattle.wire.specs.laws.Cases.{if_lt, else_lt}
+use Rattle.wire.proofs.laws.Cases.{if_lt, else_lt}
 use Rattle.sbe_call.specs.Sbe.{counted_in}
 use Rattle.sbe_call.proofs.counted.Goals as goal
 

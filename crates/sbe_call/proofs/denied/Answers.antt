@@ -1,5 +1,5 @@
 use mathlib.Core.Path.{refl}
-use Rattle.wire.specs.laws.Cases.{said_of}
+use Rattle.wire.proofs.laws.Cases.{said_of}
 use Rattle.sbe_call.specs.Sbe.{denied}
 use Rattle.sbe_call.proofs.denied.Goals as goal
 

@@ -1,5 +1,5 @@
 use Rattle.sbe_call.proofs.Answering.{told_in, full_in, done_in}
-use Rattle.wire.specs.laws.Pairs.{first_of_two, second_of_two}
+use Rattle.wire.proofs.laws.Pairs.{first_of_two, second_of_two}
 use borrow.Enum.Refused.{opened}
 use Rattle.sbe_call.proofs.hear.Goals as goal
 

@@ -1,5 +1,5 @@
 use mathlib.Core.Path.{refl}
-use Rattle.wire.specs.laws.Cases.{if_ne, else_ne}
+use Rattle.wire.proofs.laws.Cases.{if_ne, else_ne}
 use Rattle.sbe_call.specs.Sbe.{read_at}
 use Rattle.sbe_call.proofs.Answering.{read_judged, other_judged}
 use borrow.Enum.Refused.{opened}

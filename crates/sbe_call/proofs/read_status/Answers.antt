@@ -1,6 +1,6 @@
 use mathlib.Core.Path.{refl, subst}
 use Prim.Native.Nat.{ℕ, ◌+◌, ◌<◌, ◌≤◌}
-use Rattle.wire.specs.laws.Cases.{if_ne, else_ne, if_lt, else_lt}
+use Rattle.wire.proofs.laws.Cases.{if_ne, else_ne, if_lt, else_lt}
 use Rattle.sbe_call.specs.Sbe.{read_status}
 use Rattle.sbe_call.proofs.read_status.Goals as goal
 

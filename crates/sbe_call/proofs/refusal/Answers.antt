@@ -1,5 +1,5 @@
 use Rattle.sbe_call.specs.Sbe.{refusal_of}
-use Rattle.wire.specs.laws.Cases.{else_b, else_lt, if_b, if_lt}
+use Rattle.wire.proofs.laws.Cases.{else_b, else_lt, if_b, if_lt}
 use mathlib.Core.Path.{refl}
 use Rattle.sbe_call.proofs.refusal.Goals as goal
 

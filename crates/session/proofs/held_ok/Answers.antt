@@ -1,7 +1,7 @@
 use Rattle.record.specs.declared.Worked.{Worked}
 use mathlib.Core.Path.{refl, sym, ap, ◌∙◌}
 use mathlib.Core.Bool.{not}
-use Rattle.wire.specs.laws.Cases.{else_b, if_b}
+use Rattle.wire.proofs.laws.Cases.{else_b, if_b}
 use Rattle.session.specs.Session.{held_ok, worked_fits}
 use Rattle.session.proofs.held_ok.Goals as goal
 

@@ -1,9 +1,9 @@
 use Rattle.wire.specs.Wire.{all_are}
-use Rattle.wire.specs.laws.Wire.{tail_part}
+use Rattle.wire.proofs.laws.Wire.{tail_part}
 use lib.Seq.{length-take-le}
 use native.Mathlib.Omega.{arith}
 use mathlib.Core.Path.{refl, sym, ap, ◌∙◌}
-use Rattle.wire.specs.laws.Cases.{else_lt, if_lt, if_not, else_not}
+use Rattle.wire.proofs.laws.Cases.{else_lt, if_lt, if_not, else_not}
 use Rattle.session.proofs.Tests.{tests_are}
 use Rattle.session.proofs.store_ok.Goals as goal
 

@@ -1,5 +1,5 @@
 use mathlib.Core.Path.{refl}
-use Rattle.wire.specs.laws.Cases.{else_ne, if_ne}
+use Rattle.wire.proofs.laws.Cases.{else_ne, if_ne}
 use Rattle.session.specs.Session.{worked_fits}
 use Rattle.session.proofs.worked_fits.Goals as goal
 

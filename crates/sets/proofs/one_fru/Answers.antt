@@ -1,7 +1,7 @@
 -- `one_fru` meets its contract: its tests are those of `one_fru`, in that order.
 use mathlib.Core.Path.{refl}
 use native.Mathlib.Omega.{arith}
-use Rattle.wire.specs.laws.Cases.{else_b, else_lt, else_not, else_ne, if_b, if_lt, if_not, if_ne}
+use Rattle.wire.proofs.laws.Cases.{else_b, else_lt, else_not, else_ne, if_b, if_lt, if_not, if_ne}
 use Rattle.sets.specs.Sets.{bit_of, one_fru}
 use borrow.Author.Rules.{rules}
 use Rattle.sets.proofs.one_fru.Goals as goal

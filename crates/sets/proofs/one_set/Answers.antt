@@ -1,5 +1,5 @@
 -- `one_set_lem` meets its contract: its tests are those of `one_set`, in that order.
-use Rattle.wire.specs.laws.Cases.{if_lt, else_lt, if_ne, else_ne}
+use Rattle.wire.proofs.laws.Cases.{if_lt, else_lt, if_ne, else_ne}
 use Rattle.sets.specs.Sets.{bit_of, one_set}
 use Rattle.sets.proofs.Stored.{pair_below, bit_fits, set_refused, pair_stored}
 use borrow.Author.Rules.{rules}

@@ -1,7 +1,7 @@
 -- `read_frus` meets its contract: what the sets that are left make of the table so far is what all of them make of the empty one.
 use mathlib.Core.Path.{refl, ◌∙◌}
 use native.Mathlib.Omega.{arith}
-use Rattle.sets.specs.laws.Sets.{frus_parted}
+use Rattle.sets.proofs.laws.Sets.{frus_parted}
 use Rattle.sets.specs.Sets.{empty_frus}
 use Rattle.sets.proofs.Loops.{part_length, parts_end, parts_step}
 use Rattle.sets.proofs.read_frus.Goals as goal

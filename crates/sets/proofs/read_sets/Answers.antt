@@ -2,7 +2,7 @@
 use mathlib.Core.Bool.{true}
 use mathlib.Core.Path.{refl, ◌∙◌}
 use native.Mathlib.Omega.{arith}
-use Rattle.sets.specs.laws.Sets.{sets_parted}
+use Rattle.sets.proofs.laws.Sets.{sets_parted}
 use Rattle.sets.specs.Sets.{empty_sets}
 use Rattle.sets.proofs.Loops.{part_length, parts_end, set_taken, set_ends}
 use borrow.Author.Rules.{rules}

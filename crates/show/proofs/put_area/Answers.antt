@@ -1,7 +1,7 @@
 use Rattle.show.specs.Words.{word_number}
 use mathlib.Core.Path.{refl, ap, ◌∙◌}
 use Rattle.text.specs.Text.{hexes}
-use Rattle.text.specs.laws.Pieces.{piece, pieces, last_piece, same_pieces, filled}
+use Rattle.text.proofs.laws.Pieces.{piece, pieces, last_piece, same_pieces, filled}
 use Rattle.show.specs.Show.{area_text}
 use Rattle.show.proofs.put_area.Goals as goal
 

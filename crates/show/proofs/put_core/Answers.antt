@@ -1,7 +1,7 @@
 use mathlib.Core.Path.{refl}
 use Rattle.text.specs.Text.{put_all}
-use Rattle.wire.specs.laws.Cases.{if_eq, else_eq}
-use Rattle.text.specs.laws.Pieces.{same_pieces}
+use Rattle.wire.proofs.laws.Cases.{if_eq, else_eq}
+use Rattle.text.proofs.laws.Pieces.{same_pieces}
 use Rattle.show.proofs.put_core.Goals as goal
 
 pub returns-then-bit-eq0 : goal.returns-then-bit-eq0

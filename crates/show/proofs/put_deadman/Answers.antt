@@ -1,8 +1,8 @@
 use Rattle.show.specs.Words.{word_number}
 use mathlib.Core.Path.{refl}
-use Rattle.wire.specs.laws.Cases.{if_eq, else_eq}
+use Rattle.wire.proofs.laws.Cases.{if_eq, else_eq}
 use Rattle.show.specs.Show.{deadman_text}
-use Rattle.text.specs.laws.Pieces.{same_pieces}
+use Rattle.text.proofs.laws.Pieces.{same_pieces}
 use Rattle.show.proofs.put_deadman.Goals as goal
 
 pub returns-then-deadman-eq0 : goal.returns-then-deadman-eq0

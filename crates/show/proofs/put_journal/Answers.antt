@@ -1,7 +1,7 @@
 use Rattle.show.specs.Words.{word_number}
 use mathlib.Core.Path.{ap}
 use Rattle.text.specs.Text.{ascii}
-use Rattle.text.specs.laws.Pieces.{pieces, same_pieces}
+use Rattle.text.proofs.laws.Pieces.{pieces, same_pieces}
 use Rattle.show.specs.Show.{named_text, journal_text}
 use Rattle.show.proofs.put_journal.Goals as goal
 

@@ -1,9 +1,9 @@
 use Rattle.show.specs.Words.{word_number}
 use mathlib.Core.Path.{refl}
 use Rattle.text.specs.Text.{put_all}
-use Rattle.wire.specs.laws.Cases.{if_eq, else_eq}
+use Rattle.wire.proofs.laws.Cases.{if_eq, else_eq}
 use Rattle.show.specs.Show.{log_text}
-use Rattle.text.specs.laws.Pieces.{piece, pieces, last_piece, same_pieces}
+use Rattle.text.proofs.laws.Pieces.{piece, pieces, last_piece, same_pieces}
 use Rattle.show.proofs.put_log.Goals as goal
 
 pub returns-then-log-eq0 : goal.returns-then-log-eq0

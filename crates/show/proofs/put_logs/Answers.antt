@@ -1,5 +1,5 @@
 use Rattle.show.specs.Words.{word_number}
-use Rattle.text.specs.laws.Pieces.{piece, pieces, last_piece}
+use Rattle.text.proofs.laws.Pieces.{piece, pieces, last_piece}
 use Rattle.show.specs.Show.{logs_text}
 use Rattle.show.proofs.put_logs.Goals as goal
 

@@ -1,6 +1,6 @@
 use Rattle.show.specs.Words.{word_number}
-use Rattle.text.specs.laws.Pieces.{last_piece, same_pieces}
-use Rattle.wire.specs.laws.Cases.{if_eq, else_eq}
+use Rattle.text.proofs.laws.Pieces.{last_piece, same_pieces}
+use Rattle.wire.proofs.laws.Cases.{if_eq, else_eq}
 use Rattle.show.specs.Show.{pairs_text}
 use Rattle.show.proofs.Turns.{set_more, set_end}
 use mathlib.Core.Path.{refl, ◌∙◌}

@@ -1,7 +1,7 @@
 use Rattle.show.specs.Words.{word_number}
 use mathlib.Core.Path.{refl}
-use Rattle.wire.specs.laws.Cases.{if_eq, else_eq}
-use Rattle.text.specs.laws.Pieces.{pieces, last_piece, same_pieces}
+use Rattle.wire.proofs.laws.Cases.{if_eq, else_eq}
+use Rattle.text.proofs.laws.Pieces.{pieces, last_piece, same_pieces}
 use Rattle.show.specs.Show.{places_text}
 use Rattle.show.proofs.put_places.Goals as goal
 

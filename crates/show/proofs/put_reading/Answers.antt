@@ -1,6 +1,6 @@
 use mathlib.Core.Path.{sym, ap}
 use Rattle.show.specs.Show.{reading_text}
-use Rattle.text.specs.laws.Pieces.{same_pieces}
+use Rattle.text.proofs.laws.Pieces.{same_pieces}
 use Rattle.show.proofs.put_reading.Goals as goal
 
 pub returns-in-Whole : goal.returns-in-Whole

@@ -1,4 +1,4 @@
-use Rattle.text.specs.laws.Pieces.{pieces}
+use Rattle.text.proofs.laws.Pieces.{pieces}
 use Rattle.show.specs.Show.{rest_text}
 use Rattle.show.proofs.put_rest.Goals as goal
 

@@ -1,5 +1,5 @@
 use Rattle.show.specs.Words.{word_number}
-use Rattle.text.specs.laws.Pieces.{piece, pieces, last_piece}
+use Rattle.text.proofs.laws.Pieces.{piece, pieces, last_piece}
 use Rattle.show.specs.Show.{session_text}
 use borrow.Author.Rules.{rules}
 use Rattle.show.proofs.put_session.Goals as goal

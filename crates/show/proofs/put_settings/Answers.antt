@@ -1,5 +1,5 @@
 use Rattle.show.specs.Words.{word_number}
-use Rattle.text.specs.laws.Pieces.{pieces}
+use Rattle.text.proofs.laws.Pieces.{pieces}
 use Rattle.show.specs.Show.{settings_text}
 use Rattle.show.proofs.put_settings.Goals as goal
 

@@ -2,7 +2,7 @@ use mathlib.Core.Path.{ap, ◌∙◌}
 use Rattle.text.specs.Text.{put_on}
 use Rattle.show.specs.Words.{word_number}
 use Rattle.show.specs.Show.{state_text}
-use Rattle.text.specs.laws.Pieces.{piece, pieces, last_piece}
+use Rattle.text.proofs.laws.Pieces.{piece, pieces, last_piece}
 use Rattle.show.proofs.put_state.Goals as goal
 
 pub returns : goal.returns

@@ -1,8 +1,8 @@
 use lib.Seq.{length-take-le}
 use mathlib.Core.Path.{refl, sym, ap}
 use native.Mathlib.Omega.{arith}
-use Rattle.wire.specs.laws.Cases.{if_lt, else_lt}
-use Rattle.text.specs.laws.Pieces.{last_piece, same_pieces}
+use Rattle.wire.proofs.laws.Cases.{if_lt, else_lt}
+use Rattle.text.proofs.laws.Pieces.{last_piece, same_pieces}
 use Rattle.show.specs.Show.{reading_text, store_text}
 use Rattle.show.proofs.put_store.Goals as goal
 

@@ -1,6 +1,6 @@
 use Rattle.show.specs.Words.{word_number}
 use Rattle.show.specs.Show.{throttles_text}
-use Rattle.text.specs.laws.Pieces.{piece, pieces, last_piece}
+use Rattle.text.proofs.laws.Pieces.{piece, pieces, last_piece}
 use Rattle.show.proofs.put_throttles.Goals as goal
 
 pub returns : goal.returns

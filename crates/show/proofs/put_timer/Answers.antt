@@ -1,8 +1,8 @@
 use Rattle.show.specs.Words.{word_number}
 use mathlib.Core.Path.{refl}
-use Rattle.wire.specs.laws.Cases.{if_eq, else_eq}
+use Rattle.wire.proofs.laws.Cases.{if_eq, else_eq}
 use Rattle.show.specs.Show.{timer_text}
-use Rattle.text.specs.laws.Pieces.{same_pieces, last_piece}
+use Rattle.text.proofs.laws.Pieces.{same_pieces, last_piece}
 use Rattle.show.proofs.put_timer.Goals as goal
 
 pub returns-then-timer-eq0 : goal.returns-then-timer-eq0

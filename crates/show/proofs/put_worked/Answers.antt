@@ -1,6 +1,6 @@
 use Rattle.show.specs.Words.{word_number}
 use Rattle.show.specs.Show.{worked_text}
-use Rattle.text.specs.laws.Pieces.{piece, pieces}
+use Rattle.text.proofs.laws.Pieces.{piece, pieces}
 use Rattle.show.proofs.put_worked.Goals as goal
 
 pub returns : goal.returns

@@ -1,5 +1,5 @@
 use mathlib.Core.Path.{refl, sym, ap}
-use Rattle.wire.specs.laws.Cases.{else_eq}
+use Rattle.wire.proofs.laws.Cases.{else_eq}
 use Rattle.show.specs.Words.{word_number}
 use Rattle.show.specs.Show.{role_word}
 use Rattle.show.proofs.role_word.Goals as goal

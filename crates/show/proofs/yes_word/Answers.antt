@@ -1,5 +1,5 @@
 use mathlib.Core.Path.{refl}
-use Rattle.wire.specs.laws.Cases.{if_eq, else_eq}
+use Rattle.wire.proofs.laws.Cases.{if_eq, else_eq}
 use Rattle.show.specs.Words.{word_number}
 use Rattle.show.specs.Show.{yes_text}
 use Rattle.show.proofs.yes_word.Goals as goal

@@ -1,6 +1,6 @@
 -- `text::digit_at` meets its contract: the tests are those of the definition, in its order. Assumes nothing.
 use mathlib.Core.Path.{refl}
-use Rattle.wire.specs.laws.Cases.{else_lt, if_lt}
+use Rattle.wire.proofs.laws.Cases.{else_lt, if_lt}
 use Rattle.text.specs.Text.{digit_at}
 use borrow.Author.Rules.{rules}
 use Rattle.text.proofs.digit_at.Goals as goal

@@ -1,6 +1,6 @@
 -- `text::glyph` meets its contract: the test is that of the definition. Assumes nothing.
 use Rattle.text.specs.Text.{hex_digit}
-use Rattle.wire.specs.laws.Cases.{if_lt, else_lt}
+use Rattle.wire.proofs.laws.Cases.{if_lt, else_lt}
 use mathlib.Core.Path.{refl}
 use Rattle.text.proofs.glyph.Goals as goal
 

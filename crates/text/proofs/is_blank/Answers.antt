@@ -1,6 +1,6 @@
 -- `text::is_blank` meets its contract: the tests are those of the definition, in its order. Assumes nothing.
 use mathlib.Core.Path.{refl}
-use Rattle.wire.specs.laws.Cases.{else_eq, if_eq}
+use Rattle.wire.proofs.laws.Cases.{else_eq, if_eq}
 use Rattle.text.specs.Text.{blank}
 use Rattle.text.proofs.is_blank.Goals as goal
 

@@ -1,5 +1,5 @@
 -- `text::past_blanks` meets its contract: what stands before the place and what is counted from it on are the whole. Assumes nothing.
-use Rattle.wire.specs.laws.Cases.{if_lt, else_lt}
+use Rattle.wire.proofs.laws.Cases.{if_lt, else_lt}
 use Rattle.text.specs.Text.{blank, past_blanks}
 use Rattle.text.proofs.Turns.{not-true, not-false, leading_more, leading_stop, leading_end}
 use mathlib.Core.Path.{refl, ◌∙◌}

@@ -1,7 +1,7 @@
 -- `text::put` meets its contract: the tests are those of the definition, in its order. Assumes nothing.
-use Rattle.text.specs.laws.Pieces.{put_fits}
+use Rattle.text.proofs.laws.Pieces.{put_fits}
 use Rattle.text.specs.Text.{put_on}
-use Rattle.wire.specs.laws.Cases.{if_lt, else_lt}
+use Rattle.wire.proofs.laws.Cases.{if_lt, else_lt}
 use mathlib.Core.Path.{refl, sym}
 use lib.Seq.{length-take-le}
 use native.Mathlib.Omega.{arith}

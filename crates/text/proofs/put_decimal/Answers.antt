@@ -1,6 +1,6 @@
 -- `text::put_decimal` meets its contract: `io::decimal` made the digits. Assumes nothing.
 use Rattle.text.specs.Text.{put_on}
-use Rattle.text.specs.laws.Decimal.{digits_decimal}
+use Rattle.text.proofs.laws.Decimal.{digits_decimal}
 use mathlib.Core.Path.{ap, ◌∙◌}
 use Rattle.text.proofs.put_decimal.Goals as goal
 

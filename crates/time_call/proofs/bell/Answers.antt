@@ -1,5 +1,5 @@
 use mathlib.Core.Path.{refl, sym, ◌∙◌}
-use Rattle.wire.specs.laws.Cases.{if_b, else_b}
+use Rattle.wire.proofs.laws.Cases.{if_b, else_b}
 use Rattle.session.specs.Road.{timer_bell}
 use Rattle.time_call.proofs.bell.Goals as goal
 

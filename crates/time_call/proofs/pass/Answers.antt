@@ -1,5 +1,5 @@
 use Rattle.time_call.proofs.Passing.{time_passes}
-use Rattle.wire.specs.laws.Pairs.{first_of_two, second_of_two}
+use Rattle.wire.proofs.laws.Pairs.{first_of_two, second_of_two}
 use Rattle.time_call.proofs.pass.Goals as goal
 
 pub write_head-requires : goal.write_head-requires

@@ -1,5 +1,5 @@
 use mathlib.Core.Path.{refl, sym, ◌∙◌}
-use Rattle.wire.specs.laws.Cases.{if_b, else_b, if_eq, else_eq}
+use Rattle.wire.proofs.laws.Cases.{if_b, else_b, if_eq, else_eq}
 use Rattle.session.specs.Road.{ticked}
 use Rattle.time_call.proofs.Passing.{enough_left}
 use Rattle.time_call.proofs.ticked.Goals as goal

@@ -1,5 +1,5 @@
 use native.Mathlib.Omega.{arith}
-use Rattle.inplace.specs.laws.InPlace.{stands}
+use Rattle.inplace.proofs.laws.InPlace.{stands}
 use Rattle.time_call.proofs.Passing.{no_image_lem, ill_formed, passed_in_lem}
 use Rattle.time_call.proofs.time.Goals as goal
 

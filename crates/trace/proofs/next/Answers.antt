@@ -1,7 +1,7 @@
 use mathlib.Core.Path.{◌∙◌, refl, ap}
 use Prim.Native.Nat.{ℕ}
 use lib.ListN.{length}
-use Rattle.wire.specs.laws.Cases.{if_eq, else_eq}
+use Rattle.wire.proofs.laws.Cases.{if_eq, else_eq}
 use Rattle.entries.specs.Entries.{next_for, next_by}
 use Rattle.trace.proofs.next.Goals as goal
 

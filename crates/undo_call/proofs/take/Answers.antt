@@ -1,5 +1,5 @@
 use Rattle.undo_call.proofs.Taking.{put_refused, put_ill, put_done}
-use Rattle.wire.specs.laws.Pairs.{first_of_two, second_of_two}
+use Rattle.wire.proofs.laws.Pairs.{first_of_two, second_of_two}
 use Rattle.undo_call.proofs.take.Goals as goal
 
 pub returns-then-not-put : goal.returns-then-not-put

@@ -1,5 +1,5 @@
 use native.Mathlib.Omega.{arith}
-use Rattle.inplace.specs.laws.InPlace.{stands}
+use Rattle.inplace.proofs.laws.InPlace.{stands}
 use Rattle.undo_call.proofs.Taking.{no_image_lem, ill_formed, well_formed_is, newest_taken}
 use Rattle.undo_call.proofs.take_from.Goals as goal
 

@@ -1,5 +1,5 @@
 use Rattle.watch_call.proofs.Opening.{opened_on}
-use Rattle.wire.specs.laws.Pairs.{first_of_two, second_of_two}
+use Rattle.wire.proofs.laws.Pairs.{first_of_two, second_of_two}
 use Rattle.watch_call.proofs.open_over.Goals as goal
 
 pub returns : goal.returns

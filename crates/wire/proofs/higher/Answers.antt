@@ -1,5 +1,5 @@
 use mathlib.Core.Path.{refl}
-use Rattle.wire.specs.laws.Cases.{if_lt, else_lt}
+use Rattle.wire.proofs.laws.Cases.{if_lt, else_lt}
 use Rattle.wire.proofs.higher.Goals as goal
 
 pub returns-then-a-b : goal.returns-then-a-b

@@ -1,4 +1,4 @@
-use Rattle.wire.specs.laws.Cases.{if_ne, else_ne}
+use Rattle.wire.proofs.laws.Cases.{if_ne, else_ne}
 use mathlib.Core.Path.{refl}
 use Rattle.wire.proofs.still.Goals as goal
 

@@ -38,9 +38,10 @@ KEEP
     chmod +x "$folder/toolchain/bin/clang"
 }
 
-# made_library KIT ARCHIVE: the C library, once all is proved, by that kit's compiler: over what rt ci kept here, else by rt lib.
+# made_library KIT ARCHIVE: the C library, once all is proved, by that kit's compiler: over what rt ci kept here, else by rt lib. What checks keep is shared
+# by the checkouts on a machine, but not with a kit of links: the true one goes first.
 made_library() {
     "$top/tools/kept-library" bjargolsk_c "$2" "$1/toolchain" || {
-        (cd "$top/crates/bjargolsk_c" && "$1/bin/rt" lib) && cp "$top/crates/bjargolsk_c/out/libbjargolsk_c.a" "$2"
+        (cd "$top/crates/bjargolsk_c" && rt lib && { [ "$1" = "$kit" ] || "$1/bin/rt" lib; }) && cp "$top/crates/bjargolsk_c/out/libbjargolsk_c.a" "$2"
     }
 }

@@ -8,7 +8,7 @@ ghost use Rattle.std.specs.Io.{ReadsAtMost, WritesAtMost};
 ghost use Rattle.std.specs.Io.KnownBytes.{Appends, Consumes, IsAtEnd, Keeps};
 
 use std::env::FillError;
-use std::fmt::Display;
+use std::fmt::{self, Display, Write as _};
 use std::fs::File;
 use std::io::{Error, ErrorKind, Read, Write};
 use std::rt::{Env, Files};
@@ -24,11 +24,41 @@ fn once_more(error: &Error) -> bool {
     error.kind() == ErrorKind::Interrupted
 }
 
-// A line on standard error: what failed, and why. Where that can't be written either, nobody can be told.
+// The front of a reason's text.
+#[derive(Drop)]
+struct Reason {
+    text: [u8; 256],
+    len: usize,
+    ghost held: { len ≤ 256 },
+}
+
+impl fmt::Write for Reason {
+    fn write_str(&mut self, s: &str) -> fmt::Result {
+        for b in s.bytes() {
+            if self.len < 256 {
+                self.text[self.len] = b;
+                self.len += 1;
+            }
+        }
+        Ok(())
+    }
+}
+
+// A line on standard error: what failed, and why, in the system's words without the number that std puts behind them. Where that can't be written
+// either, nobody can be told.
 pub fn complain(rt: &impl Eprint, name: &[u8], reason: impl Display + Drop) {
+    let mut said = Reason {
+        text: [0; 256],
+        len: 0,
+    };
+    let _ = write!(said, "{reason}");
+    let text = str::from_utf8(&said.text[..said.len]).unwrap_or("");
+    let words = text
+        .split_once(" (os error ")
+        .map_or(text, |(words, _)| words);
     let _ = match str::from_utf8(name) {
-        Ok(text) => eprintln!(rt; "{text}: {reason}"),
-        Err(_) => eprintln!(rt; "{}: {reason}", name.escape_ascii()),
+        Ok(name) => eprintln!(rt; "{name}: {words}"),
+        Err(_) => eprintln!(rt; "{}: {words}", name.escape_ascii()),
     };
 }
 

@@ -10,19 +10,19 @@ use Rattle.sbe.proofs.pervasive.Goals as goal
 
 pub returns-in-1 : goal.returns-in-1
 unfolding chiplet_known chiplet_ranges in_ranges within agree
-returns-in-1 c = agree_at (λ (n : ℕ). true) (chiplet_known 1) 0x01 _ (omega (arith, c.in-1.in_default-own.rest)) c.in-1.if-chiplet-lt4-own.true refl
+returns-in-1 c = agree_at (λ (n : ℕ). true) (chiplet_known 1) 1 4 {k = c.args.chiplet} (omega arith) (omega arith) refl
 
 pub returns-in-1-2 : goal.returns-in-1-2
 unfolding chiplet_known chiplet_ranges in_ranges within agree
-returns-in-1-2 c = agree_at (λ (n : ℕ). true) (chiplet_known 1) _ _ c.in-1.if-chiplet-lt8-own.false c.in-1.if-chiplet-lt10-own.true refl
+returns-in-1-2 c = agree_at (λ (n : ℕ). true) (chiplet_known 1) 8 10 {k = c.args.chiplet} (omega arith) (omega arith) refl
 
 pub returns-in-1-3 : goal.returns-in-1-3
 unfolding chiplet_known chiplet_ranges in_ranges within agree
-returns-in-1-3 c = agree_at (λ (n : ℕ). true) (chiplet_known 1) _ _ c.in-1.if-chiplet-lt12-own.false c.in-1.if-chiplet-lt21-own.true refl
+returns-in-1-3 c = agree_at (λ (n : ℕ). true) (chiplet_known 1) 12 21 {k = c.args.chiplet} (omega arith) (omega arith) refl
 
 pub returns-in-1-4 : goal.returns-in-1-4
 unfolding chiplet_known chiplet_ranges in_ranges within agree
-returns-in-1-4 c = agree_at (λ (n : ℕ). true) (chiplet_known 1) _ _ c.in-1.if-chiplet-lt24-own.false c.in-1.if-chiplet-lt40-own.true refl
+returns-in-1-4 c = agree_at (λ (n : ℕ). true) (chiplet_known 1) 24 40 {k = c.args.chiplet} (omega arith) (omega arith) refl
 
 pub returns-in-0 : goal.returns-in-0
 unfolding chiplet_known chiplet_ranges in_ranges within agree
@@ -30,16 +30,16 @@ returns-in-0 c = by_key (chiplet_known 1) c.in-0.in-0-own.keys1 refl
 
 pub returns-in-0-2 : goal.returns-in-0-2
 unfolding chiplet_known chiplet_ranges in_ranges within agree
-returns-in-0-2 c = agree_at (λ (n : ℕ). false) (chiplet_known 1) _ _ c.in-0.if-chiplet-lt4-own.false c.in-0.if-chiplet-lt8-own.true refl
+returns-in-0-2 c = agree_at (λ (n : ℕ). false) (chiplet_known 1) 4 8 {k = c.args.chiplet} (omega arith) (omega arith) refl
 
 pub returns-in-0-3 : goal.returns-in-0-3
 unfolding chiplet_known chiplet_ranges in_ranges within agree
-returns-in-0-3 c = agree_at (λ (n : ℕ). false) (chiplet_known 1) _ _ c.in-0.if-chiplet-lt10-own.false c.in-0.if-chiplet-lt12-own.true refl
+returns-in-0-3 c = agree_at (λ (n : ℕ). false) (chiplet_known 1) 10 12 {k = c.args.chiplet} (omega arith) (omega arith) refl
 
 pub returns-in-0-4 : goal.returns-in-0-4
 unfolding chiplet_known chiplet_ranges in_ranges within agree
-returns-in-0-4 c = agree_at (λ (n : ℕ). false) (chiplet_known 1) _ _ c.in-0.if-chiplet-lt21-own.false c.in-0.if-chiplet-lt24-own.true refl
+returns-in-0-4 c = agree_at (λ (n : ℕ). false) (chiplet_known 1) 21 24 {k = c.args.chiplet} (omega arith) (omega arith) refl
 
 pub returns-in-0-5 : goal.returns-in-0-5
 unfolding chiplet_known chiplet_ranges in_ranges within agree
-returns-in-0-5 c = agree_at (λ (n : ℕ). false) (chiplet_known 1) _ _ c.in-0.if-chiplet-lt40-own.false c.ranges.chiplet.fits refl
+returns-in-0-5 c = agree_at (λ (n : ℕ). false) (chiplet_known 1) 40 256 {k = c.args.chiplet} (omega arith) (omega arith) refl

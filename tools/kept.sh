@@ -1,8 +1,10 @@
 # shellcheck shell=bash
-# To be sourced, with `top` the repository: kits of links, one whose compiler keeps what it makes. No proof covers a compilation. Sets `kit`, the kit's folder.
+# To be sourced, with `top` the repository. Makes kits of links, one with a compiler that keeps what
+# it makes; no proof covers a compilation. Sets `kit`, the kit's folder.
 kit=$(dirname "$(rt doc)")
 
-# linked_kit FOLDER: makes there a kit of links. rt goes by the folder that it lies in, so FOLDER/bin/rt is a copy.
+# linked_kit FOLDER: makes a kit of links there. rt finds its kit by its own folder, so FOLDER/bin/rt
+# is a copy.
 linked_kit() {
     local part link folder=$1
     mkdir -p "$folder/bin" "$folder/toolchain/bin"
@@ -14,8 +16,8 @@ linked_kit() {
     cp "$kit"/bin/rt* "$folder/bin"
 }
 
-# keeping_kit FOLDER: such a kit, that leaves the module that the compiler was last given as FOLDER/kept.bc, and what becomes of it at -O3, with no
-# checks of memory, as FOLDER/kept.o.
+# keeping_kit FOLDER: makes a kit of links whose compiler leaves the last module that it was given as
+# FOLDER/kept.bc, and that module compiled at -O3, without memory checks, as FOLDER/kept.o.
 keeping_kit() {
     local folder=$1
     linked_kit "$folder"
@@ -38,8 +40,9 @@ KEEP
     chmod +x "$folder/toolchain/bin/clang"
 }
 
-# made_library KIT ARCHIVE: the C library, once all is proved, by that kit's compiler: over what rt ci kept here, else by rt lib. What checks keep is shared
-# by the checkouts on a machine, but not with a kit of links: the true one goes first.
+# made_library KIT ARCHIVE: makes the proved C library with that kit's compiler, over what rt ci kept
+# here, else by rt lib. rt shares what checks keep between checkouts, but not with a kit of links; so
+# the true kit runs first.
 made_library() {
     "$top/tools/kept-library" bjargolsk_c "$2" "$1/toolchain" || {
         (cd "$top/crates/bjargolsk_c" && rt lib && { [ "$1" = "$kit" ] || "$1/bin/rt" lib; }) && cp "$top/crates/bjargolsk_c/out/libbjargolsk_c.a" "$2"

@@ -1,4 +1,5 @@
-// The C library: the calls of `bjargolsk`, exported under their names and with their clauses. `include/bjargolsk.h` has them for C.
+// The C library: the calls of `bjargolsk`, exported under their names and with their clauses.
+// `include/bjargolsk.h` declares them for C.
 #![tactic(auto)]
 
 ghost use Rattle.bjargolsk.specs.Calls.{FreshReturns, OccReturns, SbeReturns, SeepromReturns, UndoReturns, RedoReturns, ForgetReturns, TimeReturns, WatchReturns, PlanReturns, PlanOkReturns, SaveReturns, RestoreReturns, MoveUpReturns, MoveDownReturns, PartReturns};

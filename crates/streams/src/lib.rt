@@ -1,5 +1,5 @@
-// Reading and writing over std, and the program's arguments. A stream that isn't ready is tried again until it is; what can't be read or written is said on standard error, with
-// the system's reason.
+// Reading and writing over std, and the program's arguments. A call on a stream that isn't ready is
+// repeated until it is. If reading or writing fails, standard error gets the system's reason.
 #![tactic(auto)]
 
 ghost use Rattle.std.specs.Prelude.{◌≡◌, ◌<◌, ◌≤◌, false, true, length, take, IfOk, OnErr};
@@ -14,8 +14,8 @@ use std::io::{Error, ErrorKind, Read, Write};
 use std::rt::{Env, Files};
 use std::{io, str, thread};
 
-// Whether the call that has just failed is made again: a signal came between, or the stream isn't ready. Nothing here waits for a stream, so others
-// get their turn.
+// Whether to repeat a failed call: a signal interrupted it, or the stream isn't ready. std can't
+// wait for one stream, so other programs get their turn.
 fn once_more(error: &Error) -> bool {
     if error.kind() == ErrorKind::WouldBlock {
         thread::yield_now();
@@ -24,7 +24,7 @@ fn once_more(error: &Error) -> bool {
     error.kind() == ErrorKind::Interrupted
 }
 
-// The front of a reason's text.
+// The first 256 bytes of a reason's text.
 #[derive(Drop)]
 struct Reason {
     text: [u8; 256],
@@ -44,8 +44,8 @@ impl fmt::Write for Reason {
     }
 }
 
-// A line on standard error: what failed, and why, in the system's words without the number that std puts behind them. Where that can't be written
-// either, nobody can be told.
+// Writes a line to standard error: what failed, and the system's reason without the number that std
+// puts behind it. If that fails too, nobody can be informed.
 pub fn complain(rt: &impl Eprint, name: &[u8], reason: impl Display + Drop) {
     let mut said = Reason {
         text: [0; 256],
@@ -62,7 +62,8 @@ pub fn complain(rt: &impl Eprint, name: &[u8], reason: impl Display + Drop) {
     };
 }
 
-// What the system answers to a write once it doesn't ask for another. A proved loop has to end: it counts down from a number that no run uses up.
+// The system's answer to a write, once it isn't to be repeated. A proved loop must end, so this one
+// counts up to a number that no run reaches.
 fn taken<W: Write>(writer: &mut W, bytes: &[u8]) -> io::Result<usize>
     ensures bound { WritesAtMost result bytes.now }
     ensures some { IfOk result (λ n. 0 < n) }
@@ -124,7 +125,7 @@ fn answered<R: Read>(reader: &mut R, space: &mut [u8]) -> io::Result<usize>
     Err(Error::from(ErrorKind::TimedOut))
 }
 
-// The bytes that were put at the start of a buffer: none at the end of the input, and none where it can't be read.
+// How many bytes are at the start of a buffer: none at the end of the input or after a failed read.
 #[derive(Clone, Copy)]
 pub struct Got {
     pub count: usize,
@@ -196,7 +197,7 @@ pub fn open<R: Files>(rt: &R, name: &[u8]) -> io::Result<R::File> {
     }
 }
 
-// What the file of that name holds, as far as there is space for it. One that can't be opened is said.
+// Reads the file of that name, as far as the space goes. If it can't be opened, that is reported.
 pub fn read_named<R: Files + Eprint>(rt: &R, name: &[u8], space: &mut [u8]) -> Got
     ensures { IsPrefixLen result.count space.new }
 {
@@ -220,7 +221,7 @@ pub fn is_given(rt: &impl Env, number: usize) -> bool {
     false
 }
 
-// Puts that argument at the start of a buffer, and answers its length; 0 where it isn't given or has no room.
+// Puts that argument at the start of a buffer and answers its length: 0 if not given or too long.
 pub fn argument(rt: &impl Env, number: usize, space: &mut [u8]) -> usize
     ensures { IsPrefixLen result space.new }
 {

@@ -82,7 +82,7 @@ both_due k s n h = by_both (AlikeAsks k s) (not (eqb n 0)) (λ f. both_refuse n)
 -- ---- one call on two sessions that are the same but for ids
 
 module _ (k : ℕ) (low : 1 ≤ k) (s t : Session) (tw : Twins k s t) (from_k : k ≤ s.next) (formed-s : well_formed s ≡ true) (formed-t : well_formed t ≡ true)
-    (Full-is : (e : Edit) → (carried_of t (shifted_edit k e)).full ≡ (carried_of s e).full) where
+    (full_is : (e : Edit) → (carried_of t (shifted_edit k e)).full ≡ (carried_of s e).full) where
   shifted_way : (w : Way) → by_way w strikes unstrikes ≡ shifted_deed k (by_way w strikes unstrikes)
   unfolding shifted_deed by_way
   shifted_way Before = refl
@@ -94,9 +94,9 @@ module _ (k : ℕ) (low : 1 ≤ k) (s t : Session) (tw : Twins k s t) (from_k : 
   settled_alike d a b (both_refuse n) = (record { answer = refl; bell = refl; kind = refl; reply = same_bytes d }, refl)
   settled_alike d a b (both_tell bell y y' h) = (record { answer = refl; bell = refl; kind = refl; reply = h }, refl)
   settled_alike d a b (both_make e bell y) = (
-    by_same (Alike k s) (carried_of s e).full (carried_of t (shifted_edit k e)).full (Full-is e)
+    by_same (Alike k s) (carried_of s e).full (carried_of t (shifted_edit k e)).full (full_is e)
         (λ f. record { answer = refl; bell = refl; kind = refl; reply = same_bytes d }) (λ f. record { answer = refl; bell = refl; kind = refl; reply = same_bytes y }),
-    choose (shifted_deed k) {b = (carried_of s e).full} {x = keeps} {y = adds e} (Full-is e) refl refl,
+    choose (shifted_deed k) {b = (carried_of s e).full} {x = keeps} {y = adds e} (full_is e) refl refl,
   )
   settled_alike d a b (both_move w at at' e e' h) = (record { answer = refl; bell = refl; kind = h; reply = same_bytes d }, shifted_way w)
   settled_alike d a b (both_pass n) = (record { answer = refl; bell = ap (timer_bell n) tw.timer_is; kind = refl; reply = same_bytes d }, refl)

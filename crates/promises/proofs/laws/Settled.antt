@@ -38,7 +38,7 @@ full_by_kind s e =
 
 -- ---- the same asked of both
 
-module _ (s t : Session) (Full-is : (e : Edit) → (carried_of t e).full ≡ (carried_of s e).full) (timer_is : t.timer ≡ s.timer) (d : List ℕ) where
+module _ (s t : Session) (full_is : (e : Edit) → (carried_of t e).full ≡ (carried_of s e).full) (timer_is : t.timer ≡ s.timer) (d : List ℕ) where
   alike : {x y : Said} → y.answer ≡ x.answer → y.bell ≡ x.bell → y.kind ≡ x.kind → y.reply ≡ x.reply → SameSaid x y
   alike a b k r = record { answer = a; bell = b; kind = k; reply = r }
 
@@ -47,8 +47,8 @@ module _ (s t : Session) (Full-is : (e : Edit) → (carried_of t e).full ≡ (ca
   same_settled (refuses n) = (alike refl refl refl refl, refl)
   same_settled (tells bell y) = (alike refl refl refl refl, refl)
   same_settled (makes e bell y) = (
-    by_same SameSaid (carried_of s e).full (carried_of t e).full (Full-is e) (λ f. alike refl refl refl refl) (λ f. alike refl refl refl refl),
-    ap (λ (b : Bool). cond b keeps (adds e)) (Full-is e),
+    by_same SameSaid (carried_of s e).full (carried_of t e).full (full_is e) (λ f. alike refl refl refl refl) (λ f. alike refl refl refl refl),
+    ap (λ (b : Bool). cond b keeps (adds e)) (full_is e),
   )
   same_settled (moves w at e) = (alike refl refl refl refl, refl)
   same_settled (forgets n) = (alike refl refl refl refl, refl)

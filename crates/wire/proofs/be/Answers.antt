@@ -18,8 +18,8 @@ pub overflow_add-acc : goal.overflow_add-acc
 overflow_add-acc c = omega (arith, pow_seven c.loop-i.i (omega arith))
 
 pub loop-i-preserved : goal.loop-i-preserved
-loop-i-preserved c = let p = c in
-    (search rules, cc (be_more p.args.s.now p.args.at p.loop-i.i (omega arith)), omega (arith, pow_step p.loop-i.i))
+loop-i-preserved c =
+    (search rules, cc (be_more c.args.s.now c.args.at c.loop-i.i (omega arith)), omega (arith, pow_step c.loop-i.i))
 
 pub returns : goal.returns
 returns c = let e : c.loop-i.i ≡ c.args.n = omega arith in

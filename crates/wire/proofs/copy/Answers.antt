@@ -13,8 +13,8 @@ pub bounds-d-at : goal.bounds-d-at
 bounds-d-at c = omega arith
 
 pub loop-i-preserved : goal.loop-i-preserved
-loop-i-preserved c = let p = c in
-    (search rules, simp length-set p.loop-i.invariant.1, copy_more _ p.loop-i.i _ p.loop-i.d c.loop-i-test.true (omega arith) ∙ p.loop-i.invariant.2)
+loop-i-preserved c =
+    (search rules, simp length-set c.loop-i.invariant.1, copy_more _ c.loop-i.i _ c.loop-i.d c.loop-i-test.true (omega arith) ∙ c.loop-i.invariant.2)
 
 pub shape_of-d : goal.shape_of-d
 shape_of-d c = c.loop-i.invariant.1

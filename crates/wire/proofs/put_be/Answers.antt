@@ -12,8 +12,8 @@ pub bounds-d-at : goal.bounds-d-at
 bounds-d-at c = omega arith
 
 pub loop-i-preserved : goal.loop-i-preserved
-loop-i-preserved c = let p = c in
-    (omega arith, simp length-set p.loop-i.invariant.1, put_more _ p.loop-i.i _ _ p.loop-i.d c.loop-i-test.true (omega arith) c.low8.ensures ∙ p.loop-i.invariant.2)
+loop-i-preserved c =
+    (omega arith, simp length-set c.loop-i.invariant.1, put_more _ c.loop-i.i _ _ c.loop-i.d c.loop-i-test.true (omega arith) c.low8.ensures ∙ c.loop-i.invariant.2)
 
 pub shape_of-d : goal.shape_of-d
 shape_of-d c = c.loop-i.invariant.1

@@ -2,7 +2,7 @@
 use Prim.Native.Nat.{ℕ, suc, ◌+◌, ◌-◌, ◌*◌, ◌/◌, ◌%◌, ◌<◌, ◌≤◌}
 use mathlib.Core.Bool.{Bool, true, false, cond, not}
 use mathlib.Core.Path.{◌≡◌, refl, sym, ap, subst, ◌∙◌}
-use mathlib.Core.List.{List, [], ◌∷◌}
+use mathlib.Core.List.{List, [], ◌∷◌, ◌++◌}
 use native.Mathlib.Numerals.{add-one}
 use native.Mathlib.Nat.{add-zero, zero-add, sub-zero}
 use native.Mathlib.Omega.{arith}
@@ -15,7 +15,8 @@ use Rattle.wire.proofs.laws.Cases.{if_b, else_b, if_lt, else_lt, if_le, else_le,
 use Rattle.wire.proofs.Loops.{store_first, paste_none}
 use Rattle.text.specs.declared.Fault.{Fault}
 use Rattle.text.specs.declared.Fault.TheVariants.{Nothing, Digit, Over}
-use Rattle.text.specs.Text.{blank, leading, digit_of, digit_at, HexRun, stopped, onto, high, low, hex_from, hex_run, Takes, same_text, Sheet, put_on, put_all, hex_digit, hex_of, hexes, spaced, number, numbers}
+use Rattle.text.specs.Text.{blank, leading, digit_of, digit_at, HexRun, stopped, onto, high, low, hex_from, hex_run, Takes, same_text, Sheet, put_all, hex_digit, hex_of}
+use Rattle.text.proofs.laws.Pieces.{put_all_append}
 
 -- ---- tests of a call's answer: t is the answer, b what the contract says of it
 
@@ -195,30 +196,14 @@ pub hex_pair : {x y : ℕ} (b : ℕ) → x ≡ hex_digit (b / 16) → y ≡ hex_
 unfolding hex_of
 hex_pair b p q = rw (p, q)
 
-module _ (s : List ℕ) (i : ℕ) (p : Sheet) {q : Sheet} where
-  pub hexes_more : i < length s → q ≡ put_on p (hex_of (get_or s i 0)) → put_all q (hexes (drop (i + 1) s)) ≡ put_all p (hexes (drop i s))
-  unfolding hexes put_all
-  hexes_more h e = rw (add-one i, drop-cons s i 0) (ap (λ (x : Sheet). put_all x (hexes (drop (suc i) s))) e)
+-- g puts the pieces of f for each byte
+module _ (g : List ℕ → List (List ℕ)) (f : ℕ → List (List ℕ)) (none : g [] ≡ [])
+    (more : (b : ℕ) (bs : List ℕ) → g (b ∷ bs) ≡ f b ++ g bs) (s : List ℕ) (i : ℕ) (p : Sheet) where
+  pub each_more : {q : Sheet} → i < length s → q ≡ put_all p (f (get_or s i 0)) → put_all q (g (drop (i + 1) s)) ≡ put_all p (g (drop i s))
+  each_more {q} h e =
+      rw (add-one i, drop-cons s i 0 h, more (get_or s i 0) (drop (suc i) s), put_all_append p (f (get_or s i 0)))
+      (ap (λ (x : Sheet). put_all x (g (drop (suc i) s))) e)
 
-  pub spaced_more : {r : Sheet} → i < length s → q ≡ put_on p (32 ∷ []) → r ≡ put_on q (hex_of (get_or s i 0))
-      → put_all r (spaced (drop (i + 1) s)) ≡ put_all p (spaced (drop i s))
-  unfolding spaced put_all
-  spaced_more h e f =
-      rw (add-one i, drop-cons s i 0)
-      (ap (λ (x : Sheet). put_all x (spaced (drop (suc i) s))) (f ∙ ap (λ (x : Sheet). put_on x (hex_of (get_or s i 0))) e))
-
-  pub numbers_more : i < length s → q ≡ put_all p (number (get_or s i 0)) → put_all q (numbers (drop (i + 1) s)) ≡ put_all p (numbers (drop i s))
-  unfolding numbers put_all
-  numbers_more h e = rw (add-one i, drop-cons s i 0) (ap (λ (x : Sheet). put_all x (numbers (drop (suc i) s))) e)
-
-pub hexes_end : (s : List ℕ) (i : ℕ) (p : Sheet) → length s ≤ i → p ≡ put_all p (hexes (drop i s))
-unfolding hexes put_all
-hexes_end s i p h = rw (drop_of_length-le s h)
-
-pub spaced_end : (s : List ℕ) (i : ℕ) (p : Sheet) → length s ≤ i → p ≡ put_all p (spaced (drop i s))
-unfolding spaced put_all
-spaced_end s i p h = rw (drop_of_length-le s h)
-
-pub numbers_end : (s : List ℕ) (i : ℕ) (p : Sheet) → length s ≤ i → p ≡ put_all p (numbers (drop i s))
-unfolding numbers put_all
-numbers_end s i p h = rw (drop_of_length-le s h)
+  pub each_end : length s ≤ i → p ≡ put_all p (g (drop i s))
+  unfolding put_all
+  each_end h = rw (drop_of_length-le s h, none)

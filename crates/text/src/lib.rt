@@ -2,9 +2,10 @@
 // past it; what doesn't fit is left out whole, so no buffer is too short to lend.
 #![tactic(auto)]
 
-ghost use Rattle.std.specs.Prelude.{◌≡◌, ◌+◌, ◌*◌, ◌≤◌, ◌<◌, leb, length};
+ghost use Rattle.std.specs.Prelude.{◌≡◌, ◌∷◌, [], ◌+◌, ◌*◌, ◌≤◌, ◌<◌, leb, length, take};
 ghost use Rattle.io.specs.Counts.{IsPrefixLen};
-ghost use Rattle.text.specs.Text.{blank, in_word, other, leading, past_blanks, digit_of, digit_at, hex_run, Takes, same_text, sheet, put_on, put_all, hex_digit, hex_of, hexes, spaced, decimal, number, numbers};
+ghost use Rattle.text.specs.Text.{blank, in_word, other, leading, past_blanks, digit_of, digit_at, hex_run, Takes, same_text, sheet, hex_digit, hex_of, hexes, spaced, decimal, number, numbers};
+ghost use Rattle.text.specs.Pages.{sheet_of, Puts};
 ghost use Rattle.text.specs.Numbers.{digits_at, number_at};
 
 // ---- reading
@@ -229,18 +230,12 @@ pub fn number_at(s: &[u8], at: usize, most: u64) -> Number
 
 // ---- writing
 
-pub fn put(out: &mut [u8], at: usize, s: &[u8]) -> usize
-    ensures prefix_len { IsPrefixLen result out.new }
-    ensures result_after { sheet out.new result ≡ put_on (sheet out.old at) s.now }
-{
-    if out.len() < at {
-        return out.len();
-    }
-    if out.len() - at < s.len() {
-        return at;
-    }
-    wire::copy(out, at, s);
-    at + s.len()
+// A lent buffer that text is put into, and the place past what was put last. What doesn't fit is
+// left out whole, so no buffer is too short to lend.
+#[derive(Drop)]
+pub struct Page<'a> {
+    pub out: &'a mut [u8],
+    pub past: usize,
 }
 
 // The capital digit for a number below 16.
@@ -251,68 +246,80 @@ fn glyph(d: u8) -> u8
     if d < 10 { b'0' + d } else { b'A' + (d - 10) }
 }
 
-// A byte's two digits.
-pub fn put_hex(out: &mut [u8], at: usize, b: u8) -> usize
-    ensures prefix_len { IsPrefixLen result out.new }
-    ensures result_after { sheet out.new result ≡ put_on (sheet out.old at) (hex_of b) }
-{
-    let digits = [glyph(b / 16), glyph(b % 16)];
-    put(out, at, &digits)
-}
-
-// Bytes in hex with nothing between.
-pub fn put_hexes(out: &mut [u8], at: usize, s: &[u8]) -> usize
-    ensures { sheet out.new result ≡ put_all (sheet out.old at) (hexes s.now) }
-{
-    let mut end = at;
-    let mut i = 0;
-    while i < s.len() {
-        end = put_hex(out, end, s[i]);
-        i += 1;
+impl<'a> Page<'a> {
+    pub fn new(out: &'a mut [u8]) -> Page<'a>
+        ensures same_buffer { result.out.ghost_name ≡ out.entry.ghost_name }
+        ensures empty { sheet_of result ≡ sheet out.old 0 }
+    {
+        Page { out, past: 0 }
     }
-    end
-}
 
-// Bytes in hex, each after a blank.
-pub fn put_bytes(out: &mut [u8], at: usize, s: &[u8]) -> usize
-    ensures { sheet out.new result ≡ put_all (sheet out.old at) (spaced s.now) }
-{
-    let mut end = at;
-    let mut i = 0;
-    while i < s.len() {
-        let mid = put(out, end, b" ");
-        end = put_hex(out, mid, s[i]);
-        i += 1;
+    pub fn put(&mut self, s: &[u8])
+        ensures { Puts self.old self.new (s.now ∷ []) }
+    {
+        if self.out.len() < self.past {
+            self.past = self.out.len();
+        } else if s.len() <= self.out.len() - self.past {
+            wire::copy(self.out, self.past, s);
+            self.past += s.len();
+        }
     }
-    end
-}
 
-pub fn put_decimal(out: &mut [u8], at: usize, n: u64) -> usize
-    ensures prefix_len { IsPrefixLen result out.new }
-    ensures result_after { sheet out.new result ≡ put_on (sheet out.old at) (decimal n) }
-{
-    let mut digits = [0u8; 20];
-    let k = io::decimal(n, &mut digits);
-    put(out, at, &digits[..k])
-}
-
-// A byte in decimal after a blank.
-fn put_number(out: &mut [u8], at: usize, b: u8) -> usize
-    ensures { sheet out.new result ≡ put_all (sheet out.old at) (number b) }
-{
-    let mid = put(out, at, b" ");
-    put_decimal(out, mid, b as u64)
-}
-
-// Bytes in decimal, each after a blank.
-pub fn put_numbers(out: &mut [u8], at: usize, s: &[u8]) -> usize
-    ensures { sheet out.new result ≡ put_all (sheet out.old at) (numbers s.now) }
-{
-    let mut end = at;
-    let mut i = 0;
-    while i < s.len() {
-        end = put_number(out, end, s[i]);
-        i += 1;
+    // A byte's two digits.
+    pub fn put_hex(&mut self, b: u8)
+        ensures { Puts self.old self.new (hex_of b ∷ []) }
+    {
+        self.put(&[glyph(b / 16), glyph(b % 16)]);
     }
-    end
+
+    // Bytes in hex with nothing between.
+    pub fn put_hexes(&mut self, s: &[u8])
+        ensures { Puts self.old self.new (hexes s.now) }
+    {
+        for b in s {
+            self.put_hex(*b);
+        }
+    }
+
+    // Bytes in hex, each after a blank.
+    pub fn put_bytes(&mut self, s: &[u8])
+        ensures { Puts self.old self.new (spaced s.now) }
+    {
+        for b in s {
+            self.put(b" ");
+            self.put_hex(*b);
+        }
+    }
+
+    pub fn put_decimal(&mut self, n: u64)
+        ensures { Puts self.old self.new (decimal n ∷ []) }
+    {
+        let mut digits = [0; 20];
+        let k = io::decimal(n, &mut digits);
+        self.put(&digits[..k]);
+    }
+
+    // A number in decimal after a blank.
+    pub fn put_number(&mut self, n: u64)
+        ensures { Puts self.old self.new (number n) }
+    {
+        self.put(b" ");
+        self.put_decimal(n);
+    }
+
+    // Bytes in decimal, each after a blank.
+    pub fn put_numbers(&mut self, s: &[u8])
+        ensures { Puts self.old self.new (numbers s.now) }
+    {
+        for b in s {
+            self.put_number(u64::from(*b));
+        }
+    }
+
+    // What was put, and what was there before it.
+    pub fn text(&self) -> &[u8]
+        ensures { result.now ≡ take self.now.past self.now.out.now }
+    {
+        &self.out[..self.past.min(self.out.len())]
+    }
 }

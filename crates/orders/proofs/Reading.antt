@@ -17,7 +17,8 @@ use Rattle.text.specs.declared.Fault.{Fault}
 use Rattle.text.specs.declared.Fault.TheVariants.{Nothing, Digit, Over}
 use Rattle.text.specs.declared.Number.{Number}
 use Rattle.text.specs.declared.Number.TheVariants.{Missing, TooGreat, Is}
-use Rattle.text.specs.Text.{in_word, leading, past_blanks, HexRun, hex_run, Takes}
+use Rattle.std.specs.List.{prefix_len}
+use Rattle.text.specs.Text.{in_word, past_blanks, HexRun, hex_run, Takes}
 use Rattle.text.specs.Text.{digit_at}
 use Rattle.text.specs.Numbers.{value_from, decimal, number_by, number_at}
 use Rattle.orders.specs.declared.Call.{Call}
@@ -87,9 +88,9 @@ pub number_fits : (s : List ℕ) (at most : ℕ) {x : Number} {n past : ℕ} →
 unfolding number_at
 number_fits s at most {x} {n} {past} e is = go (ltb 9 (digit_at s at)) (sym is ∙ e)
   where
-    go : (t : Bool) → Is n past ≡ cond t Missing (number_by (value_from 0 (drop at s)) (at + leading decimal (drop at s)) most) → n ≤ most
+    go : (t : Bool) → Is n past ≡ cond t Missing (number_by (value_from 0 (drop at s)) (at + prefix_len decimal (drop at s)) most) → n ≤ most
     go true k = let z : ◌≡◌ {A = ℕ} 0 1 = cc in absurd (omega (arith, z))
-    go false k = fitting (value_from 0 (drop at s)) (at + leading decimal (drop at s)) most k refl
+    go false k = fitting (value_from 0 (drop at s)) (at + prefix_len decimal (drop at s)) most k refl
 
 -- ---- by the fault
 
@@ -205,12 +206,12 @@ module _ (line : List ℕ) (at end : ℕ) (d : List ℕ) {w : Word} where
   order_skip e h = kept d h ∙ sym (ap (λ (x : Word). order_by x line at end d) e)
 
 -- the word was found in the part that starts at it
-pub order_at_lem : (line : List ℕ) (at : ℕ) (d : List ℕ) {n : ℕ} {w : Word} {g : Ordered} → n ≡ leading in_word (take (length line - at) (drop at line))
+pub order_at_lem : (line : List ℕ) (at : ℕ) (d : List ℕ) {n : ℕ} {w : Word} {g : Ordered} → n ≡ prefix_len in_word (take (length line - at) (drop at line))
     → w ≡ word_of (take n (take (length line - at) (drop at line))) → g ≡ order_by w line at (at + n) d → g ≡ order_at line at d
 unfolding order_at
 order_at_lem line at d {n} {w} en ew h =
     let part : take (length line - at) (drop at line) ≡ drop at line = tail_part line at in
-    let n_is : n ≡ word_length line at = en ∙ ap (leading in_word) part in
+    let n_is : n ≡ word_length line at = en ∙ ap (prefix_len in_word) part in
     let w-is : w ≡ word_of (take n (drop at line)) = ew ∙ ap (λ (l : List ℕ). word_of (take n l)) part in
     h ∙ ap (λ (x : Word). order_by x line at (at + n) d) w-is ∙ ap (λ (k : ℕ). order_by (word_of (take k (drop at line))) line at (at + k) d) n_is
 

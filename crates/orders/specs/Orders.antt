@@ -6,7 +6,8 @@ use Rattle.text.specs.declared.Fault.{Fault}
 use Rattle.text.specs.declared.Fault.TheVariants.{Nothing, Digit, Over}
 use Rattle.text.specs.declared.Number.{Number}
 use Rattle.text.specs.declared.Number.TheVariants.{Missing, TooGreat, Is}
-use Rattle.text.specs.Text.{ascii, in_word, leading, past_blanks, same_text, HexRun, hex_run}
+use Rattle.std.specs.List.{prefix_len}
+use Rattle.text.specs.Text.{ascii, in_word, past_blanks, same_text, HexRun, hex_run}
 use Rattle.text.specs.Numbers.{number_at}
 use Rattle.orders.specs.declared.Call.{Call}
 use Rattle.orders.specs.declared.Call.TheVariants.{Occ, Sbe, Send, Load, Undo, Redo, Forget, Time, Watch, Plan, Save, Restore, Fresh}
@@ -191,7 +192,7 @@ order_by Skip line at end d = ordered (plainly Skip) d
 
 -- "all bytes up to the next blank or the line's end"
 abbrev pub word_length : List ℕ → ℕ → ℕ
-word_length line at = leading in_word (drop at line)
+word_length line at = prefix_len in_word (drop at line)
 
 unfoldable pub order_at : List ℕ → ℕ → List ℕ → Ordered
 order_at line at d = order_by (word_of (take (word_length line at) (drop at line))) line at (at + word_length line at) d

@@ -12,9 +12,10 @@ use borrow.Author.Tests.{le-leb, lt-leb}
 use Rattle.wire.proofs.laws.Cases.{if_b, else_b, if_lt, else_lt, cond_elim, same_le}
 use Rattle.text.specs.declared.Number.{Number}
 use Rattle.text.specs.declared.Number.TheVariants.{Missing, TooGreat, Is}
-use Rattle.text.specs.Text.{digit_of, digit_at, leading}
+use Rattle.text.specs.Text.{digit_of, digit_at}
+use Rattle.std.specs.List.{prefix_len}
 use Rattle.text.specs.Numbers.{decimal, value_from, number_by, digits_at, number_at}
-use Rattle.text.proofs.Turns.{leading_more, leading_stop, leading_end}
+use Rattle.text.proofs.Turns.{prefix_more, prefix_stop, prefix_end}
 
 -- digits more make no number less
 value_grows : (v : ℕ) (s : List ℕ) → v ≤ value_from v s
@@ -39,30 +40,30 @@ module _ {v : ℕ} (x most : ℕ) where
 pub record Digits (s : List ℕ) (at most i v : ℕ) : Type 0 where
   small : v ≤ most
   value : value_from v (drop i s) ≡ value_from 0 (drop at s)
-  past : i + leading decimal (drop i s) ≡ at + leading decimal (drop at s)
+  past : i + prefix_len decimal (drop i s) ≡ at + prefix_len decimal (drop at s)
 
 pub digits_none : (s : List ℕ) (at most : ℕ) → Digits s at most at 0
 digits_none s at most = record { small = omega arith; value = refl; past = refl }
 
 module _ {s : List ℕ} {at most i v : ℕ} (l : Digits s at most i v) where
-  number_end : v ≡ value_from v (drop i s) → i ≡ i + leading decimal (drop i s) → Is v i ≡ digits_at s at most
+  number_end : v ≡ value_from v (drop i s) → i ≡ i + prefix_len decimal (drop i s) → Is v i ≡ digits_at s at most
   unfolding number_by
   number_end e k =
       let value : v ≡ value_from 0 (drop at s) = e ∙ l.value in
-      let past : i ≡ at + leading decimal (drop at s) = k ∙ l.past in
+      let past : i ≡ at + prefix_len decimal (drop at s) = k ∙ l.past in
       let small : value_from 0 (drop at s) ≤ most = omega (arith, l.small) in
       else_lt _ _ small (rw (← value, ← past))
 
   pub digits_end : length s ≤ i → Is v i ≡ digits_at s at most
   unfolding value_from
-  digits_end h = number_end (rw (drop_of_length-le s h)) (leading_end decimal s i h)
+  digits_end h = number_end (rw (drop_of_length-le s h)) (prefix_end decimal s i h)
 
   module _ {x : ℕ} (more : i < length s) (is : x ≡ digit_of (get_or s i 0)) where
     pub digits_stop : 9 < x → Is v i ≡ digits_at s at most
     unfolding decimal value_from
     digits_stop h =
         let none : decimal (get_or s i 0) ≡ false = lt-leb (digit_of (get_or s i 0)) 9 (omega arith) in
-        number_end (rw (drop-cons s i 0) (else_b _ _ none refl)) (leading_stop decimal s i more none)
+        number_end (rw (drop-cons s i 0) (else_b _ _ none refl)) (prefix_stop decimal s i more none)
 
     module _ (h : x ≤ 9) where
       one : decimal (get_or s i 0) ≡ true
@@ -82,7 +83,7 @@ module _ {s : List ℕ} {at most i v : ℕ} (l : Digits s at most i v) where
           if_lt _ _ great refl
 
       pub digits_more : v * 10 + x ≤ most → Digits s at most (i + 1) (v * 10 + x)
-      digits_more k = record { small = k; value = value_more ∙ l.value; past = leading_more decimal s i more one ∙ l.past }
+      digits_more k = record { small = k; value = value_more ∙ l.value; past = prefix_more decimal s i more one ∙ l.past }
 
 -- ---- by the digit at the place
 

@@ -10,12 +10,15 @@ use lib.Dec.{ltb, eqb}
 use lib.ListN.{length, get_or, drop, set, drop_of_length-le}
 use lib.Seq.{drop-cons}
 use borrow.Author.Tests.{ltb-true, ltb-false}
+use Rattle.std.specs.Prelude.{nat_eq, ◌&&◌}
+use Rattle.std.specs.List.{prefix_len}
+use Rattle.std.specs.Cmp.Lexicographic.{pointwise}
 use Rattle.wire.specs.Wire.{pasted}
 use Rattle.wire.proofs.laws.Cases.{if_b, else_b, if_lt, else_lt, if_le, else_le, if_ne, else_ne, cond_elim}
 use Rattle.wire.proofs.Loops.{store_first, paste_none}
 use Rattle.text.specs.declared.Fault.{Fault}
 use Rattle.text.specs.declared.Fault.TheVariants.{Nothing, Digit, Over}
-use Rattle.text.specs.Text.{blank, leading, digit_of, digit_at, HexRun, stopped, onto, high, low, hex_from, hex_run, Takes, same_text, Sheet, put_all, hex_digit, hex_of}
+use Rattle.text.specs.Text.{blank, digit_of, digit_at, HexRun, stopped, onto, high, low, hex_from, hex_run, Takes, same_text, Sheet, put_all, hex_digit, hex_of}
 use Rattle.text.proofs.laws.Pieces.{put_all_append}
 
 -- ---- tests of a call's answer: t is the answer, b what the contract says of it
@@ -32,21 +35,18 @@ module _ {b : Bool} where
 -- ---- counting in front
 
 module _ (p : ℕ → Bool) (s : List ℕ) (i : ℕ) where
-  pub leading_more : i < length s → p (get_or s i 0) ≡ true → i + 1 + leading p (drop (i + 1) s) ≡ i + leading p (drop i s)
-  unfolding leading
-  leading_more h e =
-      let one : suc (leading p (drop (suc i) s)) ≡ leading p (drop i s) = rw (drop-cons s i 0) (if_b _ _ e refl) in
+  pub prefix_more : i < length s → p (get_or s i 0) ≡ true → i + 1 + prefix_len p (drop (i + 1) s) ≡ i + prefix_len p (drop i s)
+  prefix_more h e =
+      let one : suc (prefix_len p (drop (suc i) s)) ≡ prefix_len p (drop i s) = rw (drop-cons s i 0) (if_b _ _ e (omega arith)) in
       rw (add-one i) (omega (arith, one))
 
-  pub leading_stop : i < length s → p (get_or s i 0) ≡ false → i ≡ i + leading p (drop i s)
-  unfolding leading
-  leading_stop h e =
-      let none : 0 ≡ leading p (drop i s) = rw (drop-cons s i 0) (else_b _ _ e refl) in
+  pub prefix_stop : i < length s → p (get_or s i 0) ≡ false → i ≡ i + prefix_len p (drop i s)
+  prefix_stop h e =
+      let none : 0 ≡ prefix_len p (drop i s) = rw (drop-cons s i 0) (else_b _ _ e refl) in
       omega (arith, none)
 
-  pub leading_end : length s ≤ i → i ≡ i + leading p (drop i s)
-  unfolding leading
-  leading_end h = rw (drop_of_length-le s h) (sym (add-zero i))
+  pub prefix_end : length s ≤ i → i ≡ i + prefix_len p (drop i s)
+  prefix_end h = rw (drop_of_length-le s h) (sym (add-zero i))
 
 -- ---- what is read from a place on
 
@@ -166,29 +166,18 @@ module _ {s : List ℕ} {at m n : ℕ} {d : List ℕ} {q₀ : HexRun} {d₀ : Li
               ∙ at_high s at (m - n) (suc at) more dense (omega arith) (omega arith)) in
               record { rest = store h byte l.rest }
 
--- ---- two texts: what is left decides
+-- ---- two texts
 
-pub differ : (a b : List ℕ) → (length a ≡ length b → ⊥) → false ≡ same_text a b
+pub same_pointwise : (a b : List ℕ) → pointwise nat_eq a b ≡ same_text a b
 unfolding same_text
-differ [] [] h = absurd (h refl)
-differ [] (y ∷ ys) h = refl
-differ (x ∷ xs) [] h = refl
-differ (x ∷ xs) (y ∷ ys) h =
-    cond_elim (λ (t : Bool). false ≡ t) (not (eqb x y)) refl (differ xs ys (λ e. h (ap suc e)))
-
-module _ (a b : List ℕ) (i : ℕ) where
-  pub same_end : length a ≤ i → length b ≤ i → true ≡ same_text (drop i a) (drop i b)
-  unfolding same_text
-  same_end h k = rw (drop_of_length-le a h, drop_of_length-le b k)
-
-  module _ (h : i < length a) (k : i < length b) where
-    pub same_not : (get_or a i 0 ≡ get_or b i 0 → ⊥) → false ≡ same_text (drop i a) (drop i b)
-    unfolding same_text
-    same_not e = rw (drop-cons a i 0 h, drop-cons b i 0 k) (if_ne _ _ e refl)
-
-    pub same_more : get_or a i 0 ≡ get_or b i 0 → same_text (drop (i + 1) a) (drop (i + 1) b) ≡ same_text (drop i a) (drop i b)
-    unfolding same_text
-    same_more e = rw (add-one i, drop-cons a i 0 h, drop-cons b i 0 k) (else_ne _ _ e refl)
+same_pointwise [] [] = refl
+same_pointwise [] (y ∷ ys) = refl
+same_pointwise (x ∷ xs) [] = refl
+same_pointwise (x ∷ xs) (y ∷ ys) = go (eqb x y) (same_pointwise xs ys)
+  where
+    go : (t : Bool) → pointwise nat_eq xs ys ≡ same_text xs ys → (t && pointwise nat_eq xs ys) ≡ cond (not t) false (same_text xs ys)
+    go true e = e
+    go false e = refl
 
 -- ---- pieces: those left, put now, give the end
 

@@ -1,6 +1,7 @@
 -- docs/PROTOCOL.md, "Numbers": a decimal number in a line. Text is a list of ASCII numbers.
 use Rattle.std.specs.Prelude.{ℕ, ◌+◌, ◌*◌, Bool, cond, List, [], ◌∷◌, ltb, leb, drop}
-use Rattle.text.specs.Text.{digit_of, digit_at, leading}
+use Rattle.text.specs.Text.{digit_of, digit_at}
+use Rattle.std.specs.List.{prefix_len}
 use Rattle.text.specs.declared.Number.{Number}
 use Rattle.text.specs.declared.Number.TheVariants.{Missing, TooGreat, Is}
 
@@ -17,7 +18,7 @@ unfoldable pub number_by : ℕ → ℕ → ℕ → Number
 number_by value past most = cond (ltb most value) TooGreat (Is value past)
 
 abbrev pub digits_at : List ℕ → ℕ → ℕ → Number
-digits_at s at most = number_by (value_from 0 (drop at s)) (at + leading decimal (drop at s)) most
+digits_at s at most = number_by (value_from 0 (drop at s)) (at + prefix_len decimal (drop at s)) most
 
 -- "one or more of the digits", "no sign"
 unfoldable pub number_at : List ℕ → ℕ → ℕ → Number

@@ -1,5 +1,6 @@
 -- docs/PROTOCOL.md, "Lines" and "Bytes": blanks, words, and bytes in hex. Text is a list of ASCII numbers.
 use Rattle.std.specs.Prelude.{ℕ, zero, suc, ◌+◌, ◌-◌, ◌*◌, ◌/◌, ◌%◌, Bool, true, false, cond, not, ◌≡◌, List, [], ◌∷◌, ◌++◌, eqb, ltb, leb, length, drop, get_or}
+use Rattle.std.specs.List.{prefix_len}
 use Prim.Native.Char.{code}
 use Prim.Native.String.{String, [] as empty, ◌∷◌ as ◌then◌}
 use Rattle.wire.specs.Wire.{pasted}
@@ -16,23 +17,18 @@ same_text (x ∷ xs) (y ∷ ys) = cond (not (eqb x y)) false (same_text xs ys)
 -- ---- words
 
 -- "a blank is a space or a tab"
-unfoldable pub blank : ℕ → Bool
+abbrev pub blank : ℕ → Bool
 blank c = cond (eqb c 32) true (eqb c 9)
 
-unfoldable pub in_word : ℕ → Bool
+abbrev pub in_word : ℕ → Bool
 in_word c = not (blank c)
 
-unfoldable pub other : ℕ → ℕ → Bool
+abbrev pub other : ℕ → ℕ → Bool
 other c x = not (eqb x c)
-
--- how many stand before the first that isn't such
-unfoldable pub leading : (ℕ → Bool) → List ℕ → ℕ
-leading p [] = 0
-leading p (x ∷ xs) = cond (p x) (suc (leading p xs)) 0
 
 -- the first place from `from` on that holds no blank, or the end
 unfoldable pub past_blanks : List ℕ → ℕ → ℕ
-past_blanks s from = cond (ltb (length s) from) (length s) (from + leading blank (drop from s))
+past_blanks s from = cond (ltb (length s) from) (length s) (from + prefix_len blank (drop from s))
 
 -- ---- bytes
 

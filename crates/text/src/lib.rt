@@ -3,8 +3,9 @@
 #![tactic(auto)]
 
 ghost use Rattle.std.specs.Prelude.{◌≡◌, ◌∷◌, [], ◌+◌, ◌*◌, ◌≤◌, ◌<◌, leb, length, take};
+ghost use Rattle.std.specs.List.{prefix_len};
 ghost use Rattle.io.specs.Counts.{IsPrefixLen};
-ghost use Rattle.text.specs.Text.{blank, in_word, other, leading, past_blanks, digit_of, digit_at, hex_run, Takes, same_text, sheet, hex_digit, hex_of, hexes, spaced, decimal, number, numbers};
+ghost use Rattle.text.specs.Text.{blank, in_word, other, past_blanks, digit_of, digit_at, hex_run, Takes, same_text, sheet, hex_digit, hex_of, hexes, spaced, decimal, number, numbers};
 ghost use Rattle.text.specs.Pages.{sheet_of, Puts};
 ghost use Rattle.text.specs.Numbers.{digits_at, number_at};
 
@@ -14,13 +15,18 @@ ghost use Rattle.text.specs.Numbers.{digits_at, number_at};
 pub fn is_blank(c: u8) -> bool
     ensures { result ≡ blank c }
 {
-    if c == b' ' {
-        return true;
-    }
-    c == b'\t'
+    c == b' ' || c == b'\t'
+}
+
+fn blanks_len(s: &[u8]) -> usize
+    ensures value { result ≡ prefix_len blank s.now }
+    ensures within { result ≤ length s.now }
+{
+    s.iter().take_while(|c| is_blank(**c)).count()
 }
 
 // The first place from `from` on that holds no blank, or the end.
+#[tactic(auto, unfolding(crate::specs::Text::past_blanks))]
 pub fn past_blanks(s: &[u8], from: usize) -> usize
     ensures value { result ≡ past_blanks s.now from }
     ensures upper_bound { result ≤ length s.now }
@@ -28,61 +34,30 @@ pub fn past_blanks(s: &[u8], from: usize) -> usize
     if s.len() < from {
         return s.len();
     }
-    let mut i = from;
-    while i < s.len() {
-        if !is_blank(s[i]) {
-            return i;
-        }
-        i += 1;
-    }
-    i
+    from + blanks_len(&s[from..])
 }
 
 // How many bytes stand before the first blank.
 pub fn word_len(s: &[u8]) -> usize
-    ensures value { result ≡ leading in_word s.now }
+    ensures value { result ≡ prefix_len in_word s.now }
     ensures prefix_len { IsPrefixLen result s.now }
 {
-    let mut i = 0;
-    while i < s.len() {
-        if is_blank(s[i]) {
-            return i;
-        }
-        i += 1;
-    }
-    i
+    s.iter().take_while(|c| !is_blank(**c)).count()
 }
 
 // The first place of `c`, or the length.
 pub fn find(s: &[u8], c: u8) -> usize
-    ensures value { result ≡ leading (other c) s.now }
+    ensures value { result ≡ prefix_len (other c) s.now }
     ensures prefix_len { IsPrefixLen result s.now }
 {
-    let mut i = 0;
-    while i < s.len() {
-        if s[i] == c {
-            return i;
-        }
-        i += 1;
-    }
-    i
+    s.iter().take_while(|x| **x != c).count()
 }
 
 // Whether two texts are equal.
 pub fn same(a: &[u8], b: &[u8]) -> bool
     ensures { result ≡ same_text a.now b.now }
 {
-    if a.len() != b.len() {
-        return false;
-    }
-    let mut i = 0;
-    while i < a.len() {
-        if a[i] != b[i] {
-            return false;
-        }
-        i += 1;
-    }
-    true
+    a == b
 }
 
 // The number that a hex digit of either case stands for, 16 where it is none.

@@ -9,7 +9,8 @@ use lib.Dec.{eqb}
 use lib.ListN.{length, take, drop, get_or, length-drop, drop_of_length-le}
 use lib.Seq.{drop-drop}
 use Rattle.wire.proofs.laws.Wire.{tail_part}
-use Rattle.text.specs.Text.{Sheet, put_on, put_all, leading, other}
+use Rattle.std.specs.List.{prefix_len}
+use Rattle.text.specs.Text.{Sheet, put_on, put_all, other}
 use Rattle.text.proofs.laws.Pieces.{piece}
 use Rattle.words.specs.Words.{begun_by, words_in}
 
@@ -20,19 +21,19 @@ later zero w ws h = absurd (h refl)
 later (suc n) w ws h = let one_less : suc n - 1 ≡ n = omega arith in ap (λ (m : ℕ). get_or ws m []) one_less
 
 abbrev bar_at : List ℕ → ℕ
-bar_at s = leading (other 124) s
+bar_at s = prefix_len (other 124) s
 
 -- t says whether x is the bar
 by_bar : (t : Bool) (x : ℕ) (xs : List ℕ) → (0 < length xs → words_in xs ≡ take (bar_at xs) xs ∷ words_in (drop (suc (bar_at xs)) xs))
     → cond t ([] ∷ words_in xs) (begun_by x (words_in xs))
     ≡ take (cond (not t) (suc (bar_at xs)) 0) (x ∷ xs) ∷ words_in (drop (suc (cond (not t) (suc (bar_at xs)) 0)) (x ∷ xs))
-unfolding words_in begun_by leading
+unfolding words_in begun_by
 by_bar true x xs h = refl
 by_bar false x [] h = refl
 by_bar false x (y ∷ ys) h = ap (begun_by x) (h (omega arith))
 
 first_word : (s : List ℕ) → 0 < length s → words_in s ≡ take (bar_at s) s ∷ words_in (drop (suc (bar_at s)) s)
-unfolding words_in leading other
+unfolding words_in
 first_word [] h = absurd (omega arith)
 first_word (x ∷ xs) h = by_bar (eqb x 124) x xs (first_word xs)
 

@@ -9,18 +9,18 @@ use lib.ListN.{length, take, drop, get_or}
 use Rattle.entries.specs.Entries.{Entry, body_len, Scan, between, scan, entries_of}
 use Rattle.entries.proofs.laws.Places.{first_place, scan_end, whole_fits, entry_at, next_place}
 use Rattle.entries.specs.Places.{Place}
-use Rattle.text.specs.Text.{sheet, put_all}
+use Rattle.text.specs.Text.{Sheet, put_all}
 use Rattle.text.proofs.laws.Pieces.{pieces}
 use Rattle.listing.specs.Listing.{line, lines_of}
 
-pub record Lined (j : List ℕ) (at : ℕ) (d d' : List ℕ) (end i : ℕ) : Type 0 where
+pub record Lined (j : List ℕ) (p q : Sheet) (i : ℕ) : Type 0 where
   pub entries : List Entry
   pub place : Place j i entries
-  pub puts : sheet d' end ≡ put_all (sheet d at) (lines_of entries)
+  pub puts : q ≡ put_all p (lines_of entries)
 
-lines_none : (d : List ℕ) (at : ℕ) → sheet d at ≡ put_all (sheet d at) (lines_of [])
+lines_none : (p : Sheet) → p ≡ put_all p (lines_of [])
 unfolding lines_of put_all
-lines_none d at = refl
+lines_none p = refl
 
 lines_more : (e : Entry) (es : List Entry) → lines_of es ++ line e ≡ lines_of (e ∷ es)
 unfolding lines_of
@@ -34,31 +34,30 @@ entries_all s es e = sym (ap entries_of e)
 lent_body : (j : List ℕ) (i n : ℕ) → take (i + 1 + n - (i + 1)) (drop (i + 1) j) ≡ (entry_at j i n).body
 lent_body j i n = rw (add-sub_cancel_left, add-one)
 
-pub lined_none : (j : List ℕ) (at : ℕ) (d : List ℕ) → Lined j at d d at 0
-lined_none j at d = record { entries = []; place = first_place j; puts = lines_none d at }
+pub lined_none : (j : List ℕ) (p : Sheet) → Lined j p p 0
+lined_none j p = record { entries = []; place = first_place j; puts = lines_none p }
 
-module _ {j : List ℕ} {at : ℕ} {d d' : List ℕ} {end i : ℕ} (p : Lined j at d d' end i) where
-  pub lined_all : length j ≤ i → sheet d' end ≡ put_all (sheet d at) (lines_of (entries_of (scan j)))
-  lined_all h = p.puts ∙ ap (λ (es : List Entry). put_all (sheet d at) (lines_of es)) (entries_all (scan j) p.entries (scan_end p.place h))
+module _ {j : List ℕ} {p q : Sheet} {i : ℕ} (l : Lined j p q i) where
+  pub lined_all : length j ≤ i → q ≡ put_all p (lines_of (entries_of (scan j)))
+  lined_all h = l.puts ∙ ap (λ (es : List Entry). put_all p (lines_of es)) (entries_all (scan j) l.entries (scan_end l.place h))
 
   module _ {n : ℕ} (size : n ≡ body_len (get_or j i 0)) (more : i < length j) {all : List Entry} (whole : scan j ≡ between all) where
     pub lined_fits : (1 ≤ n) × (n < length j - i)
-    lined_fits = whole_fits p.place size more whole
+    lined_fits = whole_fits l.place size more whole
 
-    place_past : Place j (i + 1 + n) (entry_at j i n ∷ p.entries)
+    place_past : Place j (i + 1 + n) (entry_at j i n ∷ l.entries)
     place_past =
         let same : i + (n + 1) ≡ i + 1 + n = omega arith in
-        subst (λ (m : ℕ). Place j m (entry_at j i n ∷ p.entries)) same
-        (next_place p.place size more (λ z. omega (arith, lined_fits.0)) lined_fits.1)
+        subst (λ (m : ℕ). Place j m (entry_at j i n ∷ l.entries)) same
+        (next_place l.place size more (λ z. omega (arith, lined_fits.0)) lined_fits.1)
 
-    pub lined_next : {d'' : List ℕ} {end' : ℕ}
-        → sheet d'' end' ≡ put_all (sheet d' end) (line (record { kind = get_or j i 0; body = take (i + 1 + n - (i + 1)) (drop (i + 1) j) }))
-        → Lined j at d d'' end' (i + 1 + n)
-    lined_next q = record {
-      entries = entry_at j i n ∷ p.entries;
+    pub lined_next : {r : Sheet} → r ≡ put_all q (line (record { kind = get_or j i 0; body = take (i + 1 + n - (i + 1)) (drop (i + 1) j) }))
+        → Lined j p r (i + 1 + n)
+    lined_next e = record {
+      entries = entry_at j i n ∷ l.entries;
       place = place_past;
       puts =
-          pieces (sheet d at) (lines_of p.entries) (line (entry_at j i n)) p.puts
-          (q ∙ ap (λ (b : List ℕ). put_all (sheet d' end) (line (record { kind = get_or j i 0; body = b }))) (lent_body j i n))
-          ∙ ap (put_all (sheet d at)) (lines_more (entry_at j i n) p.entries);
+          pieces p (lines_of l.entries) (line (entry_at j i n)) l.puts
+          (e ∙ ap (λ (b : List ℕ). put_all q (line (record { kind = get_or j i 0; body = b }))) (lent_body j i n))
+          ∙ ap (put_all p) (lines_more (entry_at j i n) l.entries);
     }

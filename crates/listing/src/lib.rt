@@ -1,65 +1,78 @@
-// The listing of raw journal bytes, put into a lent buffer piece by piece. Each `put` writes from `at` on and gives the place past it.
-#![tactic(auto)]
+// The listing of raw journal bytes, put on a page piece by piece.
+#![tactic(auto, unfolding(text::specs::Text::put_all, crate::specs::Listing::damaged_at, crate::specs::Listing::whole, crate::specs::Listing::line), using(text::proofs::laws::Pieces::put_all_append))]
 
 ghost use Rattle.std.specs.Prelude.{◌≡◌};
 ghost use Rattle.io.specs.Counts.{IsPrefixLen};
 ghost use Rattle.entries.specs.Entries.{between, scan, entries_of};
-ghost use Rattle.text.specs.Text.{sheet, put_all};
-ghost use Rattle.listing.specs.Listing.{line, lines_of, whole, damaged_at, listed, listed_length};
+ghost use Rattle.text.specs.Pages.{Puts};
+ghost use Rattle.listing.specs.Listing.{line, lines_of, whole, damaged_at, pieces_of, listed, listed_length};
 
 use entries::Reading;
+use text::Page;
 
 // The longest listing is 6,157 bytes: 13 of `journal N`, and at most 3 for each of 2,048 bytes.
 pub const LONGEST: usize = 6157;
 
 // An entry: kind, one space, body, line feed.
-fn put_line(out: &mut [u8], at: usize, kind: u8, body: &[u8]) -> usize
-    ensures { sheet out.new result ≡ put_all (sheet out.old at) (line (record { kind = kind; body = body.now })) }
+fn put_line(page: &mut Page, kind: u8, body: &[u8])
+    ensures { Puts page.old page.new (line (record { kind = kind; body = body.now })) }
 {
-    let spaced = text::put_hex(out, at, kind);
-    let start = text::put(out, spaced, b" ");
-    let end = text::put_hexes(out, start, body);
-    text::put(out, end, b"\n")
+    page.put_hex(kind);
+    page.put(b" ");
+    page.put_hexes(body);
+    page.put(b"\n");
 }
 
 // The lines of bytes that read as whole entries.
-fn put_lines(out: &mut [u8], at: usize, j: &[u8]) -> usize
+fn put_lines(page: &mut Page, j: &[u8])
     requires { scan j.now ≡ between (entries_of (scan j.now)) }
-    ensures { sheet out.new result ≡ put_all (sheet out.old at) (lines_of (entries_of (scan j.now))) }
+    ensures { Puts page.old page.new (lines_of (entries_of (scan j.now))) }
 {
-    let mut end = at;
     let mut i = 0;
     while i < j.len() {
         let kind = j[i];
         let start = i + 1;
         let next = start + entries::body_len(kind);
-        end = put_line(out, end, kind, &j[start..next]);
+        put_line(page, kind, &j[start..next]);
         i = next;
     }
-    end
 }
 
 // `journal N` and the entries' lines.
-fn put_whole(out: &mut [u8], j: &[u8], count: usize) -> usize
+fn put_whole(page: &mut Page, j: &[u8], count: usize)
     requires { scan j.now ≡ between (entries_of (scan j.now)) }
-    ensures { sheet out.new result ≡ put_all (sheet out.old 0) (whole count (entries_of (scan j.now))) }
+    ensures { Puts page.old page.new (whole count (entries_of (scan j.now))) }
 {
-    let at = text::put(out, 0, b"journal ");
-    let end = text::put_decimal(out, at, count as u64);
-    let start = text::put(out, end, b"\n");
-    put_lines(out, start, j)
+    page.put(b"journal ");
+    page.put_decimal(count as u64);
+    page.put(b"\n");
+    put_lines(page, j);
 }
 
 // Only `damaged at N`.
-fn put_damaged(out: &mut [u8], place: usize) -> usize
-    ensures { sheet out.new result ≡ put_all (sheet out.old 0) (damaged_at place) }
+fn put_damaged(page: &mut Page, place: usize)
+    ensures { Puts page.old page.new (damaged_at place) }
 {
-    let at = text::put(out, 0, b"damaged at ");
-    let end = text::put_decimal(out, at, place as u64);
-    text::put(out, end, b"\n")
+    page.put(b"damaged at ");
+    page.put_decimal(place as u64);
+    page.put(b"\n");
 }
 
-// The listing of `j` at the front of `out`, and its length. A buffer too short for the longest listing is kept: 0.
+fn put_listing(page: &mut Page, j: &[u8])
+    ensures { Puts page.old page.new (pieces_of j.now) }
+{
+    if 2048 < j.len() {
+        page.put(b"too long\n");
+        return;
+    }
+    match entries::read(j) {
+        Reading::Whole { count, .. } => put_whole(page, j, count),
+        Reading::Unknown(place) | Reading::Cut(place) => put_damaged(page, place),
+    }
+}
+
+// The listing of `j` at the front of `out`, and its length. A buffer too short for the longest
+// listing is kept: 0.
 pub fn list(j: &[u8], out: &mut [u8]) -> usize
     ensures value { result ≡ listed_length j.now out.old }
     ensures out_after { out.new ≡ listed j.now out.old }
@@ -68,13 +81,7 @@ pub fn list(j: &[u8], out: &mut [u8]) -> usize
     if out.len() < LONGEST {
         return 0;
     }
-    if 2048 < j.len() {
-        return text::put(out, 0, b"too long\n");
-    }
-    let reading = entries::read(j);
-    match reading {
-        Reading::Whole { count, newest: _ } => put_whole(out, j, count),
-        Reading::Unknown(place) => put_damaged(out, place),
-        Reading::Cut(place) => put_damaged(out, place),
-    }
+    let mut page = Page::new(out);
+    put_listing(&mut page, j);
+    page.past
 }

@@ -10,8 +10,8 @@ use lib.ListN.{length, take, drop, get_or, length-drop, drop_of_length-le}
 use lib.Seq.{drop-drop}
 use Rattle.wire.proofs.laws.Wire.{tail_part}
 use Rattle.std.specs.List.{prefix_len}
-use Rattle.text.specs.Text.{Sheet, put_on, put_all, other}
-use Rattle.text.proofs.laws.Pieces.{piece}
+use Rattle.text.specs.Text.{Sheet, put_all, other}
+use Rattle.text.proofs.laws.Pieces.{pieces}
 use Rattle.words.specs.Words.{begun_by, words_in}
 
 -- ---- the first word, and those after its bar
@@ -32,10 +32,13 @@ by_bar true x xs h = refl
 by_bar false x [] h = refl
 by_bar false x (y ∷ ys) h = ap (begun_by x) (h (omega arith))
 
+one_more : (n : ℕ) → 1 + n ≡ suc n
+one_more n = omega arith
+
 first_word : (s : List ℕ) → 0 < length s → words_in s ≡ take (bar_at s) s ∷ words_in (drop (suc (bar_at s)) s)
 unfolding words_in
 first_word [] h = absurd (omega arith)
-first_word (x ∷ xs) h = by_bar (eqb x 124) x xs (first_word xs)
+first_word (x ∷ xs) h = rw (one_more (bar_at xs)) (by_bar (eqb x 124) x xs (first_word xs))
 
 -- the bytes from a place on, as the code lends them
 abbrev from : List ℕ → ℕ → List ℕ
@@ -51,8 +54,8 @@ module _ (s : List ℕ) (i : ℕ) {len : ℕ} (more : i < length s) (bar : len �
       ∙ ap (λ (n : ℕ). take n (drop i s) ∷ words_in (drop (suc n) (drop i s))) (sym at)
       ∙ ap₂ (λ (l m : List ℕ). take len l ∷ words_in m) (sym rest) past
 
-  pub words_more : (p : Sheet) {q : Sheet} → q ≡ put_on p (take len (from s i)) → put_all q (words_in (drop (i + (len + 1)) s)) ≡ put_all p (words_in (drop i s))
-  words_more p e = piece p _ _ e refl ∙ ap (put_all p) (sym one_word)
+  pub words_more : (p : Sheet) {q : Sheet} → q ≡ put_all p (take len (from s i) ∷ []) → put_all q (words_in (drop (i + (len + 1)) s)) ≡ put_all p (words_in (drop i s))
+  words_more p e = pieces p (take len (from s i) ∷ []) _ e refl ∙ ap (put_all p) (sym one_word)
 
   pub word_here : {left : ℕ} {w : List ℕ} → left ≡ 0 → get_or (words_in (drop i s)) left [] ≡ w → take len (from s i) ≡ w
   word_here none e = sym (ap₂ (λ (ws : List (List ℕ)) (n : ℕ). get_or ws n []) one_word none) ∙ e

@@ -2,8 +2,10 @@
 #![tactic(auto)]
 
 ghost use Rattle.std.specs.Prelude.{◌≡◌};
-ghost use Rattle.text.specs.Text.{sheet, put_all};
+ghost use Rattle.text.specs.Pages.{Puts};
 ghost use Rattle.words.specs.Words.{words_in, word_at};
+
+use text::Page;
 
 // The n-th of them, from 0; none past the last.
 pub fn nth<'a>(words: &'a [u8], n: usize) -> &'a [u8]
@@ -24,16 +26,14 @@ pub fn nth<'a>(words: &'a [u8], n: usize) -> &'a [u8]
 }
 
 // All of them, one after the other.
-pub fn put_words(out: &mut [u8], at: usize, words: &[u8]) -> usize
-    ensures { sheet out.new result ≡ put_all (sheet out.old at) (words_in words.now) }
+pub fn put_words(page: &mut Page, words: &[u8])
+    ensures { Puts page.old page.new (words_in words.now) }
 {
-    let mut end = at;
-    let mut i = 0;
-    while i < words.len() {
-        let rest = &words[i..];
+    let mut at = 0;
+    while at < words.len() {
+        let rest = &words[at..];
         let len = text::find(rest, b'|');
-        end = text::put(out, end, &rest[..len]);
-        i += len + 1;
+        page.put(&rest[..len]);
+        at += len + 1;
     }
-    end
 }

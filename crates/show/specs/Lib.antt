@@ -1,2 +1,1 @@
 pub mod Show
-pub mod Words

@@ -1,8 +1,0 @@
-use Rattle.show.specs.Words.{word_number}
-use Rattle.show.specs.Show.{mask_text}
-use Rattle.text.proofs.laws.Pieces.{piece, pieces, last_piece}
-use Rattle.show.proofs.put_mask.Goals as goal
-
-pub returns : goal.returns
-unfolding mask_text word_number
-returns c = piece _ _ _ c.put_word-name.ensures.result_after (pieces _ _ _ c.put_cores-end.ensures (last_piece _ _ c.put_word.ensures.result_after))

@@ -10,6 +10,7 @@ use lib.ListN.{length, take, drop}
 use lib.Seq.{take_all}
 use borrow.Author.Tests.{ltb-false}
 use Rattle.wire.specs.Wire.{pasted, be_nat}
+use Rattle.wire.proofs.laws.Wire.{take_pasted}
 use Rattle.wire.proofs.laws.Cases.{if_lt, else_lt, if_eq, else_eq, if_ne, else_ne}
 use Rattle.text.specs.Text.{Sheet, sheet, ascii, put_on, put_all, from_front, line_end, hexes, decimal, numbers}
 use Rattle.text.proofs.laws.Pieces.{same_pieces, put_fits}
@@ -134,21 +135,25 @@ module _ (reason at : ℕ) where
 
 -- ---- the listing
 
-listed_by : (j d : List ℕ) (t : Bool) → ltb (length d) longest ≡ t
-    → sheet (cond t d (pasted 0 (listing j) d)) (cond t 0 (length (listing j))) ≡ from_front d (cond t [] (listing j ∷ []))
-unfolding put_all
-listed_by j d true e = refl
-listed_by j d false e =
-    let room : longest ≤ length d = ltb-false (length d) longest e in
-    ap (sheet (pasted 0 (listing j) d)) (sym (zero-add (length (listing j))))
-    ∙ put_fits 0 (listing j) d (omega arith) (omega (arith, length_listing j)) refl
+module _ (j : List ℕ) (used room : ℕ) where
+  pub list_long : length j < used → too_long ∷ [] ≡ list_text room j used
+  unfolding list_text
+  list_long h = if_lt _ _ h refl
 
-module _ (j : List ℕ) (used : ℕ) (d : List ℕ) where
-  pub list_long : {s : Sheet} → length j < used → s ≡ put_on (sheet d 0) too_long → s ≡ from_front d (list_text (length d) j used)
-  unfolding list_text put_all
-  list_long h = same_pieces (sheet d 0) (if_lt (too_long ∷ []) _ h refl)
+  module _ (fits : used ≤ length j) where
+    pub list_short : room < longest → [] ≡ list_text room j used
+    unfolding list_text
+    list_short h = else_lt _ _ fits (if_lt _ _ h refl)
 
-  pub list_used : {d' : List ℕ} {n : ℕ} → used ≤ length j → n ≡ listed_length (take used j) d → d' ≡ listed (take used j) d
-      → sheet d' n ≡ from_front d (list_text (length d) j used)
-  unfolding list_text listed listed_length
-  list_used h p q = ap₂ sheet q p ∙ listed_by (take used j) d (ltb (length d) longest) refl ∙ ap (put_all (sheet d 0)) (else_lt _ _ h refl)
+    -- d is a buffer of its own for the longest listing
+    pub list_used : (d : List ℕ) {d' : List ℕ} {n : ℕ} → longest ≤ room → length d ≡ longest → n ≡ listed_length (take used j) d
+        → d' ≡ listed (take used j) d → take n d' ∷ [] ≡ list_text room j used
+    unfolding list_text listed listed_length
+    list_used d {d'} {n} h long p q =
+        let text = listing (take used j) in
+        let put : longest ≤ length d = omega (arith, long) in
+        let count : n ≡ length text = p ∙ sym (else_lt _ _ put refl) in
+        let bytes : d' ≡ pasted 0 text d = q ∙ sym (else_lt _ _ put refl) in
+        let fitting : 0 + length text ≤ length d = omega (arith, length_listing (take used j)) in
+        let same : take n d' ≡ text = rw (count, bytes, ← zero-add (length text)) (take_pasted 0 text d fitting) in
+        else_lt _ _ fits (else_lt _ _ h (ap (λ (l : List ℕ). l ∷ []) same))

@@ -1,93 +1,62 @@
-// The text of each answer, put at the front of a lent buffer with its line feed; its length is given back. Nothing is written here.
-#![tactic(auto)]
+// The text of each answer, put on a page with its line feed. Nothing is written here.
+#![tactic(auto, unfolding(text::specs::Text::put_all, crate::specs::Answers::line_text, crate::specs::Answers::column_text, crate::specs::Answers::image_complaint, crate::specs::Answers::packets_complaint, crate::specs::Answers::complaint_text, crate::specs::Answers::call_text, crate::specs::Answers::reply_text, crate::specs::Answers::bell_text, crate::specs::Answers::data_text, crate::specs::Answers::rung_text, crate::specs::Answers::timed_text, crate::specs::Answers::kind_text, crate::specs::Answers::passed_text, crate::specs::Answers::plan_text, crate::specs::Answers::planned_text, crate::specs::Answers::saved_text, crate::specs::Answers::why_text, crate::specs::Answers::image_text, crate::specs::Answers::journal_text), using(text::proofs::laws::Pieces::put_all_append))]
 
-ghost use Rattle.std.specs.Prelude.{◌≡◌, ◌≤◌, length};
+ghost use Rattle.std.specs.Prelude.{◌≡◌, ◌∷◌, [], ◌≤◌, length};
 ghost use Rattle.io.specs.Counts.{IsPrefixLen};
-ghost use Rattle.text.specs.Text.{sheet, ascii, put_on, put_all, from_front, line_end};
+ghost use Rattle.text.specs.Text.{ascii};
+ghost use Rattle.text.specs.Pages.{Puts};
 ghost use Rattle.places.specs.Reasons.{words_for};
-ghost use Rattle.answers.specs.Words.{place_of};
 ghost use Rattle.answers.specs.Answers.{line_text, column_text, image_complaint, complaint_text, reply_length, reply_text, bell_text, data_text, bytes_read, read_text, rung_text, timed_text, kind_text, passed_text, plan_text, planned_text, saved_text, why_text, image_text, list_text, journal_text, help_text};
 
 use orders::Wrong;
+use text::Page;
 
-fn put_end(out: &mut [u8], at: usize) -> usize
-    ensures prefix_len { IsPrefixLen result out.new }
-    ensures result_after { sheet out.new result ≡ put_on (sheet out.old at) line_end }
+pub fn line(page: &mut Page, s: &[u8])
+    ensures { Puts page.old page.new (line_text s.now) }
 {
-    text::put(out, at, b"\n")
-}
-
-pub fn line(out: &mut [u8], s: &[u8]) -> usize
-    ensures prefix_len { IsPrefixLen result out.new }
-    ensures result_after { sheet out.new result ≡ from_front out.old (line_text s.now) }
-{
-    let end = text::put(out, 0, s);
-    put_end(out, end)
+    page.put(s);
+    page.put(b"\n");
 }
 
 // ---- what is wrong in a line
 
-fn at_column(out: &mut [u8], what: &[u8], column: usize) -> usize
-    ensures prefix_len { IsPrefixLen result out.new }
-    ensures result_after { sheet out.new result ≡ from_front out.old (column_text what.now column) }
+fn at_column(page: &mut Page, what: &[u8], column: usize)
+    ensures { Puts page.old page.new (column_text what.now column) }
 {
-    let mark = text::put(out, 0, b"? ");
-    let words = text::put(out, mark, what);
-    let place = text::put(out, words, b" at column ");
-    let end = text::put_decimal(out, place, column as u64);
-    put_end(out, end)
+    page.put(b"? ");
+    page.put(what);
+    page.put(b" at column ");
+    page.put_decimal(column as u64);
+    page.put(b"\n");
 }
 
-fn not_an_image(out: &mut [u8]) -> usize
-    ensures prefix_len { IsPrefixLen result out.new }
-    ensures result_after { sheet out.new result ≡ from_front out.old image_complaint }
+fn not_an_image(page: &mut Page)
+    ensures { Puts page.old page.new image_complaint }
 {
-    let mark = text::put(out, 0, b"? image must be ");
-    let number = text::put_decimal(out, mark, layout::IMAGE as u64);
-    text::put(out, number, b" bytes\n")
+    page.put(b"? image must be ");
+    page.put_decimal(layout::IMAGE as u64);
+    page.put(b" bytes\n");
 }
 
-// Where its words stand among those for what is wrong at a column, which an image isn't, nor too many packets.
-fn place_of(what: Wrong) -> usize
-    ensures { result ≡ place_of what }
+pub fn complaint(page: &mut Page, what: Wrong, column: usize)
+    ensures { Puts page.old page.new (complaint_text what column) }
 {
     match what {
-        Wrong::LongLine => 0,
-        Wrong::NoWord => 1,
-        Wrong::MoreText => 2,
-        Wrong::NoDigit => 3,
-        Wrong::TooMany => 4,
-        Wrong::NoNumber => 5,
-        Wrong::LongBuffer => 6,
-        Wrong::GreatNumber => 7,
-        Wrong::GreatTime => 8,
-        Wrong::LongSeeprom => 9,
-        Wrong::GreatState => 10,
-        Wrong::LongPacket => 11,
-        Wrong::ManyPackets => 12,
-        Wrong::NoImage => 13,
+        Wrong::LongLine => at_column(page, b"line over 32768 bytes", column),
+        Wrong::NoWord => at_column(page, b"unknown word", column),
+        Wrong::MoreText => at_column(page, b"nothing more expected", column),
+        Wrong::NoDigit => at_column(page, b"hex digit expected", column),
+        Wrong::TooMany => at_column(page, b"command over 8192 bytes", column),
+        Wrong::NoImage => not_an_image(page),
+        Wrong::NoNumber => at_column(page, b"number expected", column),
+        Wrong::LongBuffer => at_column(page, b"number over 8192", column),
+        Wrong::GreatNumber => at_column(page, b"number over 4294967295", column),
+        Wrong::GreatTime => at_column(page, b"number over 18446744073709551615", column),
+        Wrong::LongSeeprom => at_column(page, b"seeprom over 8192 bytes", column),
+        Wrong::GreatState => at_column(page, b"number over 255", column),
+        Wrong::LongPacket => at_column(page, b"packet over 4096 bytes", column),
+        Wrong::ManyPackets => line(page, b"? six packets at most"),
     }
-}
-
-pub fn complaint(out: &mut [u8], what: Wrong, column: usize) -> usize
-    ensures prefix_len { IsPrefixLen result out.new }
-    ensures result_after { sheet out.new result ≡ from_front out.old (complaint_text what column) }
-{
-    let place = place_of(what);
-    if place == 12 {
-        return line(out, b"? six packets at most");
-    }
-    if place == 13 {
-        return not_an_image(out);
-    }
-    let words = words::nth(
-        b"line over 32768 bytes|unknown word|nothing more expected|hex digit expected|\
-          command over 8192 bytes|number expected|number over 8192|number over 4294967295|\
-          number over 18446744073709551615|seeprom over 8192 bytes|number over 255|\
-          packet over 4096 bytes|",
-        place,
-    );
-    at_column(out, words, column)
 }
 
 // ---- calls
@@ -108,38 +77,35 @@ fn reply_len(reply: &[u8]) -> usize
 }
 
 // The session answer, and after 0 the reply.
-pub fn reply(out: &mut [u8], answer: u8, bytes: &[u8]) -> usize
-    ensures prefix_len { IsPrefixLen result out.new }
-    ensures result_after { sheet out.new result ≡ from_front out.old (reply_text answer bytes.now) }
+pub fn reply(page: &mut Page, answer: u8, bytes: &[u8])
+    ensures { Puts page.old page.new (reply_text answer bytes.now) }
 {
-    let at = text::put_decimal(out, 0, answer as u64);
-    if answer != 0 {
-        return put_end(out, at);
+    page.put_decimal(u64::from(answer));
+    if answer == 0 {
+        page.put_bytes(&bytes[..reply_len(bytes)]);
     }
-    let n = reply_len(bytes);
-    let end = text::put_bytes(out, at, &bytes[..n]);
-    put_end(out, end)
+    page.put(b"\n");
 }
 
-fn put_bell(out: &mut [u8], at: usize, bell: u16) -> usize
-    ensures { sheet out.new result ≡ put_all (sheet out.old at) (bell_text bell) }
+fn put_bell(page: &mut Page, bell: u16)
+    ensures { Puts page.old page.new (bell_text bell) }
 {
-    let name = text::put(out, at, b" bell ");
     let mut digits = [0u8; 2];
     wire::put_be(&mut digits, 0, 2, bell as u64);
-    text::put_hexes(out, name, &digits)
+    page.put(b" bell ");
+    page.put_hexes(&digits);
 }
 
 // What was read of the SEEPROM, perhaps nothing.
-fn put_data(out: &mut [u8], at: usize, bytes: &[u8]) -> usize
-    ensures { sheet out.new result ≡ put_all (sheet out.old at) (data_text bytes.now) }
+fn put_data(page: &mut Page, bytes: &[u8])
+    ensures { Puts page.old page.new (data_text bytes.now) }
 {
-    let name = text::put(out, at, b" data");
+    page.put(b" data");
     if bytes.len() == 0 {
-        return name;
+        return;
     }
-    let blank = text::put(out, name, b" ");
-    text::put_hexes(out, blank, bytes)
+    page.put(b" ");
+    page.put_hexes(bytes);
 }
 
 // Of the second buffer, as many bytes as the request asks for.
@@ -154,188 +120,182 @@ fn bytes_read<'a>(request: &[u8], buffer: &'a [u8]) -> &'a [u8]
     &buffer[..n]
 }
 
-// Nothing but after a read of the SEEPROM with success: the request's class and command and the response's statuses tell.
-fn put_read(out: &mut [u8], at: usize, request: &[u8], response: &[u8], buffer: &[u8]) -> usize
-    ensures { sheet out.new result ≡ put_all (sheet out.old at) (read_text request.now response.now buffer.now) }
+// Nothing but after a read of the SEEPROM with success: the request's class and command and the
+// response's statuses tell.
+fn put_read(page: &mut Page, request: &[u8], response: &[u8], buffer: &[u8])
+    ensures { Puts page.old page.new (read_text request.now response.now buffer.now) }
 {
     if request.len() < 32 {
-        return at;
+        return;
     }
     if response.len() < 32 {
-        return at;
+        return;
     }
     if wire::be16(request, 6) != 0xD703 {
-        return at;
+        return;
     }
     if wire::be32(response, 0) != 0 {
-        return at;
+        return;
     }
-    put_data(out, at, bytes_read(request, buffer))
+    put_data(page, bytes_read(request, buffer));
 }
 
-// The session answer, and after 0 the response, the doorbell's four digits and what was read into the second buffer.
+// The session answer, and after 0 the response, the doorbell's four digits and what was read into
+// the second buffer.
 pub fn rung(
-    out: &mut [u8],
+    page: &mut Page,
     answer: u8,
     request: &[u8],
     response: &[u8],
     bell: u16,
     buffer: &[u8],
-) -> usize
-    ensures prefix_len { IsPrefixLen result out.new }
-    ensures result_after { sheet out.new result ≡ from_front out.old (rung_text answer request.now response.now bell buffer.now) }
+)
+    ensures { Puts page.old page.new (rung_text answer request.now response.now bell buffer.now) }
 {
-    let at = text::put_decimal(out, 0, answer as u64);
-    if answer != 0 {
-        return put_end(out, at);
+    page.put_decimal(u64::from(answer));
+    if answer == 0 {
+        page.put_bytes(response);
+        put_bell(page, bell);
+        put_read(page, request, response, buffer);
     }
-    let bytes = text::put_bytes(out, at, response);
-    let name = put_bell(out, bytes, bell);
-    let end = put_read(out, name, request, response, buffer);
-    put_end(out, end)
+    page.put(b"\n");
 }
 
 // The session answer of a time report, and after 0 the doorbell.
-pub fn timed(out: &mut [u8], answer: u8, bell: u16) -> usize
-    ensures prefix_len { IsPrefixLen result out.new }
-    ensures result_after { sheet out.new result ≡ from_front out.old (timed_text answer bell) }
+pub fn timed(page: &mut Page, answer: u8, bell: u16)
+    ensures { Puts page.old page.new (timed_text answer bell) }
 {
-    let at = text::put_decimal(out, 0, answer as u64);
-    if answer != 0 {
-        return put_end(out, at);
+    page.put_decimal(u64::from(answer));
+    if answer == 0 {
+        put_bell(page, bell);
     }
-    let end = put_bell(out, at, bell);
-    put_end(out, end)
+    page.put(b"\n");
 }
 
 // The session answer of a redo, and after 0 the kind.
-pub fn with_kind(out: &mut [u8], answer: u8, kind: u8) -> usize
-    ensures prefix_len { IsPrefixLen result out.new }
-    ensures result_after { sheet out.new result ≡ from_front out.old (kind_text answer kind) }
+pub fn with_kind(page: &mut Page, answer: u8, kind: u8)
+    ensures { Puts page.old page.new (kind_text answer kind) }
 {
-    let at = text::put_decimal(out, 0, answer as u64);
-    if answer != 0 {
-        return put_end(out, at);
+    page.put_decimal(u64::from(answer));
+    if answer == 0 {
+        page.put(b" ");
+        page.put_hex(kind);
     }
-    let blank = text::put(out, at, b" ");
-    let end = text::put_hex(out, blank, kind);
-    put_end(out, end)
+    page.put(b"\n");
 }
 
 // The session answer of an undo, and after 0 the kind and how many entries were passed.
-pub fn with_passed(out: &mut [u8], answer: u8, kind: u8, passed: u8) -> usize
-    ensures prefix_len { IsPrefixLen result out.new }
-    ensures result_after { sheet out.new result ≡ from_front out.old (passed_text answer kind passed) }
+pub fn with_passed(page: &mut Page, answer: u8, kind: u8, passed: u8)
+    ensures { Puts page.old page.new (passed_text answer kind passed) }
 {
-    let at = text::put_decimal(out, 0, answer as u64);
-    if answer != 0 {
-        return put_end(out, at);
+    page.put_decimal(u64::from(answer));
+    if answer == 0 {
+        page.put(b" ");
+        page.put_hex(kind);
+        page.put_number(u64::from(passed));
     }
-    let blank = text::put(out, at, b" ");
-    let name = text::put_hex(out, blank, kind);
-    let number = text::put(out, name, b" ");
-    let end = text::put_decimal(out, number, passed as u64);
-    put_end(out, end)
+    page.put(b"\n");
 }
 
 // The plan that was found, or that there is none.
-fn put_plan(out: &mut [u8], at: usize, found: u8, order: &[u8]) -> usize
-    ensures { sheet out.new result ≡ put_all (sheet out.old at) (plan_text found order.now) }
+fn put_plan(page: &mut Page, found: u8, order: &[u8])
+    ensures { Puts page.old page.new (plan_text found order.now) }
 {
     if found == 0 {
-        return text::put(out, at, b" no plan");
+        page.put(b" no plan");
+        return;
     }
-    let name = text::put(out, at, b" plan");
-    text::put_numbers(out, name, order)
+    page.put(b" plan");
+    page.put_numbers(order);
 }
 
 // The session answer of a plan, and after 0 the plan.
-pub fn planned(out: &mut [u8], answer: u8, found: u8, order: &[u8]) -> usize
-    ensures prefix_len { IsPrefixLen result out.new }
-    ensures result_after { sheet out.new result ≡ from_front out.old (planned_text answer found order.now) }
+pub fn planned(page: &mut Page, answer: u8, found: u8, order: &[u8])
+    ensures { Puts page.old page.new (planned_text answer found order.now) }
 {
-    let at = text::put_decimal(out, 0, answer as u64);
-    if answer != 0 {
-        return put_end(out, at);
+    page.put_decimal(u64::from(answer));
+    if answer == 0 {
+        put_plan(page, found, order);
     }
-    let end = put_plan(out, at, found, order);
-    put_end(out, end)
+    page.put(b"\n");
 }
 
 // The session answer of a save that is refused, or the form.
-pub fn saved(out: &mut [u8], answer: u8, form: &[u8]) -> usize
-    ensures prefix_len { IsPrefixLen result out.new }
-    ensures result_after { sheet out.new result ≡ from_front out.old (saved_text answer form.now) }
+pub fn saved(page: &mut Page, answer: u8, form: &[u8])
+    ensures { Puts page.old page.new (saved_text answer form.now) }
 {
     if answer != 0 {
-        let at = text::put_decimal(out, 0, answer as u64);
-        return put_end(out, at);
+        page.put_decimal(u64::from(answer));
+        page.put(b"\n");
+        return;
     }
-    let name = text::put(out, 0, b"save ");
-    let end = text::put_hexes(out, name, form);
-    put_end(out, end)
+    page.put(b"save ");
+    page.put_hexes(form);
+    page.put(b"\n");
 }
 
 // ---- views
 
-fn put_reason(out: &mut [u8], at: usize, reason: u8) -> usize
-    ensures { sheet out.new result ≡ put_on (sheet out.old at) (ascii (words_for reason)) }
+fn put_reason(page: &mut Page, reason: u8)
+    ensures { Puts page.old page.new (ascii (words_for reason) ∷ []) }
 {
-    let words = words::nth(
+    page.put(words::nth(
         b"|bad version|bad count|out of range|repeated|clash|not pending|",
         reason as usize,
-    );
-    text::put(out, at, words)
+    ));
 }
 
 // The data byte that the last OCC call had wrong and the reason by its number, of which 0 is none.
-pub fn why(out: &mut [u8], reason: u8, at: u16) -> usize
-    ensures prefix_len { IsPrefixLen result out.new }
-    ensures result_after { sheet out.new result ≡ from_front out.old (why_text reason at) }
+pub fn why(page: &mut Page, reason: u8, at: u16)
+    ensures { Puts page.old page.new (why_text reason at) }
 {
     if reason == 0 {
-        return line(out, b"0");
+        line(page, b"0");
+        return;
     }
-    let place = text::put_decimal(out, 0, at as u64);
-    let blank = text::put(out, place, b" ");
-    let end = put_reason(out, blank, reason);
-    put_end(out, end)
+    page.put_decimal(u64::from(at));
+    page.put(b" ");
+    put_reason(page, reason);
+    page.put(b"\n");
 }
 
-pub fn image(out: &mut [u8], bytes: &[u8]) -> usize
-    ensures prefix_len { IsPrefixLen result out.new }
-    ensures result_after { sheet out.new result ≡ from_front out.old (image_text bytes.now) }
+pub fn image(page: &mut Page, bytes: &[u8])
+    ensures { Puts page.old page.new (image_text bytes.now) }
 {
-    let name = text::put(out, 0, b"image ");
-    let end = text::put_hexes(out, name, bytes);
-    put_end(out, end)
+    page.put(b"image ");
+    page.put_hexes(bytes);
+    page.put(b"\n");
 }
 
-fn list(out: &mut [u8], j: &[u8], used: usize) -> usize
-    ensures { sheet out.new result ≡ from_front out.old (list_text (length out.old) j.now used) }
+// The listing of the journal's first `used` bytes. A page too short for the longest gets none.
+fn put_list(page: &mut Page, j: &[u8], used: usize)
+    ensures { Puts page.old page.new (list_text (length page.old.out.now) j.now used) }
 {
     if j.len() < used {
-        return text::put(out, 0, b"too long\n");
+        page.put(b"too long\n");
+        return;
     }
-    listing::list(&j[..used], out)
+    if page.out.len() < listing::LONGEST {
+        return;
+    }
+    let mut text = [0; listing::LONGEST];
+    let n = listing::list(&j[..used], &mut text);
+    page.put(&text[..n]);
 }
 
-// The listing of the journal's first `used` bytes, and the line that ends it.
-pub fn journal(out: &mut [u8], j: &[u8], used: usize) -> usize
-    ensures prefix_len { IsPrefixLen result out.new }
-    ensures result_after { sheet out.new result ≡ from_front out.old (journal_text (length out.old) j.now used) }
+// That listing, and the line that ends it.
+pub fn journal(page: &mut Page, j: &[u8], used: usize)
+    ensures { Puts page.old page.new (journal_text (length page.old.out.now) j.now used) }
 {
-    let end = list(out, j, used);
-    text::put(out, end, b".\n")
+    put_list(page, j, used);
+    page.put(b".\n");
 }
 
-pub fn help(out: &mut [u8]) -> usize
-    ensures prefix_len { IsPrefixLen result out.new }
-    ensures result_after { sheet out.new result ≡ from_front out.old help_text }
+pub fn help(page: &mut Page)
+    ensures { Puts page.old page.new help_text }
 {
-    let a = words::put_words(
-        out,
-        0,
+    words::put_words(
+        page,
         b"occ SS BYTES      an OCC command from sender SS (10 HTMGT, 20 BMC)\n|\
           sbe BYTES         an SBE mailbox request of 32 bytes\n|\
           undo              take the newest change back\n|\
@@ -346,10 +306,9 @@ pub fn help(out: &mut [u8]) -> usize
           fresh             begin again with a fresh session\n|\
           image             the session as |",
     );
-    let b = text::put_decimal(out, a, layout::IMAGE as u64);
-    let c = words::put_words(
-        out,
-        b,
+    page.put_decimal(layout::IMAGE as u64);
+    words::put_words(
+        page,
         b" bytes\n|\
           load BYTES        go on with the session of such an image\n|\
           save              the session in the form for keeping\n|\
@@ -364,5 +323,5 @@ pub fn help(out: &mut [u8]) -> usize
           journal           the journal's entries\n|\
           help              these words\n|",
     );
-    text::put(out, c, b".\n")
+    page.put(b".\n");
 }

@@ -10,6 +10,7 @@ use orders::{Buffer, Call, Order, View, Word, Wrong};
 use std::io::Read;
 use std::rt::{Env, Files};
 use streams::Got;
+use text::Page;
 
 // The bytes of a SEEPROM's image that count.
 const MOST_SEEPROM: usize = 65536;
@@ -174,43 +175,24 @@ fn kind_of(beside: u16) -> u8 {
     (beside % 256) as u8
 }
 
-// A response has 32 bytes, and a longer buffer is kept past them; so is the buffer of a plan's order past those that it has.
-fn put_told(
-    call: Call,
-    told: Told,
-    request: &[u8],
-    reply: &[u8],
-    second: &[u8],
-    out: &mut [u8],
-) -> usize
-    ensures { IsPrefixLen result out.new }
-{
+// A response has 32 bytes, and a longer buffer is kept past them; so is the buffer of a plan's order
+// past those that it has.
+fn put_told(page: &mut Page, call: Call, told: Told, request: &[u8], reply: &[u8], second: &[u8]) {
+    let answer = told.answer;
     match form_of(call) {
-        Form::Reply => answers::reply(out, told.answer, reply),
+        Form::Reply => answers::reply(page, answer, reply),
         Form::Response => {
-            answers::rung(
-                out,
-                told.answer,
-                request,
-                front(reply, 32),
-                told.beside,
-                second,
-            )
+            answers::rung(page, answer, request, front(reply, 32), told.beside, second)
         }
-        Form::Kind => answers::with_kind(out, told.answer, kind_of(told.beside)),
-        Form::Answer => answers::reply(out, told.answer, &reply[..0]),
-        Form::Bell => answers::timed(out, told.answer, told.beside),
-        Form::Passed => { answers::with_passed(out, told.answer, kind_of(told.beside), told.small) }
+        Form::Kind => answers::with_kind(page, answer, kind_of(told.beside)),
+        Form::Answer => answers::reply(page, answer, &[]),
+        Form::Bell => answers::timed(page, answer, told.beside),
+        Form::Passed => answers::with_passed(page, answer, kind_of(told.beside), told.small),
         Form::Plan => {
-            answers::planned(
-                out,
-                told.answer,
-                told.small,
-                front(reply, told.beside as usize),
-            )
+            answers::planned(page, answer, told.small, front(reply, told.beside as usize))
         }
-        Form::Save => answers::saved(out, told.answer, reply),
-        Form::Ok => answers::line(out, b"ok"),
+        Form::Save => answers::saved(page, answer, reply),
+        Form::Ok => answers::line(page, b"ok"),
     }
 }
 
@@ -259,13 +241,6 @@ struct Bench {
     heard: bool,
 }
 
-// The bytes of an answer, and what the last OCC call told.
-#[derive(Clone, Copy)]
-struct Said {
-    length: usize,
-    last: Told,
-}
-
 // What the last OCC call told, after this one.
 fn next_last(call: Call, told: Told, last: Told) -> Told {
     let Form::Reply = form_of(call) else {
@@ -274,107 +249,87 @@ fn next_last(call: Call, told: Told, last: Told) -> Told {
     told
 }
 
-// Lends the call its part of a reply buffer, and a second buffer that takes a whole image.
+// Lends the call its part of a reply buffer, and a second buffer that takes a whole image. What the
+// last OCC call told comes back.
 fn call_with(
     lent: &mut [u8],
     call: Call,
     count: usize,
     b: Bench,
     sent: &mut [u8],
-    out: &mut [u8],
-) -> Said
+    page: &mut Page,
+) -> Told
     requires { (length lent.old ≡ image_length) × (count ≤ 16384) × (106502 ≤ length sent.old) }
-    ensures { IsPrefixLen result.length out.new }
 {
     let mut reply = reply_buffer();
-    let buffer = b.buffer;
-    let before = b.last;
-    let room = reply_len(buffer, call);
-    let part = &mut reply[..room];
+    let part = &mut reply[..reply_len(b.buffer, call)];
     let mut second = io::large_buffer();
     let told = carry_out(lent, call, count, b, sent, part, &mut second);
-    let n = put_told(call, told, &sent[..count], part, &second, out);
-    Said {
-        length: n,
-        last: next_last(call, told, before),
-    }
+    put_told(page, call, told, &sent[..count], part, &second);
+    next_last(call, told, b.last)
 }
 
 // ---- views
 
-fn put_show(lent: &[u8], out: &mut [u8]) -> usize
+fn put_show(page: &mut Page, lent: &[u8])
     requires { length lent.now ≡ image_length }
-    ensures { IsPrefixLen result out.new }
 {
     let h = image::read_head(lent);
-    let held = h.held;
-    let worked = h.worked;
-    let timer = h.timer;
     show::put_session(
-        out,
-        held,
-        worked,
+        page,
+        h.held,
+        h.worked,
         h.next,
         &lent[layout::JOURNAL..layout::AHEAD],
         h.used as usize,
         &lent[layout::REDO..layout::REDO_END],
         h.ahead as usize,
-        timer,
+        h.timer,
         h.profile,
-    )
+    );
 }
 
-fn put_journal(lent: &[u8], out: &mut [u8]) -> usize
+fn put_journal(page: &mut Page, lent: &[u8])
     requires { length lent.now ≡ image_length }
-    ensures { IsPrefixLen result out.new }
 {
     let used = wire::be16(lent, 237) as usize;
-    answers::journal(out, &lent[layout::JOURNAL..layout::AHEAD], used)
+    answers::journal(page, &lent[layout::JOURNAL..layout::AHEAD], used);
 }
 
-fn look(lent: &[u8], view: View, last: Told, out: &mut [u8]) -> usize
+fn look(page: &mut Page, lent: &[u8], view: View, last: Told)
     requires { length lent.now ≡ image_length }
-    ensures { IsPrefixLen result out.new }
 {
     match view {
-        View::Image => answers::image(out, lent),
-        View::Why => answers::why(out, last.small, last.beside),
-        View::Show => put_show(lent, out),
-        View::Journal => put_journal(lent, out),
-        View::Help => answers::help(out),
+        View::Image => answers::image(page, lent),
+        View::Why => answers::why(page, last.small, last.beside),
+        View::Show => put_show(page, lent),
+        View::Journal => put_journal(page, lent),
+        View::Help => answers::help(page),
     }
 }
 
 // ---- lines
 
 // The answer to a line that makes no call; a line that is skipped has none.
-fn put_other(lent: &[u8], order: Order, last: Told, out: &mut [u8]) -> usize
+fn put_other(page: &mut Page, lent: &[u8], order: Order, last: Told)
     requires { length lent.now ≡ image_length }
-    ensures { IsPrefixLen result out.new }
 {
-    let word = order.word;
-    match word {
-        Word::Look(view) => look(lent, view, last, out),
-        Word::Lend(_) | Word::Seeprom | Word::Packet => answers::line(out, b"ok"),
-        Word::Fail(what) => answers::complaint(out, what, order.column),
-        _ => 0,
+    match order.word {
+        Word::Look(view) => look(page, lent, view, last),
+        Word::Lend(_) | Word::Seeprom | Word::Packet => answers::line(page, b"ok"),
+        Word::Fail(what) => answers::complaint(page, what, order.column),
+        Word::Make(_) | Word::Skip => {}
     }
 }
 
-fn obey(lent: &mut [u8], order: Order, b: Bench, sent: &mut [u8], out: &mut [u8]) -> Said
+fn obey(lent: &mut [u8], order: Order, b: Bench, sent: &mut [u8], page: &mut Page) -> Told
     requires { (length lent.old ≡ image_length) × (order.count ≤ 16384) × (106502 ≤ length sent.old) }
-    ensures { IsPrefixLen result.length out.new }
 {
-    let word = order.word;
-    if let Word::Make(call) = word {
-        return call_with(lent, call, order.count, b, sent, out);
+    if let Word::Make(call) = order.word {
+        return call_with(lent, call, order.count, b, sent, page);
     }
-    let last = b.last;
-    let n = put_other(lent, order, last, out);
-    Said {
-        length: n,
-        last: last,
-    }
+    put_other(page, lent, order, b.last);
+    b.last
 }
 
 // The sequence of the last packet that `send` made goes up by one with each, and wraps.
@@ -402,33 +357,17 @@ fn next_seeprom(word: Word, count: usize, sent: &mut [u8], seeprom: usize) -> us
     let Word::Seeprom = word else {
         return seeprom;
     };
-    let mut i = 0;
-    while i < count {
-        sent[orders::ROOM + i] = sent[i];
-        i += 1;
-    }
+    sent.copy_within(..count, orders::ROOM);
     count
 }
 
-// A byte of a slot: a line's, then zeros.
-fn slot_byte(sent: &[u8], count: usize, i: usize) -> u8
-    requires { (count ≤ 16384) × (106502 ≤ length sent.now) }
-{
-    if i < count {
-        return sent[i];
-    }
-    0
-}
-
-// A line's bytes become the slot that begins at `at`.
+// A line's bytes become the slot that begins at `at`, zeros behind them.
 fn fill_slot(sent: &mut [u8], count: usize, at: usize)
     requires { (count ≤ 16384) × (106502 ≤ length sent.old) × (at ≤ 102406) }
 {
-    let mut i = 0;
-    while i < orders::MOST_PACKET {
-        sent[at + i] = slot_byte(sent, count, i);
-        i += 1;
-    }
+    let n = count.min(orders::MOST_PACKET);
+    sent.copy_within(..n, at);
+    sent[at + n..at + orders::MOST_PACKET].fill(0);
 }
 
 // The bytes that the prepared packets have from now on: the last slot ends with its packet. Without bytes all are dropped. That a slot is left isn't known
@@ -455,8 +394,7 @@ fn admitted(order: Order, prepared: usize) -> Order
     requires { order.count ≤ 16384 }
     ensures { result.count ≤ 16384 }
 {
-    let word = order.word;
-    let Word::Packet = word else {
+    let Word::Packet = order.word else {
         return order;
     };
     if order.count == 0 || prepared <= LAST_SLOT {
@@ -473,17 +411,12 @@ fn admitted(order: Order, prepared: usize) -> Order
 fn ready(b: Bench, order: Order, sent: &mut [u8]) -> Bench
     requires { (order.count ≤ 16384) × (106502 ≤ length sent.old) }
 {
-    let word = order.word;
-    let held = b.buffer;
-    let last = b.last;
-    let buffer = next_buffer(word, held);
     Bench {
-        sequence: next_sequence(word, b.sequence),
-        buffer: buffer,
-        seeprom: next_seeprom(word, order.count, sent, b.seeprom),
-        prepared: next_prepared(word, order.count, sent, b.prepared),
-        last: last,
-        heard: b.heard,
+        sequence: next_sequence(order.word, b.sequence),
+        buffer: next_buffer(order.word, b.buffer),
+        seeprom: next_seeprom(order.word, order.count, sent, b.seeprom),
+        prepared: next_prepared(order.word, order.count, sent, b.prepared),
+        ..b
     }
 }
 
@@ -498,20 +431,14 @@ fn answer(
 ) -> Bench
     requires { (length lent.old ≡ image_length) × (106502 ≤ length sent.old) }
 {
-    let asked = orders::read(line, sent);
-    let order = admitted(asked, b.prepared);
+    let order = admitted(orders::read(line, sent), b.prepared);
     let now = ready(b, order, sent);
-    let said = obey(lent, order, now, sent, out);
-    let n = said.length;
-    let last = said.last;
-    let buffer = now.buffer;
+    let mut page = Page::new(out);
+    let last = obey(lent, order, now, sent, &mut page);
     Bench {
-        sequence: now.sequence,
-        buffer: buffer,
-        seeprom: now.seeprom,
-        prepared: now.prepared,
-        last: last,
-        heard: streams::write(rt, &out[..n]),
+        last,
+        heard: streams::write(rt, page.text()),
+        ..now
     }
 }
 
@@ -555,26 +482,21 @@ fn serve_piece(
 {
     let mut bench = b;
     let mut held = before;
-    let mut at = 0;
-    while at < piece.len() {
-        let part = &piece[at..];
-        let n = text::find(part, b'\n');
-        held = gather(line, held, &part[..n]);
-        if part.len() <= n {
+    let mut rest = piece;
+    while !rest.is_empty() {
+        let (part, end) = rest.split_at(text::find(rest, b'\n'));
+        held = gather(line, held, part);
+        let Some((_, after)) = end.split_first() else {
             break;
-        }
-        at += n + 1;
-        let next = answer(rt, lent, bench, &line[..held], sent, out);
-        bench = next;
+        };
+        rest = after;
+        bench = answer(rt, lent, bench, &line[..held], sent, out);
         held = 0;
-        if !next.heard {
+        if !bench.heard {
             break;
         }
     }
-    Served {
-        bench: bench,
-        held: held,
-    }
+    Served { bench, held }
 }
 
 // A piece of the input, and whether nothing comes after it.
@@ -603,7 +525,7 @@ fn fetch<R: Read>(rt: &impl Eprint, input: &mut R, piece: &mut [u8]) -> Piece
     }
 }
 
-// A proved loop has to end: it counts down from a number that no run uses up.
+// A proved loop has to end: it counts up to a number that no run reaches.
 fn serve<R: Read>(
     rt: &(impl Print + Eprint),
     input: &mut R,
@@ -619,24 +541,21 @@ fn serve<R: Read>(
     let mut bench = Bench {
         sequence: 0,
         buffer: Buffer::Whole,
-        seeprom: seeprom,
+        seeprom,
         prepared: 0,
         last: inplace::answer_with(0, 0),
         heard: true,
     };
     let mut held = 0;
-    let mut left = u64::MAX;
-    while left > 0 {
-        left -= 1;
+    for _ in 0..u64::MAX {
         let got = fetch(rt, input, piece);
         let n = got.count;
         let served = serve_piece(rt, lent, bench, held, &piece[..n], line, sent, out);
-        let next = served.bench;
-        if got.last || !next.heard {
+        bench = served.bench;
+        held = served.held;
+        if got.last || !bench.heard {
             return;
         }
-        bench = next;
-        held = served.held;
     }
 }
 

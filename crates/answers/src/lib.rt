@@ -142,14 +142,7 @@ fn put_read(page: &mut Page, request: &[u8], response: &[u8], buffer: &[u8])
 
 // The session answer, and after 0 the response, the doorbell's four digits and what was read into
 // the second buffer.
-pub fn rung(
-    page: &mut Page,
-    answer: u8,
-    request: &[u8],
-    response: &[u8],
-    bell: u16,
-    buffer: &[u8],
-)
+pub fn rung(page: &mut Page, answer: u8, request: &[u8], response: &[u8], bell: u16, buffer: &[u8])
     ensures { Puts page.old page.new (rung_text answer request.now response.now bell buffer.now) }
 {
     page.put_decimal(u64::from(answer));

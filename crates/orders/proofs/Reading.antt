@@ -14,9 +14,11 @@ use Rattle.wire.specs.Wire.{pasted}
 use Rattle.wire.proofs.laws.Wire.{tail_part}
 use Rattle.wire.proofs.laws.Cases.{if_b, else_b, if_lt, else_lt, if_le, else_le, if_ne, else_ne}
 use Rattle.text.specs.declared.Fault.{Fault}
-use Rattle.text.specs.declared.Fault.TheVariants.{Nothing, Digit, Over}
+use Rattle.text.specs.declared.Fault.TheVariants.{Digit, Over}
 use Rattle.text.specs.declared.Number.{Number}
-use Rattle.text.specs.declared.Number.TheVariants.{Missing, TooGreat, Is}
+use Rattle.text.specs.declared.NumberError.{NumberError}
+use Rattle.text.specs.declared.NumberError.TheVariants.{Missing, TooGreat}
+use Rattle.std.specs.Prelude.{Option, Some, None, Result, Ok, Err}
 use Rattle.std.specs.List.{prefix_len}
 use Rattle.text.specs.Text.{in_word, past_blanks, HexRun, hex_run, Takes}
 use Rattle.text.specs.Text.{digit_at}
@@ -46,91 +48,91 @@ module _ (w : Word) (line : List ℕ) {place place' : ℕ} {r : Order} (e : plac
 
 -- ---- by the number
 
-module _ (over : Wrong) (w : ℕ → Word) (line : List ℕ) (column : ℕ) {x : Number} {r : Order} where
-  pub number_none : x ≡ Missing → r ≡ wrong_at NoNumber column → r ≡ numbered_by x over w line column
+module _ (over : Wrong) (w : ℕ → Word) (line : List ℕ) (column : ℕ) {x : Result Number NumberError} {r : Order} where
+  pub number_none : x ≡ Err Missing → r ≡ wrong_at NoNumber column → r ≡ numbered_by x over w line column
   unfolding numbered_by
-  number_none e h = h ∙ sym (ap (λ (y : Number). numbered_by y over w line column) e)
+  number_none e h = h ∙ sym (ap (λ (y : Result Number NumberError). numbered_by y over w line column) e)
 
-  pub number_over : x ≡ TooGreat → r ≡ wrong_at over column → r ≡ numbered_by x over w line column
+  pub number_over : x ≡ Err TooGreat → r ≡ wrong_at over column → r ≡ numbered_by x over w line column
   unfolding numbered_by
-  number_over e h = h ∙ sym (ap (λ (y : Number). numbered_by y over w line column) e)
+  number_over e h = h ∙ sym (ap (λ (y : Result Number NumberError). numbered_by y over w line column) e)
 
-  pub number_is : {n past : ℕ} → x ≡ Is n past → r ≡ alone_of (w n) line past → r ≡ numbered_by x over w line column
+  pub number_is : {n : Number} → x ≡ Ok n → r ≡ alone_of (w n.value) line n.past → r ≡ numbered_by x over w line column
   unfolding numbered_by
-  number_is e h = h ∙ sym (ap (λ (y : Number). numbered_by y over w line column) e)
+  number_is e h = h ∙ sym (ap (λ (y : Result Number NumberError). numbered_by y over w line column) e)
 
 -- a number that must be there was read, and what came of it is the order
-pub number_read : (most : ℕ) (over : Wrong) (w : ℕ → Word) (line : List ℕ) {place place' : ℕ} {x : Number} {r : Order} → place ≡ place'
+pub number_read : (most : ℕ) (over : Wrong) (w : ℕ → Word) (line : List ℕ) {place place' : ℕ} {x : Result Number NumberError} {r : Order} → place ≡ place'
     → x ≡ number_at line place most → r ≡ numbered_by x over w line (place + 1) → r ≡ numbered_at most over w line place'
 unfolding numbered_at
 number_read most over w line {place} e is h =
-    h ∙ ap (λ (y : Number). numbered_by y over w line (place + 1)) is ∙ ap (λ (n : ℕ). numbered_at most over w line n) e
+    h ∙ ap (λ (y : Result Number NumberError). numbered_by y over w line (place + 1)) is ∙ ap (λ (n : ℕ). numbered_at most over w line n) e
 
 module _ (line : List ℕ) {place place' : ℕ} {r : Order} (e : place ≡ place') where
   pub buffer_whole : length line ≤ place → r ≡ plainly (Lend Whole) → r ≡ buffer_at line place'
   unfolding buffer_at
   buffer_whole k h = if_le _ _ k h ∙ ap (λ (n : ℕ). buffer_at line n) e
 
-  pub buffer_size : {x : Number} → place < length line → x ≡ number_at line place 8192 → r ≡ size_by x line (place + 1) → r ≡ buffer_at line place'
+  pub buffer_size : {x : Result Number NumberError} → place < length line → x ≡ number_at line place 8192 → r ≡ size_by x line (place + 1) → r ≡ buffer_at line place'
   unfolding buffer_at
-  buffer_size k is h = else_le _ _ k (h ∙ ap (λ (y : Number). size_by y line (place + 1)) is) ∙ ap (λ (n : ℕ). buffer_at line n) e
+  buffer_size k is h = else_le _ _ k (h ∙ ap (λ (y : Result Number NumberError). size_by y line (place + 1)) is) ∙ ap (λ (n : ℕ). buffer_at line n) e
 
 -- a number that was read is at most what it may be
-fitting : (value past most : ℕ) {x : Number} {n past' : ℕ} → x ≡ number_by value past most → x ≡ Is n past' → n ≤ most
+fitting : (value past most : ℕ) {x : Result Number NumberError} {n : Number} → x ≡ number_by value past most → x ≡ Ok n → n.value ≤ most
 unfolding number_by
-fitting value past most {x} {n} {past'} e is = go (ltb most value) refl (sym is ∙ e)
+fitting value past most {x} {n} e is = go (ltb most value) refl (sym is ∙ e)
   where
-    go : (t : Bool) → ltb most value ≡ t → Is n past' ≡ cond t TooGreat (Is value past) → n ≤ most
+    go : (t : Bool) → ltb most value ≡ t → Ok n ≡ cond t (Err TooGreat) (Ok (record { value = value; past = past })) → n.value ≤ most
     go true h k = let z : ◌≡◌ {A = ℕ} 0 1 = cc in absurd (omega (arith, z))
-    go false h k = let same : n ≡ value = cc in omega (arith, same, ltb-false most value h)
+    go false h k = let same : n.value ≡ value = cc in omega (arith, same, ltb-false most value h)
 
-pub number_fits : (s : List ℕ) (at most : ℕ) {x : Number} {n past : ℕ} → x ≡ number_at s at most → x ≡ Is n past → n ≤ most
+pub number_fits : (s : List ℕ) (at most : ℕ) {x : Result Number NumberError} {n : Number} → x ≡ number_at s at most → x ≡ Ok n → n.value ≤ most
 unfolding number_at
-number_fits s at most {x} {n} {past} e is = go (ltb 9 (digit_at s at)) (sym is ∙ e)
+number_fits s at most {x} {n} e is = go (ltb 9 (digit_at s at)) (sym is ∙ e)
   where
-    go : (t : Bool) → Is n past ≡ cond t Missing (number_by (value_from 0 (drop at s)) (at + prefix_len decimal (drop at s)) most) → n ≤ most
+    go : (t : Bool) → Ok n ≡ cond t (Err Missing) (number_by (value_from 0 (drop at s)) (at + prefix_len decimal (drop at s)) most) → n.value ≤ most
     go true k = let z : ◌≡◌ {A = ℕ} 0 1 = cc in absurd (omega (arith, z))
     go false k = fitting (value_from 0 (drop at s)) (at + prefix_len decimal (drop at s)) most k refl
 
 -- ---- by the fault
 
-module _ (over : Wrong) (w : Word) (n due end : ℕ) {f : Fault} {r : Order} where
-  pub digit_bytes : {column : ℕ} → f ≡ Digit column → r ≡ wrong_at NoDigit column → r ≡ bytes_by f over w n due end
+module _ (over : Wrong) (w : Word) (n due end : ℕ) {f : Option Fault} {r : Order} where
+  pub digit_bytes : {column : ℕ} → f ≡ Some (Digit column) → r ≡ wrong_at NoDigit column → r ≡ bytes_by f over w n due end
   unfolding bytes_by
-  digit_bytes e h = h ∙ sym (ap (λ (x : Fault). bytes_by x over w n due end) e)
+  digit_bytes e h = h ∙ sym (ap (λ (x : Option Fault). bytes_by x over w n due end) e)
 
-  pub over_bytes : {column : ℕ} → f ≡ Over column → r ≡ wrong_at over column → r ≡ bytes_by f over w n due end
+  pub over_bytes : {column : ℕ} → f ≡ Some (Over column) → r ≡ wrong_at over column → r ≡ bytes_by f over w n due end
   unfolding bytes_by
-  over_bytes e h = h ∙ sym (ap (λ (x : Fault). bytes_by x over w n due end) e)
+  over_bytes e h = h ∙ sym (ap (λ (x : Option Fault). bytes_by x over w n due end) e)
 
-  pub short_bytes : f ≡ Nothing → n < due → r ≡ wrong_at NoDigit end → r ≡ bytes_by f over w n due end
+  pub short_bytes : f ≡ None → n < due → r ≡ wrong_at NoDigit end → r ≡ bytes_by f over w n due end
   unfolding bytes_by
-  short_bytes e k h = if_lt _ _ k h ∙ sym (ap (λ (x : Fault). bytes_by x over w n due end) e)
+  short_bytes e k h = if_lt _ _ k h ∙ sym (ap (λ (x : Option Fault). bytes_by x over w n due end) e)
 
-  pub good_bytes : f ≡ Nothing → due ≤ n → r ≡ record { word = w; count = n - due; column = 0 } → r ≡ bytes_by f over w n due end
+  pub good_bytes : f ≡ None → due ≤ n → r ≡ record { word = w; count = n - due; column = 0 } → r ≡ bytes_by f over w n due end
   unfolding bytes_by
-  good_bytes e k h = else_lt _ _ k h ∙ sym (ap (λ (x : Fault). bytes_by x over w n due end) e)
+  good_bytes e k h = else_lt _ _ k h ∙ sym (ap (λ (x : Option Fault). bytes_by x over w n due end) e)
 
-module _ (n : ℕ) {f : Fault} {r : Order} where
-  pub digit_image : {column : ℕ} → f ≡ Digit column → r ≡ wrong_at NoDigit column → r ≡ image_by f n
+module _ (n : ℕ) {f : Option Fault} {r : Order} where
+  pub digit_image : {column : ℕ} → f ≡ Some (Digit column) → r ≡ wrong_at NoDigit column → r ≡ image_by f n
   unfolding image_by
-  digit_image e h = h ∙ sym (ap (λ (x : Fault). image_by x n) e)
+  digit_image e h = h ∙ sym (ap (λ (x : Option Fault). image_by x n) e)
 
-  pub over_image : {column : ℕ} → f ≡ Over column → r ≡ wrong_at NoImage 0 → r ≡ image_by f n
+  pub over_image : {column : ℕ} → f ≡ Some (Over column) → r ≡ wrong_at NoImage 0 → r ≡ image_by f n
   unfolding image_by
-  over_image e h = h ∙ sym (ap (λ (x : Fault). image_by x n) e)
+  over_image e h = h ∙ sym (ap (λ (x : Option Fault). image_by x n) e)
 
-  pub short_image : f ≡ Nothing → (n ≡ image_length → ⊥) → r ≡ wrong_at NoImage 0 → r ≡ image_by f n
+  pub short_image : f ≡ None → (n ≡ image_length → ⊥) → r ≡ wrong_at NoImage 0 → r ≡ image_by f n
   unfolding image_by
-  short_image e k h = if_ne _ _ k h ∙ sym (ap (λ (x : Fault). image_by x n) e)
+  short_image e k h = if_ne _ _ k h ∙ sym (ap (λ (x : Option Fault). image_by x n) e)
 
-  pub good_image : f ≡ Nothing → n ≡ image_length → r ≡ plainly (Make Load) → r ≡ image_by f n
+  pub good_image : f ≡ None → n ≡ image_length → r ≡ plainly (Make Load) → r ≡ image_by f n
   unfolding image_by
-  good_image e k h = else_ne _ _ k h ∙ sym (ap (λ (x : Fault). image_by x n) e)
+  good_image e k h = else_ne _ _ k h ∙ sym (ap (λ (x : Option Fault). image_by x n) e)
 
 -- ---- by the run
 
-reads_as : (line : List ℕ) (from : ℕ) {m room : ℕ} {d d' : List ℕ} {n : ℕ} {f : Fault} → m ≡ room → Takes (hex_run line from m) d d' n f → ReadsAs (hex_run line from room) n f
+reads_as : (line : List ℕ) (from : ℕ) {m room : ℕ} {d d' : List ℕ} {n : ℕ} {f : Option Fault} → m ≡ room → Takes (hex_run line from m) d d' n f → ReadsAs (hex_run line from room) n f
 reads_as line from e t = record {
   count = t.count ∙ ap (λ (k : ℕ). length (hex_run line from k).bytes) e;
   wrong = t.wrong ∙ ap (λ (k : ℕ). (hex_run line from k).fault) e;
@@ -146,7 +148,7 @@ part_pasted at room bs d {part} h k e =
     sym (drop-append-le (length bs) (take room (drop at d)) (drop room (drop at d)) inner) ∙ rw take-append-drop (drop-drop (length bs) at d) in
     rw (e, add-sub_cancel_left, zero-add, append_assoc) (ap (λ (l : List ℕ). take at d ++ (bs ++ l)) rest)
 
-pub part_read : (line : List ℕ) (from at room : ℕ) (d : List ℕ) {m n : ℕ} {part : List ℕ} {f : Fault} → at + room ≤ length d → m ≡ room → n ≤ room
+pub part_read : (line : List ℕ) (from at room : ℕ) (d : List ℕ) {m n : ℕ} {part : List ℕ} {f : Option Fault} → at + room ≤ length d → m ≡ room → n ≤ room
     → Takes (hex_run line from m) (take (at + room - at) (drop at d)) part n f
     → ReadsAs (hex_run line from room) n f × ((take at d ++ (part ++ drop (at + room - at) (drop at d)) ≡ pasted at (hex_run line from room).bytes d) × (n ≤ room))
 part_read line from at room d h e k t =
@@ -154,17 +156,17 @@ part_read line from at room d h e k t =
     let stands = t.stands ∙ ap (λ (x : ℕ). pasted 0 (hex_run line from x).bytes (take (at + room - at) (drop at d))) e in
     (reads, (part_pasted at room (hex_run line from room).bytes d h (omega (arith, reads.count)) stands, k))
 
-module _ {q : HexRun} {n : ℕ} {f : Fault} {r : Order} {d d' : List ℕ} (h : ReadsAs q n f) (p : d' ≡ d) where
+module _ {q : HexRun} {n : ℕ} {f : Option Fault} {r : Order} {d d' : List ℕ} (h : ReadsAs q n f) (p : d' ≡ d) where
   pub bytes_as : (over : Wrong) (w : Word) (due end : ℕ) → r ≡ bytes_by f over w n due end
       → ordered r d' ≡ ordered (bytes_by q.fault over w (length q.bytes) due end) d
   bytes_as over w due end e =
       let o : r ≡ bytes_by q.fault over w (length q.bytes) due end =
-      e ∙ ap (λ (x : Fault). bytes_by x over w n due end) h.wrong ∙ ap (λ (m : ℕ). bytes_by q.fault over w m due end) h.count in
+      e ∙ ap (λ (x : Option Fault). bytes_by x over w n due end) h.wrong ∙ ap (λ (m : ℕ). bytes_by q.fault over w m due end) h.count in
       rw (o, p)
 
   pub image_as : r ≡ image_by f n → ordered r d' ≡ ordered (image_by q.fault (length q.bytes)) d
   image_as e =
-      let o : r ≡ image_by q.fault (length q.bytes) = e ∙ ap (λ (x : Fault). image_by x n) h.wrong ∙ ap (λ (m : ℕ). image_by q.fault m) h.count in
+      let o : r ≡ image_by q.fault (length q.bytes) = e ∙ ap (λ (x : Option Fault). image_by x n) h.wrong ∙ ap (λ (m : ℕ). image_by q.fault m) h.count in
       rw (o, p)
 
 -- ---- by the word

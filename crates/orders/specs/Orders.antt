@@ -1,11 +1,12 @@
 -- docs/PROTOCOL.md, "Lines", "Bytes", "Numbers" and "Words": the order that a line gives. Text is a list of ASCII numbers.
-use Rattle.std.specs.Prelude.{ℕ, ◌+◌, ◌-◌, Bool, true, cond, not, ◌≡◌, List, eqb, ltb, leb, length, take, drop, get_or}
+use Rattle.std.specs.Prelude.{ℕ, ◌+◌, ◌-◌, Bool, true, cond, not, Option, Some, None, Result, Ok, Err, ◌≡◌, List, eqb, ltb, leb, length, take, drop, get_or}
 use Rattle.layout.specs.Layout.{image_length}
 use Rattle.wire.specs.Wire.{pasted}
 use Rattle.text.specs.declared.Fault.{Fault}
-use Rattle.text.specs.declared.Fault.TheVariants.{Nothing, Digit, Over}
+use Rattle.text.specs.declared.Fault.TheVariants.{Digit, Over}
 use Rattle.text.specs.declared.Number.{Number}
-use Rattle.text.specs.declared.Number.TheVariants.{Missing, TooGreat, Is}
+use Rattle.text.specs.declared.NumberError.{NumberError}
+use Rattle.text.specs.declared.NumberError.TheVariants.{Missing, TooGreat}
 use Rattle.std.specs.List.{prefix_len}
 use Rattle.text.specs.Text.{ascii, in_word, past_blanks, same_text, HexRun, hex_run}
 use Rattle.text.specs.Numbers.{number_at}
@@ -74,12 +75,12 @@ abbrev pub alone_of : Word → List ℕ → ℕ → Order
 alone_of w line from = alone_at w line (past_blanks line from)
 
 -- what stands where the number is due, what is wrong with one "over MAX", and then "only blanks may follow"
-unfoldable pub numbered_by : Number → Wrong → (ℕ → Word) → List ℕ → ℕ → Order
-numbered_by Missing over w line column = wrong_at NoNumber column
-numbered_by TooGreat over w line column = wrong_at over column
-numbered_by (Is n past) over w line column = alone_of (w n) line past
+unfoldable pub numbered_by : Result Number NumberError → Wrong → (ℕ → Word) → List ℕ → ℕ → Order
+numbered_by (Err Missing) over w line column = wrong_at NoNumber column
+numbered_by (Err TooGreat) over w line column = wrong_at over column
+numbered_by (Ok n) over w line column = alone_of (w n.value) line n.past
 
-abbrev pub size_by : Number → List ℕ → ℕ → Order
+abbrev pub size_by : Result Number NumberError → List ℕ → ℕ → Order
 size_by x line column = numbered_by x LongBuffer (λ n. Lend (Bytes n)) line column
 
 -- "at most 8,192"; "`buffer` alone"
@@ -106,19 +107,19 @@ abbrev pub plan_of : List ℕ → ℕ → Order
 plan_of line from = numbered_at 255 GreatState (λ n. Make (Plan n)) line (past_blanks line from)
 
 -- n bytes were read, and then a fault; "due are .. the bytes SS and TT themselves", at the column `end` if the line ends first
-unfoldable pub bytes_by : Fault → Wrong → Word → ℕ → ℕ → ℕ → Order
-bytes_by Nothing over w n due end = cond (ltb n due) (wrong_at NoDigit end) (record { word = w; count = n - due; column = 0 })
-bytes_by (Digit column) over w n due end = wrong_at NoDigit column
-bytes_by (Over column) over w n due end = wrong_at over column
+unfoldable pub bytes_by : Option Fault → Wrong → Word → ℕ → ℕ → ℕ → Order
+bytes_by None over w n due end = cond (ltb n due) (wrong_at NoDigit end) (record { word = w; count = n - due; column = 0 })
+bytes_by (Some (Digit column)) over w n due end = wrong_at NoDigit column
+bytes_by (Some (Over column)) over w n due end = wrong_at over column
 
 -- "another number of bytes"
-unfoldable pub image_by : Fault → ℕ → Order
-image_by Nothing n = cond (not (eqb n image_length)) (wrong_at NoImage 0) (plainly (Make Load))
-image_by (Digit column) n = wrong_at NoDigit column
-image_by (Over column) n = wrong_at NoImage 0
+unfoldable pub image_by : Option Fault → ℕ → Order
+image_by None n = cond (not (eqb n image_length)) (wrong_at NoImage 0) (plainly (Make Load))
+image_by (Some (Digit column)) n = wrong_at NoDigit column
+image_by (Some (Over column)) n = wrong_at NoImage 0
 
 -- a run of bytes as its count and fault
-pub record ReadsAs (q : HexRun) (n : ℕ) (f : Fault) : Type 0 where
+pub record ReadsAs (q : HexRun) (n : ℕ) (f : Option Fault) : Type 0 where
   pub count : n ≡ length q.bytes
   pub wrong : f ≡ q.fault
 

@@ -1,13 +1,13 @@
 // A line read as an order: what its word asks for, and the bytes after it, which go into a lent buffer. Nothing is carried out here.
-#![tactic(auto)]
+#![tactic(auto, unfolding(crate::specs::Orders::view_of, crate::specs::Orders::given_of, crate::specs::Orders::kept_of, crate::specs::Orders::word_of, crate::specs::Orders::alone_at, crate::specs::Orders::numbered_by, crate::specs::Orders::buffer_at, crate::specs::Orders::numbered_at, crate::specs::Orders::bytes_by, crate::specs::Orders::image_by, crate::specs::Orders::remark, crate::specs::Orders::line_length, crate::specs::Orders::call_of, crate::specs::Orders::order_by, crate::specs::Orders::order_at, crate::specs::Orders::order_of, crate::specs::Orders::order_in))]
 
-ghost use Rattle.std.specs.Prelude.{◌≡◌, ◌≤◌, ◌-◌, length};
+ghost use Rattle.std.specs.Prelude.{◌≡◌, ◌≤◌, ◌-◌, ℕ, Ok, length};
 ghost use Rattle.io.specs.Counts.{IsPrefixLen};
 ghost use Rattle.wire.specs.Wire.{pasted};
 ghost use Rattle.text.specs.Text.{hex_run};
-ghost use Rattle.orders.specs.Orders.{plainly, wrong_at, view_of, given_of, kept_of, word_of, alone_of, bytes_by, image_by, size_by, buffer_of, ReadsAs, ordered, occ_of, plain_bytes, send_of, load_of, forget_of, time_of, plan_of, call_of, order_at, remark, order_of, line_length, order_in};
+ghost use Rattle.orders.specs.Orders.{plainly, wrong_at, view_of, given_of, kept_of, word_of, alone_of, numbered_by, bytes_by, image_by, buffer_of, ReadsAs, ordered, occ_of, plain_bytes, send_of, load_of, forget_of, time_of, plan_of, call_of, order_at, remark, order_of, line_length, order_in};
 
-use text::{Fault, Number, Taken};
+use text::{Fault, Number, NumberError, Taken};
 
 pub const MOST_LINE: usize = 32768;
 // More bytes than a line holds.
@@ -232,15 +232,22 @@ fn alone(word: Word, line: &[u8], from: usize) -> Order
     plain(word)
 }
 
-// Blanks after a number, which is due at `column`.
-fn with_size(number: Number, line: &[u8], column: usize) -> Order
-    ensures value { result ≡ size_by number line.now column }
+// Blanks after a number that was read at `column`; `word` makes the order's word of the number.
+fn numbered<F: FnOnce(u64) -> Word>(
+    read: Result<Number, NumberError>,
+    over: Wrong,
+    word: F,
+    line: &[u8],
+    column: usize,
+) -> Order
+    requires { (n : Number) → read ≡ Ok n → F.pre word n.value }
+    ensures value { (w : ℕ → Word) → ((n : ℕ) (r : Word) → F.post word n r → r ≡ w n) → result ≡ numbered_by read over w line.now column }
     ensures count_value { result.count ≡ 0 }
 {
-    match number {
-        Number::Missing => wrong_at(Wrong::NoNumber, column),
-        Number::TooGreat => wrong_at(Wrong::LongBuffer, column),
-        Number::Is(n, past) => alone(Word::Lend(Buffer::Bytes(n as usize)), line, past),
+    match read {
+        Ok(number) => alone(word(number.value), line, number.past),
+        Err(NumberError::Missing) => wrong_at(Wrong::NoNumber, column),
+        Err(NumberError::TooGreat) => wrong_at(over, column),
     }
 }
 
@@ -253,8 +260,9 @@ fn read_buffer(line: &[u8], from: usize) -> Order
     if line.len() <= place {
         return plain(Word::Lend(Buffer::Whole));
     }
-    let number = text::number_at(line, place, MOST_BUFFER as u64);
-    with_size(number, line, place + 1)
+    let read = text::number_at(line, place, MOST_BUFFER as u64);
+    let word = |n| Word::Lend(Buffer::Bytes(n as usize));
+    numbered(read, Wrong::LongBuffer, word, line, place + 1)
 }
 
 // A number of changes.
@@ -263,12 +271,9 @@ fn read_forget(line: &[u8], from: usize) -> Order
     ensures count_value { result.count ≡ 0 }
 {
     let place = text::past_blanks(line, from);
-    let number = text::number_at(line, place, MOST_FORGOTTEN);
-    match number {
-        Number::Missing => wrong_at(Wrong::NoNumber, place + 1),
-        Number::TooGreat => wrong_at(Wrong::GreatNumber, place + 1),
-        Number::Is(n, past) => alone(Word::Make(Call::Forget(n as u32)), line, past),
-    }
+    let read = text::number_at(line, place, MOST_FORGOTTEN);
+    let word = |n| Word::Make(Call::Forget(n as u32));
+    numbered(read, Wrong::GreatNumber, word, line, place + 1)
 }
 
 // A number of microseconds.
@@ -277,12 +282,14 @@ fn read_time(line: &[u8], from: usize) -> Order
     ensures count_value { result.count ≡ 0 }
 {
     let place = text::past_blanks(line, from);
-    let number = text::number_at(line, place, MOST_TIME);
-    match number {
-        Number::Missing => wrong_at(Wrong::NoNumber, place + 1),
-        Number::TooGreat => wrong_at(Wrong::GreatTime, place + 1),
-        Number::Is(n, past) => alone(Word::Make(Call::Time(n)), line, past),
-    }
+    let read = text::number_at(line, place, MOST_TIME);
+    numbered(
+        read,
+        Wrong::GreatTime,
+        |n| Word::Make(Call::Time(n)),
+        line,
+        place + 1,
+    )
 }
 
 // A state.
@@ -291,31 +298,27 @@ fn read_plan(line: &[u8], from: usize) -> Order
     ensures count_value { result.count ≡ 0 }
 {
     let place = text::past_blanks(line, from);
-    let number = text::number_at(line, place, MOST_STATE);
-    match number {
-        Number::Missing => wrong_at(Wrong::NoNumber, place + 1),
-        Number::TooGreat => wrong_at(Wrong::GreatState, place + 1),
-        Number::Is(n, past) => alone(Word::Make(Call::Plan(n as u8)), line, past),
-    }
+    let read = text::number_at(line, place, MOST_STATE);
+    let word = |n| Word::Make(Call::Plan(n as u8));
+    numbered(read, Wrong::GreatState, word, line, place + 1)
 }
 
-// Bytes, of which the first `due` must be there; `over` is what more than the most are, `end` the column past the line.
+// Bytes, of which the first `due` must be there; `over` is what more than the most are, `end` the
+// column past the line.
 fn with_bytes(over: Wrong, word: Word, taken: Taken, due: usize, end: usize) -> Order
     ensures value { result ≡ bytes_by taken.fault over word taken.count due end }
     ensures count_bound { result.count ≤ taken.count - due }
 {
-    let n = taken.count;
-    let fault = taken.fault;
-    match fault {
-        Fault::Digit(column) => wrong_at(Wrong::NoDigit, column),
-        Fault::Over(column) => wrong_at(over, column),
-        Fault::Nothing => {
-            if n < due {
+    match taken.fault {
+        Some(Fault::Digit(column)) => wrong_at(Wrong::NoDigit, column),
+        Some(Fault::Over(column)) => wrong_at(over, column),
+        None => {
+            if taken.count < due {
                 return wrong_at(Wrong::NoDigit, end);
             }
             Order {
-                word: word,
-                count: n - due,
+                word,
+                count: taken.count - due,
                 column: 0,
             }
         }
@@ -327,13 +330,11 @@ fn with_image(taken: Taken) -> Order
     ensures value { result ≡ image_by taken.fault taken.count }
     ensures count_value { result.count ≡ 0 }
 {
-    let n = taken.count;
-    let fault = taken.fault;
-    match fault {
-        Fault::Digit(column) => wrong_at(Wrong::NoDigit, column),
-        Fault::Over(_) => wrong_at(Wrong::NoImage, 0),
-        Fault::Nothing => {
-            if n != layout::IMAGE {
+    match taken.fault {
+        Some(Fault::Digit(column)) => wrong_at(Wrong::NoDigit, column),
+        Some(Fault::Over(_)) => wrong_at(Wrong::NoImage, 0),
+        None => {
+            if taken.count != layout::IMAGE {
                 return wrong_at(Wrong::NoImage, 0);
             }
             plain(Word::Make(Call::Load))

@@ -10,14 +10,14 @@ use lib.Dec.{ltb, eqb}
 use lib.ListN.{length, get_or, drop, set, drop_of_length-le}
 use lib.Seq.{drop-cons}
 use borrow.Author.Tests.{ltb-true, ltb-false}
-use Rattle.std.specs.Prelude.{nat_eq, ◌&&◌}
+use Rattle.std.specs.Prelude.{nat_eq, ◌&&◌, Option, Some, None}
 use Rattle.std.specs.List.{prefix_len}
 use Rattle.std.specs.Cmp.Lexicographic.{pointwise}
 use Rattle.wire.specs.Wire.{pasted}
 use Rattle.wire.proofs.laws.Cases.{if_b, else_b, if_lt, else_lt, if_le, else_le, if_ne, else_ne, cond_elim}
 use Rattle.wire.proofs.Loops.{store_first, paste_none}
 use Rattle.text.specs.declared.Fault.{Fault}
-use Rattle.text.specs.declared.Fault.TheVariants.{Nothing, Digit, Over}
+use Rattle.text.specs.declared.Fault.TheVariants.{Digit, Over}
 use Rattle.text.specs.Text.{blank, digit_of, digit_at, HexRun, stopped, onto, high, low, hex_from, hex_run, Takes, same_text, Sheet, put_all, hex_digit, hex_of}
 use Rattle.text.proofs.laws.Pieces.{put_all_append}
 
@@ -61,17 +61,17 @@ unfolding digit_at
 there s i h = there_by s i (ltb i (length s)) refl h
 
 module _ (s : List ℕ) (at room column : ℕ) where
-  end : length s ≤ at → stopped Nothing ≡ hex_from high room column (drop at s)
+  end : length s ≤ at → stopped None ≡ hex_from high room column (drop at s)
   unfolding hex_from
   end h = rw (drop_of_length-le s h)
 
   no_low_by : (h : ℕ) (t : Bool) → ltb at (length s) ≡ t → 15 < cond t (digit_of (get_or s at 0)) 16
-      → stopped (Digit column) ≡ hex_from (low h) room column (drop at s)
+      → stopped (Some (Digit column)) ≡ hex_from (low h) room column (drop at s)
   unfolding hex_from
   no_low_by h true e b = let k : at < length s = ltb-true at (length s) e in rw (drop-cons s at 0) (if_lt _ _ b refl)
   no_low_by h false e b = rw (drop_of_length-le s (ltb-false at (length s) e))
 
-  no_low : (h : ℕ) → 15 < digit_at s at → stopped (Digit column) ≡ hex_from (low h) room column (drop at s)
+  no_low : (h : ℕ) → 15 < digit_at s at → stopped (Some (Digit column)) ≡ hex_from (low h) room column (drop at s)
   unfolding digit_at
   no_low h b = no_low_by h (ltb at (length s)) refl b
 
@@ -86,11 +86,11 @@ module _ (s : List ℕ) (at room column : ℕ) where
     at_blank e = rw (drop-cons s at 0) (if_b _ _ e refl)
 
     module _ (dense : blank (get_or s at 0) ≡ false) where
-      over : room ≤ 0 → stopped (Over column) ≡ hex_from high room column (drop at s)
+      over : room ≤ 0 → stopped (Some (Over column)) ≡ hex_from high room column (drop at s)
       unfolding hex_from
       over r = rw (drop-cons s at 0) (else_b _ _ dense (if_le _ _ r refl))
 
-      no_high : 0 < room → 15 < digit_of (get_or s at 0) → stopped (Digit column) ≡ hex_from high room column (drop at s)
+      no_high : 0 < room → 15 < digit_of (get_or s at 0) → stopped (Some (Digit column)) ≡ hex_from high room column (drop at s)
       unfolding hex_from
       no_high r d = rw (drop-cons s at 0) (else_b _ _ dense (else_le _ _ r (if_lt _ _ d refl)))
 
@@ -110,7 +110,7 @@ record Rest (n : ℕ) (d : List ℕ) (q q₀ : HexRun) (d₀ : List ℕ) : Type 
 rest_as : {n : ℕ} {d d₀ : List ℕ} {q q' q₀ : HexRun} → q' ≡ q → Rest n d q q₀ d₀ → Rest n d q' q₀ d₀
 rest_as {n} {d} {d₀} {q₀ = q₀} e l = subst (λ (x : HexRun). Rest n d x q₀ d₀) (sym e) l
 
-stop : {n : ℕ} {d d₀ : List ℕ} {q q₀ : HexRun} {f : Fault} → stopped f ≡ q → Rest n d q q₀ d₀ → Takes q₀ d₀ d n f
+stop : {n : ℕ} {d d₀ : List ℕ} {q q₀ : HexRun} {f : Option Fault} → stopped f ≡ q → Rest n d q q₀ d₀ → Takes q₀ d₀ d n f
 stop {n} {d} e l =
     let k = rest_as e l in
     record { stands = sym (paste_none n d) ∙ k.stands; count = omega (arith, k.count); wrong = k.wrong }
@@ -130,7 +130,7 @@ left_all s from d =
     record { rest = rest_as e (record { stands = refl; count = zero-add _; wrong = refl }) }
 
 module _ {s : List ℕ} {at m n : ℕ} {d : List ℕ} {q₀ : HexRun} {d₀ : List ℕ} (l : Left s at m n d q₀ d₀) where
-  pub left_end : length s ≤ at → Takes q₀ d₀ d n Nothing
+  pub left_end : length s ≤ at → Takes q₀ d₀ d n None
   left_end h = stop (end s at (m - n) (at + 1) h) l.rest
 
   module _ (more : at < length s) where
@@ -138,15 +138,15 @@ module _ {s : List ℕ} {at m n : ℕ} {d : List ℕ} {q₀ : HexRun} {d₀ : Li
     left_blank e = record { rest = rest_as (rw (add-one (at + 1), add-one at) (at_blank s at (m - n) (suc at) more e)) l.rest }
 
     module _ (dense : blank (get_or s at 0) ≡ false) where
-      pub left_over : m ≤ n → Takes q₀ d₀ d n (Over (at + 1))
+      pub left_over : m ≤ n → Takes q₀ d₀ d n (Some (Over (at + 1)))
       left_over h = stop (over s at (m - n) (at + 1) more dense (omega arith)) l.rest
 
       module _ {x : ℕ} (room : n < m) (hx : x ≡ digit_of (get_or s at 0)) where
-        pub left_no_high : 15 < x → Takes q₀ d₀ d n (Digit (at + 1))
+        pub left_no_high : 15 < x → Takes q₀ d₀ d n (Some (Digit (at + 1)))
         left_no_high b = stop (no_high s at (m - n) (at + 1) more dense (omega arith) (omega arith)) l.rest
 
         module _ {y : ℕ} (hy : y ≡ digit_at s (at + 1)) where
-          pub left_no_low : x ≤ 15 → 15 < y → Takes q₀ d₀ d n (Digit (at + 1 + 1))
+          pub left_no_low : x ≤ 15 → 15 < y → Takes q₀ d₀ d n (Some (Digit (at + 1 + 1)))
           left_no_low g b =
               let e : y ≡ digit_at s (suc at) = rw (add-one at) at hy in
               stop

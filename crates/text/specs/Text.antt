@@ -1,11 +1,11 @@
 -- docs/PROTOCOL.md, "Lines" and "Bytes": blanks, words, and bytes in hex. Text is a list of ASCII numbers.
-use Rattle.std.specs.Prelude.{ℕ, zero, suc, ◌+◌, ◌-◌, ◌*◌, ◌/◌, ◌%◌, Bool, true, false, cond, not, ◌≡◌, List, [], ◌∷◌, ◌++◌, eqb, ltb, leb, length, drop, get_or}
+use Rattle.std.specs.Prelude.{ℕ, zero, suc, ◌+◌, ◌-◌, ◌*◌, ◌/◌, ◌%◌, Bool, true, false, cond, not, Option, Some, None, ◌≡◌, List, [], ◌∷◌, ◌++◌, eqb, ltb, leb, length, drop, get_or}
 use Rattle.std.specs.List.{prefix_len}
 use Prim.Native.Char.{code}
 use Prim.Native.String.{String, [] as empty, ◌∷◌ as ◌then◌}
 use Rattle.wire.specs.Wire.{pasted}
 use Rattle.text.specs.declared.Fault.{Fault}
-use Rattle.text.specs.declared.Fault.TheVariants.{Nothing, Digit, Over}
+use Rattle.text.specs.declared.Fault.TheVariants.{Digit, Over}
 
 -- whether two texts are equal
 unfoldable pub same_text : List ℕ → List ℕ → Bool
@@ -49,9 +49,9 @@ digit_at s at = cond (ltb at (length s)) (digit_of (get_or s at 0)) 16
 -- the bytes read, and what then was wrong
 pub record HexRun : Type 0 where
   pub bytes : List ℕ
-  pub fault : Fault
+  pub fault : Option Fault
 
-abbrev pub stopped : Fault → HexRun
+abbrev pub stopped : Option Fault → HexRun
 stopped f = record { bytes = []; fault = f }
 
 abbrev pub onto : ℕ → HexRun → HexRun
@@ -64,15 +64,15 @@ pub data Due : Type 0 where
 
 -- "They are read from left to right and the first thing that is wrong is answered": `room` bytes more are taken
 unfoldable pub hex_from : Due → ℕ → ℕ → List ℕ → HexRun
-hex_from high room column [] = stopped Nothing
-hex_from (low h) room column [] = stopped (Digit column)
+hex_from high room column [] = stopped None
+hex_from (low h) room column [] = stopped (Some (Digit column))
 hex_from high room column (x ∷ xs) =
     cond (blank x) (hex_from high room (suc column) xs)
-    (cond (leb room 0) (stopped (Over column))
-    (cond (ltb 15 (digit_of x)) (stopped (Digit column))
+    (cond (leb room 0) (stopped (Some (Over column)))
+    (cond (ltb 15 (digit_of x)) (stopped (Some (Digit column)))
     (hex_from (low (digit_of x)) room (suc column) xs)))
 hex_from (low h) room column (x ∷ xs) =
-    cond (ltb 15 (digit_of x)) (stopped (Digit column))
+    cond (ltb 15 (digit_of x)) (stopped (Some (Digit column)))
     (onto (h * 16 + digit_of x) (hex_from high (room - 1) (suc column) xs))
 
 -- what a line holds from `from` on, for a buffer of `room` bytes
@@ -80,7 +80,7 @@ abbrev pub hex_run : List ℕ → ℕ → ℕ → HexRun
 hex_run s from room = hex_from high room (from + 1) (drop from s)
 
 -- the bytes stand at the front of a buffer, n of them, and the rest is kept
-pub record Takes (q : HexRun) (d d' : List ℕ) (n : ℕ) (f : Fault) : Type 0 where
+pub record Takes (q : HexRun) (d d' : List ℕ) (n : ℕ) (f : Option Fault) : Type 0 where
   pub stands : d' ≡ pasted 0 q.bytes d
   pub count : n ≡ length q.bytes
   pub wrong : f ≡ q.fault

@@ -98,18 +98,17 @@ fn digit_at(s: &[u8], at: usize) -> u8
 }
 
 // What is wrong in a run of bytes, with its column.
-#[derive(Clone, Copy)]
+#[derive(Clone, Copy, PartialEq, Eq)]
 pub enum Fault {
-    Nothing,
     Digit(usize),
     Over(usize),
 }
 
-// How many bytes were read, and what then was wrong.
-#[derive(Clone, Copy)]
+// How many bytes were read, and what was wrong then.
+#[derive(Clone, Copy, PartialEq, Eq)]
 pub struct Taken {
     pub count: usize,
-    pub fault: Fault,
+    pub fault: Option<Fault>,
 }
 
 // Reads bytes of two hex digits each, blanks before, between and after them, from `from` to the end of `s`, into `out`.
@@ -128,21 +127,21 @@ pub fn take_bytes(s: &[u8], from: usize, out: &mut [u8]) -> Taken
         if out.len() <= n {
             return Taken {
                 count: n,
-                fault: Fault::Over(column),
+                fault: Some(Fault::Over(column)),
             };
         }
         let high = digit(s[at]);
         if 15 < high {
             return Taken {
                 count: n,
-                fault: Fault::Digit(column),
+                fault: Some(Fault::Digit(column)),
             };
         }
         let low = digit_at(s, column);
         if 15 < low {
             return Taken {
                 count: n,
-                fault: Fault::Digit(column + 1),
+                fault: Some(Fault::Digit(column + 1)),
             };
         }
         out[n] = high * 16 + low;
@@ -151,16 +150,22 @@ pub fn take_bytes(s: &[u8], from: usize, out: &mut [u8]) -> Taken
     }
     Taken {
         count: n,
-        fault: Fault::Nothing,
+        fault: None,
     }
 }
 
-// What stands where a number is due: none, one over the most that is taken, or one and the place past its digits.
-#[derive(Clone, Copy)]
-pub enum Number {
+// A number, and the place past its digits.
+#[derive(Clone, Copy, PartialEq, Eq)]
+pub struct Number {
+    pub value: u64,
+    pub past: usize,
+}
+
+// Why a number isn't taken: there is none, or it is over the most.
+#[derive(Clone, Copy, PartialEq, Eq)]
+pub enum NumberError {
     Missing,
     TooGreat,
-    Is(u64, usize),
 }
 
 // Whether a number with one digit more is at most `most`.
@@ -174,7 +179,7 @@ fn fits(value: u64, digit: u8, most: u64) -> bool
 }
 
 // Reads the digits from `at` on. The first one that makes the number too great ends it: digits more make no number less.
-fn read_digits(s: &[u8], at: usize, most: u64) -> Number
+fn read_digits(s: &[u8], at: usize, most: u64) -> Result<Number, NumberError>
     ensures { result ≡ digits_at s.now at most }
 {
     let mut value: u64 = 0;
@@ -182,23 +187,23 @@ fn read_digits(s: &[u8], at: usize, most: u64) -> Number
     while i < s.len() {
         let next = digit(s[i]);
         if 9 < next {
-            return Number::Is(value, i);
+            return Ok(Number { value, past: i });
         }
         if !fits(value, next, most) {
-            return Number::TooGreat;
+            return Err(NumberError::TooGreat);
         }
         value = value * 10 + next as u64;
         i += 1;
     }
-    Number::Is(value, i)
+    Ok(Number { value, past: i })
 }
 
 // The decimal number at a place, at most `most`.
-pub fn number_at(s: &[u8], at: usize, most: u64) -> Number
+pub fn number_at(s: &[u8], at: usize, most: u64) -> Result<Number, NumberError>
     ensures { result ≡ number_at s.now at most }
 {
     if 9 < digit_at(s, at) {
-        return Number::Missing;
+        return Err(NumberError::Missing);
     }
     read_digits(s, at, most)
 }

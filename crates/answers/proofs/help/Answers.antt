@@ -6,6 +6,7 @@ use Rattle.answers.proofs.help.Goals as goal
 
 pub returns : goal.returns
 unfolding help_text words_in begun_by
-returns c =
-    (search rules,
-    pieces _ _ _ c.put_words.ensures.1 (pieces _ _ _ c.put_decimal.ensures.1 (pieces _ _ _ c.put_words-2.ensures.1 c.put.ensures.1)))
+returns c = (
+  search rules,
+  pieces _ _ _ c.put_words.ensures.1 (pieces _ _ _ c.put_decimal.ensures.1 (pieces _ _ _ c.put_words-2.ensures.1 c.put.ensures.1)),
+)

@@ -20,16 +20,18 @@ returns-then-be16-ne55043 c =
 
 pub returns-then-be32-ne0 : goal.returns-then-be32-ne0
 unfolding put_all
-returns-then-be32-ne0 c =
-    (refl,
-    same_pieces _
-    (read_refused _ _ _ c.if-request-lt32.false c.if-response-lt32.false c.be16.ensures c.if-be16-ne55043.false c.be32.ensures c.if-be32-ne0.true)
-    refl)
+returns-then-be32-ne0 c = (
+  refl,
+  same_pieces _
+      (read_refused _ _ _ c.if-request-lt32.false c.if-response-lt32.false c.be16.ensures c.if-be16-ne55043.false c.be32.ensures c.if-be32-ne0.true)
+      refl,
+)
 
 pub returns : goal.returns
-returns c =
-    (c.put_data.ensures.0,
-    same_pieces _
-    (ap data_text c.bytes_read.ensures
-    ∙ read_done _ _ _ c.if-request-lt32.false c.if-response-lt32.false c.be16.ensures c.if-be16-ne55043.false c.be32.ensures c.if-be32-ne0.false)
-    c.put_data.ensures.1)
+returns c = (
+  c.put_data.ensures.0,
+  same_pieces _
+      (ap data_text c.bytes_read.ensures
+      ∙ read_done _ _ _ c.if-request-lt32.false c.if-response-lt32.false c.be16.ensures c.if-be16-ne55043.false c.be32.ensures c.if-be32-ne0.false)
+      c.put_data.ensures.1,
+)

@@ -6,6 +6,7 @@ use Rattle.text.proofs.laws.Decimal.{digits_decimal}
 use Rattle.text.proofs.Page.put_decimal.Goals as goal
 
 pub returns : goal.returns
-returns c =
-    (c.put.ensures.0,
-    c.put.ensures.1 ∙ ap (λ (x : List ℕ). put_all (sheet_of c.args.self.now) (x ∷ [])) (c.decimal-k.ensures.digits ∙ digits_decimal _ _ c.decimal-k.ensures.len))
+returns c = (
+  c.put.ensures.0,
+  c.put.ensures.1 ∙ ap (λ (x : List ℕ). put_all (sheet_of c.args.self.now) (x ∷ [])) (c.decimal-k.ensures.digits ∙ digits_decimal _ _ c.decimal-k.ensures.len),
+)

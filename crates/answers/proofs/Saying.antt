@@ -1,23 +1,18 @@
 -- What each test of an answer chooses to say. Assumes nothing.
 use Prim.Native.Nat.{ℕ, ◌+◌, ◌<◌, ◌≤◌}
-use mathlib.Core.Bool.{Bool, true, false, cond}
 use mathlib.Core.Path.{◌≡◌, refl, sym, ap, ap₂, ◌∙◌}
 use mathlib.Core.List.{List, [], ◌∷◌, ◌++◌}
 use native.Mathlib.Nat.{zero-add}
 use native.Mathlib.Omega.{arith}
-use lib.Dec.{ltb}
 use lib.ListN.{length, take, drop}
 use lib.Seq.{take_all}
-use borrow.Author.Tests.{ltb-false}
 use Rattle.wire.specs.Wire.{pasted, be_nat}
 use Rattle.wire.proofs.laws.Wire.{take_pasted}
-use Rattle.wire.proofs.laws.Cases.{if_lt, else_lt, if_eq, else_eq, if_ne, else_ne}
-use Rattle.text.specs.Text.{Sheet, sheet, ascii, put_on, put_all, from_front, line_end, hexes, decimal, numbers}
-use Rattle.text.proofs.laws.Pieces.{same_pieces, put_fits}
+use Rattle.wire.proofs.laws.Cases.{if_lt, else_lt, if_ne, else_ne}
+use Rattle.text.specs.Text.{line_end, decimal}
 use Rattle.listing.specs.Listing.{too_long, listing, longest, listed, listed_length}
 use Rattle.listing.proofs.laws.Lengths.{length_listing}
-use Rattle.places.specs.Reasons.{words_for}
-use Rattle.answers.specs.Answers.{line_text, call_text, whole_reply, reply_length, data_text, bytes_read, read_for, read_text, plan_text, saved_text, why_text, list_text}
+use Rattle.answers.specs.Answers.{line_text, call_text, whole_reply, reply_length, data_text, bytes_read, read_for, read_text, saved_text, list_text}
 
 -- ---- after the session answer
 
@@ -49,15 +44,6 @@ module _ (s : List ℕ) where
     reply_whole h = else_lt 0 (7 + n) h refl ∙ reply_by
 
 -- ---- what was read of the SEEPROM
-
-module _ (bytes : List ℕ) where
-  pub data_none : length bytes ≡ 0 → ascii " data" ∷ [] ≡ data_text bytes
-  unfolding data_text
-  data_none h = ap (λ (l : List (List ℕ)). ascii " data" ∷ l) (if_eq _ _ h refl)
-
-  pub data_some : (length bytes ≡ 0 → ⊥) → ascii " data" ∷ ascii " " ∷ hexes bytes ≡ data_text bytes
-  unfolding data_text
-  data_some h = ap (λ (l : List (List ℕ)). ascii " data" ∷ l) (else_eq _ _ h refl)
 
 module _ (request buffer : List ℕ) {n : ℕ} (size : n ≡ be_nat (take 4 (drop 12 request))) where
   pub read_all : length buffer < n → buffer ≡ bytes_read request buffer
@@ -100,38 +86,12 @@ module _ (request response buffer : List ℕ) where
         unfolding read_for
         read_done h = read_by s (else_ne _ _ read (else_ne _ _ h refl))
 
--- ---- a plan
-
-module _ (found : ℕ) (order : List ℕ) where
-  pub plan_none : found ≡ 0 → ascii " no plan" ∷ [] ≡ plan_text found order
-  unfolding plan_text
-  plan_none h = if_eq _ _ h refl
-
-  pub plan_some : (found ≡ 0 → ⊥) → ascii " plan" ∷ numbers order ≡ plan_text found order
-  unfolding plan_text
-  plan_some h = else_eq _ _ h refl
-
 -- ---- a save
 
 module _ (answer : ℕ) (form : List ℕ) where
   pub save_refused : (answer ≡ 0 → ⊥) → decimal answer ∷ line_end ∷ [] ≡ saved_text answer form
   unfolding saved_text line_text
   save_refused h = if_ne _ _ h refl
-
-  pub save_done : answer ≡ 0 → ascii "save " ∷ (hexes form ++ (line_end ∷ [])) ≡ saved_text answer form
-  unfolding saved_text
-  save_done h = else_ne _ _ h refl
-
--- ---- why
-
-module _ (reason at : ℕ) where
-  pub why_none : reason ≡ 0 → line_text (ascii "0") ≡ why_text reason at
-  unfolding why_text
-  why_none h = if_eq _ _ h refl
-
-  pub why_some : (reason ≡ 0 → ⊥) → decimal at ∷ ascii " " ∷ ascii (words_for reason) ∷ line_end ∷ [] ≡ why_text reason at
-  unfolding why_text
-  why_some h = else_eq _ _ h refl
 
 -- ---- the listing
 

@@ -181,10 +181,6 @@ same_pointwise (x ∷ xs) (y ∷ ys) = go (eqb x y) (same_pointwise xs ys)
 
 -- ---- pieces: those left, put now, give the end
 
-pub hex_pair : {x y : ℕ} (b : ℕ) → x ≡ hex_digit (b / 16) → y ≡ hex_digit (b % 16) → x ∷ y ∷ [] ≡ hex_of b
-unfolding hex_of
-hex_pair b p q = rw (p, q)
-
 -- g puts the pieces of f for each byte
 module _ (g : List ℕ → List (List ℕ)) (f : ℕ → List (List ℕ)) (none : g [] ≡ [])
     (more : (b : ℕ) (bs : List ℕ) → g (b ∷ bs) ≡ f b ++ g bs) (s : List ℕ) (i : ℕ) (p : Sheet) where

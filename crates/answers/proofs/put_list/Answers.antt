@@ -1,4 +1,4 @@
-use Rattle.std.proofs.Common.{rules, refl}
+use Rattle.std.proofs.Common.{refl}
 use Rattle.text.specs.Text.{put_all}
 use Rattle.text.proofs.laws.Pieces.{same_pieces}
 use Rattle.answers.proofs.Saying.{list_long, list_short, list_used}

@@ -83,16 +83,3 @@ module _ {q : HexRun} {n : ℕ} {f : Option Fault} {r : Order} {d d' : List ℕ}
   image_as e =
       let o : r ≡ image_by q.fault (length q.bytes) = e ∙ ap (λ (x : Option Fault). image_by x n) h.wrong ∙ ap (λ (m : ℕ). image_by q.fault m) h.count in
       rw (o, p)
-
--- ---- by the word
-
--- the buffer is kept
-pub kept : (d : List ℕ) {r o : Order} → r ≡ o → ordered r d ≡ ordered o d
-kept d e = ap (λ (x : Order). ordered x d) e
-
--- ---- by the line
-
-module _ (line d : List ℕ) where
-  pub order_long : {r : Order} → 32768 < length line → r ≡ wrong_at LongLine 32769 → ordered r d ≡ order_of line d
-  unfolding order_of
-  order_long h e = if_lt _ _ h (kept d e)

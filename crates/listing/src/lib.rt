@@ -7,8 +7,6 @@ ghost use Rattle.entries.specs.Entries.{between, scan, entries_of};
 ghost use Rattle.text.specs.Text.{sheet, put_all};
 ghost use Rattle.listing.specs.Listing.{line, lines_of, whole, damaged_at, listed, listed_length};
 
-use entries::Reading;
-
 // The longest listing is 6,157 bytes: 13 of `journal N`, and at most 3 for each of 2,048 bytes.
 pub const LONGEST: usize = 6157;
 
@@ -71,10 +69,8 @@ pub fn list(j: &[u8], out: &mut [u8]) -> usize
     if 2048 < j.len() {
         return text::put(out, 0, b"too long\n");
     }
-    let reading = entries::read(j);
-    match reading {
-        Reading::Whole { count, newest: _ } => put_whole(out, j, count),
-        Reading::Unknown(place) => put_damaged(out, place),
-        Reading::Cut(place) => put_damaged(out, place),
+    match entries::read(j) {
+        Ok(read) => put_whole(out, j, read.count),
+        Err(broken) => put_damaged(out, broken.place),
     }
 }

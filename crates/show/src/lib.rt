@@ -7,7 +7,7 @@ ghost use Rattle.text.specs.Text.{sheet, put_on, put_all, from_front};
 ghost use Rattle.show.specs.Words.{word_number};
 ghost use Rattle.show.specs.Show.{number_text, named_text, mark_text, yes_text, state_word, state_text, role_word, role_text, caps_text, wanted_text, worked_text, settings_text, thresholds_text, pair_text, pairs_text, throttles_text, log_text, places_text, logs_text, cores_text, mask_text, deadman_text, area_text, areas_text, rest_text, reading_text, store_text, redo_text, journal_text, timer_text, profile_word, session_text};
 
-use entries::Reading;
+use entries::{Broken, Whole};
 use record::{Area, Areas, Caps, Deadman, Log, Record, Timer, Worked};
 
 // ---- words, by their place in one text
@@ -399,13 +399,18 @@ fn put_areas(out: &mut [u8], at: usize, areas: Areas) -> usize
 }
 
 // A number after the name that fits how a store reads.
-fn put_reading(out: &mut [u8], at: usize, whole: usize, damaged: usize, reading: Reading) -> usize
+fn put_reading(
+    out: &mut [u8],
+    at: usize,
+    whole: usize,
+    damaged: usize,
+    reading: Result<Whole, Broken>,
+) -> usize
     ensures { sheet out.new result ≡ put_all (sheet out.old at) (reading_text (word_number whole) (word_number damaged) reading) }
 {
     match reading {
-        Reading::Whole { count, newest: _ } => put_named(out, at, whole, count as u64),
-        Reading::Unknown(place) => put_named(out, at, damaged, place as u64),
-        Reading::Cut(place) => put_named(out, at, damaged, place as u64),
+        Ok(read) => put_named(out, at, whole, read.count as u64),
+        Err(broken) => put_named(out, at, damaged, broken.place as u64),
     }
 }
 

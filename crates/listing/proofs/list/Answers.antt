@@ -13,22 +13,16 @@ returns-then-j-gt2048 c = let put = listed_put c.args.j.now c.args.out.now (omeg
     record { value = put.0; out_after = put.1.0; prefix_len = put.1.1 }
 
 pub put_whole-requires : goal.put_whole-requires
-put_whole-requires c = whole_between _ c.in-Whole.is c.read-reading.ensures.value
+put_whole-requires c = whole_between _ c.in-Ok.is c.read.ensures.value
 
-pub returns-in-Whole : goal.returns-in-Whole
-returns-in-Whole c = let put = listed_put c.args.j.now c.args.out.now (omega arith)
-    (pieces_read _ (omega arith) (listing_as _ c.in-Whole.is c.read-reading.ensures.value))
+pub returns-in-Ok : goal.returns-in-Ok
+returns-in-Ok c = let put = listed_put c.args.j.now c.args.out.now (omega arith)
+    (pieces_read _ (omega arith) (listing_as _ c.in-Ok.is c.read.ensures.value))
     c.put_whole.ensures in
     record { value = put.0; out_after = put.1.0; prefix_len = put.1.1 }
 
-pub returns-in-Unknown : goal.returns-in-Unknown
-returns-in-Unknown c = let put = listed_put c.args.j.now c.args.out.now (omega arith)
-    (pieces_read _ (omega arith) (listing_as _ c.in-Unknown.is c.read-reading.ensures.value))
+pub returns-in-Err : goal.returns-in-Err
+returns-in-Err c = let put = listed_put c.args.j.now c.args.out.now (omega arith)
+    (pieces_read _ (omega arith) (listing_as _ c.in-Err.is c.read.ensures.value))
     c.put_damaged.ensures in
-    record { value = put.0; out_after = put.1.0; prefix_len = put.1.1 }
-
-pub returns-in-Cut : goal.returns-in-Cut
-returns-in-Cut c = let put = listed_put c.args.j.now c.args.out.now (omega arith)
-    (pieces_read _ (omega arith) (listing_as _ c.in-Cut.is c.read-reading.ensures.value))
-    c.put_damaged-in-Cut.ensures in
     record { value = put.0; out_after = put.1.0; prefix_len = put.1.1 }

@@ -3,14 +3,10 @@ use Rattle.show.specs.Show.{reading_text}
 use Rattle.text.proofs.laws.Pieces.{same_pieces}
 use Rattle.show.proofs.put_reading.Goals as goal
 
-pub returns-in-Whole : goal.returns-in-Whole
+pub returns-in-Ok : goal.returns-in-Ok
 unfolding reading_text
-returns-in-Whole c = same_pieces _ (sym (ap (reading_text _ _) c.in-Whole.is)) c.put_named.ensures
+returns-in-Ok c = same_pieces _ (sym (ap (reading_text _ _) c.in-Ok.is)) c.put_named.ensures
 
-pub returns-in-Unknown : goal.returns-in-Unknown
+pub returns-in-Err : goal.returns-in-Err
 unfolding reading_text
-returns-in-Unknown c = same_pieces _ (sym (ap (reading_text _ _) c.in-Unknown.is)) c.put_named-in-Unknown.ensures
-
-pub returns-in-Cut : goal.returns-in-Cut
-unfolding reading_text
-returns-in-Cut c = same_pieces _ (sym (ap (reading_text _ _) c.in-Cut.is)) c.put_named-in-Cut.ensures
+returns-in-Err c = same_pieces _ (sym (ap (reading_text _ _) c.in-Err.is)) c.put_named-in-Err.ensures

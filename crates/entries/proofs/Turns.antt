@@ -8,11 +8,14 @@ use native.Mathlib.Omega.{arith}
 use borrow.Author.Tests.{leb-true, leb-false}
 use lib.Dec.{leb}
 use lib.ListN.{length, get_or, get_or-eq_default}
-use Rattle.entries.specs.declared.Reading.TheVariants.{Whole, Unknown, Cut}
-use Rattle.entries.specs.Entries.{Entry, Table, body_lengths, body_len, journal_table, Scan, scan_by, entries_of, newest_at, reading_of}
+use Rattle.std.specs.Prelude.{Result, Ok, Err}
+use Rattle.entries.specs.declared.Fault.{Fault}
+use Rattle.entries.specs.declared.Fault.TheVariants.{UnknownKind, Cut}
+use Rattle.entries.specs.Entries.{Entry, Table, body_lengths, body_len, journal_table, Scan, scan_by, entries_of, newest_at, reading_of, next_for, some_next}
 use Rattle.entries.proofs.laws.ByTable.{count_written, newest_written}
 use Rattle.entries.proofs.laws.Entries.{known_kind}
 use Rattle.entries.proofs.laws.Placed.{first_place, place_written, scan_end, scan_unknown, scan_cut, entry_at, next_place}
+use Rattle.entries.proofs.laws.Next.{Leads, leads_at}
 use Rattle.entries.specs.Places.{Placed}
 
 -- ---- the journal's kinds
@@ -63,7 +66,7 @@ unfolding newest_at
 passed_none t j = record { entries = []; place = first_place t j; counted = refl; placed = refl }
 
 module _ {t : Table} {j : List ℕ} {at count newest : ℕ} (p : Passed t j at count newest) where
-  pub passed_all : length j ≤ at → Whole count newest ≡ reading_of (scan_by t j)
+  pub passed_all : length j ≤ at → Ok (record { count = count; newest = newest }) ≡ reading_of (scan_by t j)
   unfolding reading_of
   passed_all h = rw (scan_end p.place h, p.counted, p.placed)
 
@@ -82,9 +85,9 @@ module _ {t : Table} {j : List ℕ} {at count newest : ℕ} (p : Passed t j at c
     unfolding entries_of
     counted_unknown none = p.counted ∙ sym (ap (λ (s : Scan). length (entries_of s)) (scan_unknown p.place more none))
 
-    pub passed_unknown : 0 ≡ t (get_or j at 0) → Unknown at ≡ reading_of (scan_by t j)
+    pub passed_unknown : 0 ≡ t (get_or j at 0) → Err (record { place = at; fault = UnknownKind }) ≡ reading_of (scan_by t j)
     unfolding reading_of
-    passed_unknown none = ap Unknown (place_written p.place) ∙ sym (ap reading_of (scan_unknown p.place more none))
+    passed_unknown none = ap (λ (n : ℕ). Err (record { place = n; fault = UnknownKind })) (place_written p.place) ∙ sym (ap reading_of (scan_unknown p.place more none))
 
     -- a kind whose entries have n bytes
     module _ {n : ℕ} (size : n ≡ t (get_or j at 0)) (known : n ≡ 0 → ⊥) where
@@ -95,15 +98,30 @@ module _ {t : Table} {j : List ℕ} {at count newest : ℕ} (p : Passed t j at c
       unfolding entries_of
       counted_cut h = p.counted ∙ sym (ap (λ (s : Scan). length (entries_of s)) (scan_cut p.place more with_body (omega arith)))
 
-      pub passed_cut : length j - at < n → Cut at ≡ reading_of (scan_by t j)
+      pub passed_cut : length j - at < n → Err (record { place = at; fault = Cut }) ≡ reading_of (scan_by t j)
       unfolding reading_of
-      passed_cut h = ap Cut (place_written p.place) ∙ sym (ap reading_of (scan_cut p.place more with_body (omega arith)))
+      passed_cut h = ap (λ (n : ℕ). Err (record { place = n; fault = Cut })) (place_written p.place) ∙ sym (ap reading_of (scan_cut p.place more with_body (omega arith)))
 
       pub passed_next : n ≤ length j - at → Passed t j (at + n) (count + 1) at
       unfolding newest_at
       passed_next h = record {
         entries = entry_at j at (n - 1) ∷ p.entries;
         place = next_place p.place more with_body (omega arith) (omega arith);
+        counted = add-one count ∙ ap suc p.counted;
+        placed = place_written p.place;
+      }
+
+    -- by the length of its entries and how much is left
+    module _ {m : ℕ} {x : Result ℕ Fault} (size : m ≡ t (get_or j at 0)) (is : x ≡ next_for m (length j - at)) where
+      pub turn_broken : {fault : Fault} → x ≡ Err fault → Leads t j at p.entries (Err fault)
+      unfolding some_next
+      turn_broken e = leads_at p.place more size (sym e ∙ is)
+
+      pub turn_next : {n : ℕ} → x ≡ Ok n → Passed t j (at + n) (count + 1) at
+      unfolding some_next newest_at
+      turn_next e = record {
+        entries = _;
+        place = leads_at p.place more size (sym e ∙ is);
         counted = add-one count ∙ ap suc p.counted;
         placed = place_written p.place;
       }

@@ -1,10 +1,10 @@
 -- Document 01, "The journal": each entry is one byte of kind, then a body whose length the kind fixes. A trace (document 02, a) is made of such
 -- entries too, of other kinds: a row of entries is read by a table of lengths, and the journal's is one such table.
-use Rattle.std.specs.Prelude.{ℕ, zero, suc, ◌≤◌, cond, List, [], ◌∷◌, ◌++◌, ◌≡◌, ltb, eqb, length, get_or, drop}
-use Rattle.entries.specs.declared.Reading.{Reading}
-use Rattle.entries.specs.declared.Reading.TheVariants.{Whole, Unknown, Cut}
-use Rattle.entries.specs.declared.Next.{Next}
-use Rattle.entries.specs.declared.Next.TheVariants.{Stands, NoKind, CutShort, End}
+use Rattle.std.specs.Prelude.{ℕ, zero, suc, ◌≤◌, cond, List, [], ◌∷◌, ◌++◌, ◌≡◌, ltb, eqb, length, get_or, drop, Option, None, Some, Result, Ok, Err}
+use Rattle.entries.specs.declared.Whole.{Whole}
+use Rattle.entries.specs.declared.Broken.{Broken}
+use Rattle.entries.specs.declared.Fault.{Fault}
+use Rattle.entries.specs.declared.Fault.TheVariants.{UnknownKind, Cut}
 
 pub record Entry : Type 0 where
   pub kind : ℕ
@@ -62,25 +62,36 @@ unfoldable pub newest_at : List Entry → ℕ
 newest_at [] = 0
 newest_at (e ∷ es) = length (written es)
 
+-- whole entries, or what breaks them
+abbrev pub Reading : Type 0
+Reading = Result Whole Broken
+
 unfoldable pub reading_of : Scan → Reading
-reading_of (between es) = Whole (length es) (newest_at es)
-reading_of (within es k b n) = Cut (length (written es))
-reading_of (unknown es) = Unknown (length (written es))
+reading_of (between es) = Ok (record { count = length es; newest = newest_at es })
+reading_of (within es k b n) = Err (record { place = length (written es); fault = Cut })
+reading_of (unknown es) = Err (record { place = length (written es); fault = UnknownKind })
 
 -- a place that was found lies within the n bytes read
 abbrev pub ReadingFits : ℕ → Reading → Type 0
-ReadingFits n (Whole count newest) = (newest ≤ n) × (count ≤ n)
-ReadingFits n (Unknown at) = at ≤ n
-ReadingFits n (Cut at) = at ≤ n
+ReadingFits n (Ok whole) = (whole.newest ≤ n) × (whole.count ≤ n)
+ReadingFits n (Err broken) = broken.place ≤ n
 
 -- ---- one entry at a time: what stands at the front of bytes
 
 -- a kind whose entries have n bytes, where there are so many
-unfoldable pub next_for : ℕ → ℕ → Next
-next_for n have = cond (eqb n 0) NoKind (cond (ltb have n) CutShort (Stands n))
+unfoldable pub next_for : ℕ → ℕ → Result ℕ Fault
+next_for n have = cond (eqb n 0) (Err UnknownKind) (cond (ltb have n) (Err Cut) (Ok n))
+
+-- the length of a whole entry, none at the end, or why it won't read
+abbrev pub Next : Type 0
+Next = Result (Option ℕ) Fault
+
+unfoldable pub some_next : Result ℕ Fault → Next
+some_next (Ok n) = Ok (Some n)
+some_next (Err fault) = Err fault
 
 unfoldable pub next_by : Table → List ℕ → Next
-next_by t b = cond (eqb (length b) 0) End (next_for (t (get_or b 0 0)) (length b))
+next_by t b = cond (eqb (length b) 0) (Ok None) (some_next (next_for (t (get_or b 0 0)) (length b)))
 
 -- the entry that is these bytes
 abbrev pub entry_of : List ℕ → Entry

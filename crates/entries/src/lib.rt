@@ -4,35 +4,39 @@
 ghost use Rattle.std.specs.Prelude.{◌≡◌, length};
 ghost use Rattle.entries.specs.Entries.{body_len, scan, reading_of, ReadingFits, next_for};
 
-// What lent bytes read as: whole entries, how many and where the newest starts (0 where there is none), or the place of
-// the entry that breaks them.
-#[derive(Clone, Copy)]
-pub enum Reading {
-    Whole { count: usize, newest: usize },
-    Unknown(usize),
-    Cut(usize),
+// Whole entries: how many, and where the newest starts, 0 where there is none.
+#[derive(Clone, Copy, PartialEq, Eq)]
+pub struct Whole {
+    pub count: usize,
+    pub newest: usize,
 }
 
-// What stands at the front of bytes: a whole entry, with its length; no kind that there is; an entry that is cut; or nothing, at the end.
-#[derive(Clone, Copy)]
-pub enum Next {
-    Stands(usize),
-    NoKind,
-    CutShort,
-    End,
+// Why an entry won't read: its kind is none that there is, or it is cut.
+#[derive(Clone, Copy, PartialEq, Eq)]
+pub enum Fault {
+    UnknownKind,
+    Cut,
 }
 
-// At a kind whose entries have `len` bytes, 0 where there is no such kind, and so many there are.
-pub fn next_for(len: usize, have: usize) -> Next
+// The place of the entry that breaks a row of them, and why.
+#[derive(Clone, Copy, PartialEq, Eq)]
+pub struct Broken {
+    pub place: usize,
+    pub fault: Fault,
+}
+
+// The length of the entry at the front of bytes: its kind's entries have `len` bytes, 0 where there is no such kind,
+// and so many there are.
+pub fn next_for(len: usize, have: usize) -> Result<usize, Fault>
     ensures { result ≡ next_for len have }
 {
     if len == 0 {
-        return Next::NoKind;
+        return Err(Fault::UnknownKind);
     }
     if have < len {
-        return Next::CutShort;
+        return Err(Fault::Cut);
     }
-    Next::Stands(len)
+    Ok(len)
 }
 
 // Document 01, "The journal": the length of each kind's body; 0 where there is no such kind. A `match`, because a table in a constant
@@ -69,7 +73,8 @@ pub fn next_len(last: u8, n: usize, kind: u8) -> usize
     body_len(kind)
 }
 
-pub fn read(j: &[u8]) -> Reading
+// How lent bytes read.
+pub fn read(j: &[u8]) -> Result<Whole, Broken>
     ensures value { result ≡ reading_of (scan j.now) }
     ensures reading_fits { ReadingFits (length j.now) result }
 {
@@ -83,17 +88,20 @@ pub fn read(j: &[u8]) -> Reading
         n = next_len(last, n, kind);
         last = kind;
         if n == 0 {
-            return Reading::Unknown(at);
+            return Err(Broken {
+                place: at,
+                fault: Fault::UnknownKind,
+            });
         }
         if j.len() - at <= n {
-            return Reading::Cut(at);
+            return Err(Broken {
+                place: at,
+                fault: Fault::Cut,
+            });
         }
         newest = at;
         count += 1;
         at += n + 1;
     }
-    Reading::Whole {
-        count: count,
-        newest: newest,
-    }
+    Ok(Whole { count, newest })
 }

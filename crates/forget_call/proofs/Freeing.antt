@@ -28,8 +28,7 @@ use Rattle.inplace.specs.declared.Told.{Told}
 use Rattle.inplace.specs.InPlace.{HeadStands, Marked}
 use Rattle.inplace.proofs.laws.Silent as silent
 use Rattle.inplace.proofs.laws.Marked.{formed_marked}
-use Rattle.forget_call.specs.declared.Oldest.{Oldest}
-use Rattle.forget_call.specs.declared.Oldest.TheVariants.{End, Fewer}
+use Rattle.std.specs.Prelude.{Option, None, Some}
 use Rattle.forget_call.specs.Forget.{oldest_asks, forget_asks, forget_call, forget_left, forgot_by, forget_on, OldestEnd}
 use Rattle.forget_call.proofs.Walks.{enough, ends_at}
 
@@ -216,15 +215,15 @@ module _ (h : Head) (b : List ℕ) (here : HeadStands h b) (whole : well_formed 
   unfolding held_in entries_in session_in
   held_is = ap (λ (l : List ℕ). length (entries_of (scan l))) (used_part journal_at h.used b used_low)
 
-  module _ (n : ℕ) (found : Oldest) (is : OldestEnd j n found) where
-    pub fewer_held : (t : Told) → t ≡ record { answer = 9; small = 0; beside = 0 } → found ≡ Fewer → Tells s t b (oldest_asks n s)
+  module _ (n : ℕ) (found : Option ℕ) (is : OldestEnd j n found) where
+    pub fewer_held : (t : Told) → t ≡ record { answer = 9; small = 0; beside = 0 } → found ≡ None → Tells s t b (oldest_asks n s)
     unfolding oldest_asks
     fewer_held t p e =
         let less : length (entries_of (scan j)) < n = subst (OldestEnd j n) e is in
         by_number h b here 9 t p (if_lt _ _ {m = held_in s} {n = n} (omega (arith, less, held_is)) refl)
 
-    module _ (at : ℕ) (e : found ≡ End at) where
-      ended : OldestEnd j n (End at)
+    module _ (at : ℕ) (e : found ≡ Some at) where
+      ended : OldestEnd j n (Some at)
       ended = subst (OldestEnd j n) e is
 
       at_is : at ≡ freed_by n s

@@ -15,7 +15,7 @@ use Rattle.entries.specs.Places.{Place}
 use Rattle.marks.specs.Marks.{milestones, spelled, marks_of}
 use Rattle.marks.proofs.laws.Marks.{thirty_second, two_each, length_marks, keeps_marks, marks_more}
 use Rattle.session.specs.Road.{oldest}
-use Rattle.forget_call.specs.declared.Oldest.TheVariants.{End, Fewer}
+use Rattle.std.specs.Prelude.{None, Some}
 use Rattle.forget_call.specs.Forget.{OldestEnd, marked_at}
 
 -- ---- the entries before a place are the oldest
@@ -63,10 +63,10 @@ module _ (j : List ℕ) (whole : ReadsWhole j) (at count : ℕ) (c : Came j at c
   unfolding entries_of
   came_all h = ap entries_of (scan_end c.place h)
 
-  pub too_few : (n : ℕ) → length j ≤ at → count < n → OldestEnd j n Fewer
+  pub too_few : (n : ℕ) → length j ≤ at → count < n → OldestEnd j n None
   too_few n h less = omega (arith, less, c.counted, ap length (came_all h))
 
-  pub found_end : (n : ℕ) → n ≤ count → count ≤ n → OldestEnd j n (End at)
+  pub found_end : (n : ℕ) → n ≤ count → count ≤ n → OldestEnd j n (Some at)
   found_end n low high = (c.entries, c.place, omega (arith, low, high, c.counted))
 
   pub few : at < length j → length j ≤ 2048 → count < 1024

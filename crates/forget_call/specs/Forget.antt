@@ -1,6 +1,6 @@
 -- Document 02, j: "Add a call that forgets the n oldest changes and moves the rest down, so that their room is used again": what the call `forget` comes
 -- to, for every session and every number.
-use Rattle.std.specs.Prelude.{ℕ, ◌*◌, ◌/◌, ◌%◌, ◌<◌, cond, not, List, [], ◌≡◌, length, ltb, eqb}
+use Rattle.std.specs.Prelude.{ℕ, ◌*◌, ◌/◌, ◌%◌, ◌<◌, cond, not, List, [], ◌≡◌, length, ltb, eqb, Option, None, Some}
 use Rattle.wire.specs.Conditions.{◌and◌}
 use Rattle.wire.specs.Wire.{to_be, pasted}
 use Rattle.entries.specs.Entries.{Entry, entries_of, scan}
@@ -11,8 +11,6 @@ use Rattle.session.specs.declared.Session.{Session}
 use Rattle.image.specs.Image.{image_of}
 use Rattle.inplace.specs.declared.Told.{Told}
 use Rattle.inplace.specs.InPlace.{Left, on_image}
-use Rattle.forget_call.specs.declared.Oldest.{Oldest}
-use Rattle.forget_call.specs.declared.Oldest.TheVariants.{End, Fewer}
 
 -- "9, n greater than the changes held"
 unfoldable pub oldest_asks : ℕ → Session → Asks
@@ -45,9 +43,9 @@ ForgetAllows n b told image = (told ≡ (forget_on n b).told) and (image ≡ (fo
 -- ---- walks over a journal's bytes, which read as entries
 
 -- the n oldest stand before a place; or there are fewer
-abbrev pub OldestEnd : List ℕ → ℕ → Oldest → Type 0
-OldestEnd j n (End at) = (es : List Entry) × Place j at es × (length es ≡ n)
-OldestEnd j n Fewer = length (entries_of (scan j)) < n
+abbrev pub OldestEnd : List ℕ → ℕ → Option ℕ → Type 0
+OldestEnd j n (Some at) = (es : List Entry) × Place j at es × (length es ≡ n)
+OldestEnd j n None = length (entries_of (scan j)) < n
 
 -- an entry with n before it, which begins at a place, put into the marks (i): they say where every 32nd one begins
 unfoldable pub marked_at : ℕ → ℕ → List ℕ → List ℕ

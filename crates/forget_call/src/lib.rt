@@ -17,15 +17,8 @@ use inplace::Told;
 
 // ---- the entries that go
 
-// Where the oldest entries end; or that there are fewer than asked for.
-#[derive(Clone, Copy)]
-enum Oldest {
-    End(usize),
-    Fewer,
-}
-
-// Of bytes that read as entries, the `n` oldest.
-fn oldest_end(j: &[u8], n: usize) -> Oldest
+// Where the `n` oldest end, of bytes that read as entries; none where there are fewer.
+fn oldest_end(j: &[u8], n: usize) -> Option<usize>
     requires { ReadsWhole j.now }
     ensures { OldestEnd j.now n result }
 {
@@ -33,12 +26,12 @@ fn oldest_end(j: &[u8], n: usize) -> Oldest
     let mut count = 0;
     while count < n {
         if j.len() <= at {
-            return Oldest::Fewer;
+            return None;
         }
         at += entries::body_len(j[at]) + 1;
         count += 1;
     }
-    Oldest::End(at)
+    Some(at)
 }
 
 // ---- the bytes that stay
@@ -131,8 +124,7 @@ fn forget_oldest(lent: &mut [u8], h: Head, n: usize) -> Told
     ensures lent_after { lent.new ≡ (forgot_by (session_in h lent.old) (oldest_asks n (session_in h lent.old))).image }
 {
     let end = layout::JOURNAL + h.used as usize;
-    let found = oldest_end(&lent[layout::JOURNAL..end], n);
-    let Oldest::End(at) = found else {
+    let Some(at) = oldest_end(&lent[layout::JOURNAL..end], n) else {
         return inplace::answer_with(9, 0);
     };
     free(lent, h, at);

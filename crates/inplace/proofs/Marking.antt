@@ -11,7 +11,7 @@ use Rattle.wire.specs.Wire.{to_be, pasted}
 use Rattle.entries.specs.Entries.{Entry, scan, reading_of}
 use Rattle.marks.specs.declared.Mark.{Mark}
 use Rattle.marks.specs.declared.Newest.{Newest}
-use Rattle.marks.specs.declared.Newest.TheVariants.{At, Nothing}
+use Rattle.std.specs.Prelude.{Option, None, Some}
 use Rattle.marks.specs.Marks.{marks_of, same, passed_of, Last, newest_of}
 use Rattle.marks.proofs.laws.Last.{NewestIs}
 use Rattle.journal.specs.Ways.{by_way}
@@ -60,23 +60,23 @@ module _ (b : List ℕ) (long : length b ≡ image_length) (used : ℕ) (m : Mar
   unchanged : ((e : Entry) → marks_of (e ∷ m.entries) ≡ marks_in b) → MarksMore used b b
   unchanged h e = sym (part_same marks_size b (marks_in b) marks_at refl) ∙ more_are (marks_in b) h e
 
-  module _ (found : Newest) (is : found ≡ newest_of (reading_of (scan (take (journal_at + used - (journal_at + x.place)) (drop (journal_at + x.place) b))))) where
-    pub none_more : found ≡ Nothing → MarksMore used b b
+  module _ (found : Option Newest) (is : found ≡ newest_of (reading_of (scan (take (journal_at + used - (journal_at + x.place)) (drop (journal_at + x.place) b))))) where
+    pub none_more : found ≡ None → MarksMore used b b
     none_more z = unchanged (λ e. first_marks b long used m x l room e (empty_journal b long used m x l found is z))
 
-    module _ (place passed : ℕ) (there : found ≡ At place passed) where
-      newest : NewestIs m.entries (x.place + place) passed
-      newest = newest_there b long used m x l found is place passed there
+    module _ (n : Newest) (there : found ≡ Some n) where
+      newest : NewestIs m.entries (x.place + n.place) n.passed
+      newest = newest_there b long used m x l found is n there
 
-      pub unmarked_more : (passed ≡ 31 → ⊥) → MarksMore used b b
-      unmarked_more h = unchanged (λ e. same_marks b long used m x l room _ passed newest e h)
+      pub unmarked_more : (n.passed ≡ 31 → ⊥) → MarksMore used b b
+      unmarked_more h = unchanged (λ e. same_marks b long used m x l room _ n.passed newest e h)
 
-      pub marked_more : passed ≡ 31 → (y : List ℕ) → y ≡ pasted (2 * (x.number + 1)) (to_be 2 used) (marks_in b) → MarksMore used b (with_part marks_size marks_at y b)
-      marked_more h y p = more_are y (λ e. one_marked b long used m x l room _ passed newest e h ∙ sym p)
+      pub marked_more : n.passed ≡ 31 → (y : List ℕ) → y ≡ pasted (2 * (x.number + 1)) (to_be 2 used) (marks_in b) → MarksMore used b (with_part marks_size marks_at y b)
+      marked_more h y p = more_are y (λ e. one_marked b long used m x l room _ n.passed newest e h ∙ sym p)
 
       -- the next mark is one of the 32
-      pub next_room : passed ≡ 31 → 2 * (x.number + 1) + 2 ≤ length (marks_in b)
-      next_room h = omega (arith, next_low b long used m x l room _ passed newest h, (parts_long b long).0)
+      pub next_room : n.passed ≡ 31 → 2 * (x.number + 1) + 2 ≤ length (marks_in b)
+      next_room h = omega (arith, next_low b long used m x l room _ n.passed newest h, (parts_long b long).0)
 
 -- ---- the newest less
 

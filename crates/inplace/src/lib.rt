@@ -16,7 +16,6 @@ ghost use Rattle.inplace.specs.InPlace.{Marked, MarksMore, Entered, MarkedTo, he
 use change::Edit;
 use image::Head;
 use journal::{End, Way};
-use marks::Newest;
 
 // A session answer; beside it a small number, the reason of a status 0x13, and one of 16 bits: the place of that status, the doorbell, the kind
 // moved. 0 where a call has none.
@@ -148,11 +147,10 @@ pub fn mark_added(lent: &mut [u8], used: usize)
     let last = marks::last(&lent[layout::MARKS..layout::TIMER]);
     let start = layout::JOURNAL + last.place;
     let end = layout::JOURNAL + used;
-    let found = marks::find_newest(&lent[start..end]);
-    let Newest::At(_, passed) = found else {
+    let Some(newest) = marks::find_newest(&lent[start..end]) else {
         return;
     };
-    if passed != 31 {
+    if newest.passed != 31 {
         return;
     }
     let next = 2 * (last.number + 1);

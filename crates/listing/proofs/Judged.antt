@@ -5,9 +5,9 @@ use mathlib.Core.List.{List, [], ◌∷◌}
 use native.Mathlib.Omega.{arith}
 use lib.ListN.{length}
 use Rattle.wire.proofs.laws.Cases.{if_lt, else_lt}
-use Rattle.entries.specs.declared.Reading.{Reading}
-use Rattle.entries.specs.declared.Reading.TheVariants.{Whole, Unknown, Cut}
-use Rattle.entries.specs.Entries.{Entry, Scan, between, within, unknown, scan, entries_of, reading_of}
+use Rattle.entries.specs.declared.Whole.{Whole}
+use Rattle.std.specs.Prelude.{Ok, Err}
+use Rattle.entries.specs.Entries.{Entry, Scan, between, within, unknown, scan, entries_of, Reading, reading_of}
 use Rattle.io.specs.Counts.{IsPrefixLen}
 use Rattle.text.specs.Text.{sheet, put_all}
 use Rattle.text.proofs.laws.Pieces.{fitting}
@@ -16,17 +16,16 @@ use Rattle.listing.proofs.laws.Lengths.{length_listing}
 
 -- ---- what a reading says of the bytes
 
-whole_scan : (s : Scan) (count newest : ℕ) → reading_of s ≡ Whole count newest → s ≡ between (entries_of s)
+whole_scan : (s : Scan) {w : Whole} → reading_of s ≡ Ok w → s ≡ between (entries_of s)
 unfolding reading_of entries_of
-whole_scan (between es) count newest e = refl
-whole_scan (within es k b n) count newest e = let z : ◌≡◌ {A = ℕ} 0 1 = cc in absurd (omega arith)
-whole_scan (unknown es) count newest e = let z : ◌≡◌ {A = ℕ} 0 1 = cc in absurd (omega arith)
+whole_scan (between es) e = refl
+whole_scan (within es k b n) e = cc
+whole_scan (unknown es) e = cc
 
 -- the listing by the reading
 abbrev by_reading : Reading → List Entry → List (List ℕ)
-by_reading (Whole count newest) es = whole count es
-by_reading (Unknown place) es = damaged_at place
-by_reading (Cut place) es = damaged_at place
+by_reading (Ok read) es = whole read.count es
+by_reading (Err broken) es = damaged_at broken.place
 
 by_scan : (s : Scan) → by_reading (reading_of s) (entries_of s) ≡ listing_of s
 unfolding reading_of entries_of listing_of
@@ -38,8 +37,8 @@ by_scan (unknown es) = refl
 pub listing_as : (j : List ℕ) {r c : Reading} → r ≡ c → r ≡ reading_of (scan j) → by_reading c (entries_of (scan j)) ≡ listing_of (scan j)
 listing_as j is e = ap (λ (x : Reading). by_reading x (entries_of (scan j))) (sym is ∙ e) ∙ by_scan (scan j)
 
-pub whole_between : (j : List ℕ) {r : Reading} {count newest : ℕ} → r ≡ Whole count newest → r ≡ reading_of (scan j) → scan j ≡ between (entries_of (scan j))
-whole_between j {count = count} {newest = newest} is e = whole_scan (scan j) count newest (sym e ∙ is)
+pub whole_between : (j : List ℕ) {r : Reading} {w : Whole} → r ≡ Ok w → r ≡ reading_of (scan j) → scan j ≡ between (entries_of (scan j))
+whole_between j is e = whole_scan (scan j) (sym e ∙ is)
 
 -- ---- the order of the judgements
 

@@ -7,7 +7,6 @@ ghost use Rattle.entries.specs.Entries.{between, scan, entries_of};
 ghost use Rattle.text.specs.Pages.{Puts};
 ghost use Rattle.listing.specs.Listing.{line, lines_of, whole, damaged_at, pieces_of, listed, listed_length};
 
-use entries::Reading;
 use text::Page;
 
 // The longest listing is 6,157 bytes: 13 of `journal N`, and at most 3 for each of 2,048 bytes.
@@ -66,8 +65,8 @@ fn put_listing(page: &mut Page, j: &[u8])
         return;
     }
     match entries::read(j) {
-        Reading::Whole { count, .. } => put_whole(page, j, count),
-        Reading::Unknown(place) | Reading::Cut(place) => put_damaged(page, place),
+        Ok(read) => put_whole(page, j, read.count),
+        Err(broken) => put_damaged(page, broken.place),
     }
 }
 

@@ -1,3 +1,2 @@
 pub mod laws
 pub mod Seen
-pub mod Found

@@ -1,12 +1,9 @@
 -- Document 02, i: "Keep a mark at every 32nd entry, counting the first as marked". Demand 3 has marks of its own, so in definitions these places are milestones.
-use Rattle.std.specs.Prelude.{ℕ, ◌+◌, ◌-◌, ◌*◌, ◌/◌, ◌%◌, ◌≤◌, ◌<◌, Bool, true, false, cond, ◌≡◌, List, [], ◌∷◌, ◌++◌, eqb, length, take, drop, replicate}
+use Rattle.std.specs.Prelude.{ℕ, ◌+◌, ◌-◌, ◌*◌, ◌/◌, ◌%◌, ◌≤◌, ◌<◌, Bool, true, false, cond, ◌≡◌, List, [], ◌∷◌, ◌++◌, eqb, length, take, drop, replicate, Option, None, Some, Ok, Err}
 use Rattle.wire.specs.Wire.{be_nat, to_be, all_are}
-use Rattle.entries.specs.Entries.{Entry, written}
-use Rattle.entries.specs.declared.Reading.{Reading}
-use Rattle.entries.specs.declared.Reading.TheVariants.{Whole, Unknown, Cut}
+use Rattle.entries.specs.Entries.{Entry, written, Reading}
 use Rattle.marks.specs.declared.Mark.{Mark}
 use Rattle.marks.specs.declared.Newest.{Newest}
-use Rattle.marks.specs.declared.Newest.TheVariants.{At, Nothing}
 
 -- where every 32nd entry begins, the oldest first; the entries stand newest first
 unfoldable pub milestones : List Entry → List ℕ
@@ -62,15 +59,14 @@ pub record Last (m : List ℕ) (x : Mark) : Type 0 where
   pub ends : x.number < 31 → mark_in m (x.number + 1) ≡ 0
 
 -- what a part's reading says: where its newest entry begins, and how many are passed on the way there
-unfoldable pub newest_of : Reading → Newest
-newest_of (Whole count newest) = cond (eqb count 0) Nothing (At newest (count - 1))
-newest_of (Unknown at) = Nothing
-newest_of (Cut at) = Nothing
+unfoldable pub newest_of : Reading → Option Newest
+newest_of (Ok whole) = cond (eqb whole.count 0) None (Some (record { place = whole.newest; passed = whole.count - 1 }))
+newest_of (Err broken) = None
 
 -- both lie within the n bytes read
-abbrev pub NewestFits : ℕ → Newest → Type 0
-NewestFits n (At place passed) = (place ≤ n) × (passed ≤ n)
-NewestFits n Nothing = Unit {0}
+abbrev pub NewestFits : ℕ → Option Newest → Type 0
+NewestFits n (Some newest) = (newest.place ≤ n) × (newest.passed ≤ n)
+NewestFits n None = Unit {0}
 
 unfoldable pub last_mark : List Entry → ℕ
 last_mark [] = 0

@@ -5,8 +5,6 @@ ghost use Rattle.std.specs.Prelude.{◌≡◌, ◌≤◌, ◌<◌, length};
 ghost use Rattle.entries.specs.Entries.{scan, reading_of};
 ghost use Rattle.marks.specs.Marks.{mark_in, stands_at, rest_unused, Last, newest_of, NewestFits};
 
-use entries::Reading;
-
 // A mark: how many stand before it, and the place that it says.
 #[derive(Clone, Copy)]
 pub struct Mark {
@@ -22,11 +20,11 @@ fn place_in(m: &[u8], number: usize) -> usize
     wire::be16(m, 2 * number) as usize
 }
 
-// The newest entry of a part of a journal, and how many entries are passed on the way there; or that the part has none.
-#[derive(Clone, Copy)]
-pub enum Newest {
-    At(usize, usize),
-    Nothing,
+// The newest entry of a part of a journal: where it begins, and how many entries are passed on the way there.
+#[derive(Clone, Copy, PartialEq, Eq)]
+pub struct Newest {
+    pub place: usize,
+    pub passed: usize,
 }
 
 // ---- the test, entry by entry
@@ -78,16 +76,15 @@ pub fn last(m: &[u8]) -> Mark
 }
 
 // Finds the newest entry of the part that it gets, which is all that it sees, and counts each entry as it passes it.
-pub fn find_newest(part: &[u8]) -> Newest
+#[tactic(auto, unfolding(crate::specs::Marks::newest_of))]
+pub fn find_newest(part: &[u8]) -> Option<Newest>
     ensures value { result ≡ newest_of (reading_of (scan part.now)) }
     ensures newest_fits { NewestFits (length part.now) result }
 {
-    let reading = entries::read(part);
-    let Reading::Whole { count, newest } = reading else {
-        return Newest::Nothing;
-    };
-    if count == 0 {
-        return Newest::Nothing;
-    }
-    Newest::At(newest, count - 1)
+    let whole = entries::read(part).ok()?;
+    let passed = whole.count.checked_sub(1)?;
+    Some(Newest {
+        place: whole.newest,
+        passed,
+    })
 }

@@ -8,9 +8,8 @@ use lib.ListN.{length, drop, get_or, drop_of_length-le}
 use lib.Seq.{drop-cons, length-take-le}
 use Rattle.io.specs.Counts.{IsPrefixLen}
 use Rattle.wire.proofs.laws.Cases.{if_eq, else_eq}
-use Rattle.entries.specs.declared.Reading.{Reading}
-use Rattle.entries.specs.declared.Reading.TheVariants.{Whole, Unknown, Cut}
-use Rattle.entries.specs.Entries.{written, Scan, between, within, unknown, entries_of, reading_of}
+use Rattle.std.specs.Prelude.{Ok, Err}
+use Rattle.entries.specs.Entries.{written, Scan, between, within, unknown, entries_of, reading_of, Reading}
 use Rattle.entries.proofs.laws.ByTable.{scan_written, whole_length}
 use Rattle.trace.specs.Trace.{trace_table, trace_scan}
 use Rattle.parting.specs.Parting.{front}
@@ -69,9 +68,8 @@ module _ {t u : List ℕ} {i : ℕ} (a : Agreed t u i) where
 -- ---- the whole entries of a trace, by its reading
 
 abbrev whole_by : ℕ → Reading → ℕ
-whole_by n (Whole count newest) = n
-whole_by n (Unknown at) = at
-whole_by n (Cut at) = at
+whole_by n (Ok whole) = n
+whole_by n (Err broken) = broken.place
 
 whole_by_lem : (j : List ℕ) (s : Scan) → trace_scan j ≡ s → whole_by (length j) (reading_of s) ≡ length (written (entries_of s))
 unfolding reading_of entries_of

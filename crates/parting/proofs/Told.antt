@@ -11,20 +11,21 @@ use Rattle.io.specs.Counts.{IsPrefixLen}
 use Rattle.wire.proofs.laws.Cases.{if_lt, else_lt}
 use Rattle.text.specs.Text.{Sheet, sheet, put_on, put_all, ascii, line_end, decimal}
 use Rattle.text.proofs.laws.Pieces.{piece, pieces, last_piece, fitting}
-use Rattle.entries.specs.declared.Next.{Next}
-use Rattle.entries.specs.Entries.{written, entries_of, next_by}
+use Rattle.entries.specs.Entries.{written, entries_of, next_by, Next}
 use Rattle.entries.proofs.laws.ByTable.{count_written}
 use Rattle.trace.specs.Trace.{trace_table, trace_scan}
 use Rattle.parting.specs.declared.Refusal.{Refusal}
-use Rattle.parting.specs.declared.Refusal.TheVariants.{Nothing, UnknownInFirst, CutInFirst, UnknownInSecond, CutInSecond}
+use Rattle.parting.specs.declared.Refusal.TheVariants.{InFirst, InSecond}
+use Rattle.entries.specs.declared.Fault.{Fault}
 use Rattle.parting.specs.declared.Parting.{Parting}
 use Rattle.parting.specs.Parting.{front, shared_entries, shared_part, refused_for, refusal_of, parting_of}
 use Rattle.parting.specs.Lines.{shared_line, refusal_line, pieces_of, text_of, longest, told, told_length}
 use Rattle.parting.proofs.laws.Front.{begins_take, begins_fits, front_first}
 use Rattle.parting.proofs.laws.Parting.{part_common}
 use Rattle.parting.proofs.laws.Lengths.{length_refusal}
+use Rattle.std.specs.Prelude.{Option, None, Some, Ok, Err}
 
-abbrev parting_at : ℕ → ℕ → Refusal → Parting
+abbrev parting_at : ℕ → ℕ → Option Refusal → Parting
 parting_at entries next refusal = record { entries = entries; next = next; refusal = refusal }
 
 module _ (t u : List ℕ) {n : ℕ} (agree : n ≡ length (front t u)) where
@@ -50,26 +51,30 @@ module _ (t u : List ℕ) {n : ℕ} (agree : n ≡ length (front t u)) where
     unfolding shared_part
     count_fits = omega (arith, counted, count_written (shared_entries t u), begins_fits (part_common t u).first)
 
-    pub parting_is : {r : Refusal} → r ≡ refusal_of t u → parting_at count (count + 1) r ≡ parting_of t u
+    pub parting_is : {r : Option Refusal} → r ≡ refusal_of t u → parting_at count (count + 1) r ≡ parting_of t u
     unfolding parting_of
     parting_is f =
-        ap₂ (λ (m : ℕ) (x : Refusal). parting_at m (m + 1) x) counted f
+        ap₂ (λ (m : ℕ) (x : Option Refusal). parting_at m (m + 1) x) counted f
         ∙ ap (λ (m : ℕ). parting_at (length (shared_entries t u)) m (refusal_of t u)) (add-one (length (shared_entries t u)))
 
--- ---- the refusal: n is what stands at the front of a trace, x the variant that it is
+-- ---- the refusal: m and n are what stands at the front of the traces
 
-pub refused_as : (kind cut later : Refusal) {n x : Next} → n ≡ x → refused_for x kind cut later ≡ refused_for n kind cut later
-refused_as kind cut later is = ap (λ (y : Next). refused_for y kind cut later) (sym is)
+module _ (t u : List ℕ) {m : Next} (first : m ≡ next_by trace_table t) where
+  abbrev by_both : Next → Next → Option Refusal
+  by_both x y = refused_for x InFirst (refused_for y InSecond None)
 
-pub refusal_is : (t u : List ℕ) {m n : Next} {later r : Refusal} → n ≡ next_by trace_table u → later ≡ refused_for n UnknownInSecond CutInSecond Nothing
-    → m ≡ next_by trace_table t
-    → r ≡ refused_for m UnknownInFirst CutInFirst later
-    → r ≡ refusal_of t u
-unfolding refusal_of
-refusal_is t u n l m r =
-    r
-    ∙ ap₂ (λ (x : Next) (y : Refusal). refused_for x UnknownInFirst CutInFirst y) m
-    (l ∙ ap (λ (x : Next). refused_for x UnknownInSecond CutInSecond Nothing) n)
+  pub first_refused : {fault : Fault} → m ≡ Err fault → Some (InFirst fault) ≡ refusal_of t u
+  unfolding refused_for refusal_of
+  first_refused is = ap (λ (x : Next). by_both x (next_by trace_table u)) (sym is ∙ first)
+
+  module _ {n : Next} (second : n ≡ next_by trace_table u) {one : Option ℕ} (reads : m ≡ Ok one) where
+    pub second_refused : {fault : Fault} → n ≡ Err fault → Some (InSecond fault) ≡ refusal_of t u
+    unfolding refused_for refusal_of
+    second_refused is = ap₂ by_both (sym reads ∙ first) (sym is ∙ second)
+
+    pub none_refused : {two : Option ℕ} → n ≡ Ok two → None ≡ refusal_of t u
+    unfolding refused_for refusal_of
+    none_refused is = ap₂ by_both (sym reads ∙ first) (sym is ∙ second)
 
 -- ---- the lines
 
@@ -86,14 +91,16 @@ unfolding shared_line
 shared_put p {p1} {p2} {p3} {p4} {p5} {p6} entries bytes next e1 e2 e3 e4 e5 e6 e7 =
     piece p _ _ e1 (piece p1 _ _ e2 (piece p2 _ _ e3 (piece p3 _ _ e4 (piece p4 _ _ e5 (piece p5 _ _ e6 (last_piece p6 line_end e7))))))
 
-pub nothing_put : (p : Sheet) {r : Refusal} → r ≡ Nothing → p ≡ put_all p (refusal_line r)
+pub nothing_put : (p : Sheet) {r : Option Refusal} → r ≡ None → p ≡ put_all p (refusal_line r)
 unfolding refusal_line put_all
-nothing_put p is = ap (λ (x : Refusal). put_all p (refusal_line x)) (sym is)
+nothing_put p is = ap (λ (x : Option Refusal). put_all p (refusal_line x)) (sym is)
 
--- r is the refusal, x the variant that it is
-pub refusal_put : (p : Sheet) {q : Sheet} {r : Refusal} (x : Refusal) (words : List ℕ) → words ∷ [] ≡ refusal_line x → r ≡ x → q ≡ put_on p words
-    → q ≡ put_all p (refusal_line r)
-refusal_put p x words e is f = last_piece p words f ∙ ap (put_all p) (e ∙ ap refusal_line (sym is))
+-- r is the refusal, of one of the traces and for one of the faults
+pub refusal_put : (p : Sheet) {q : Sheet} {r : Option Refusal} (which : Fault → Refusal) (fault : Fault) (words : List ℕ) {x : Refusal} {f : Fault}
+    → words ∷ [] ≡ refusal_line (Some (which fault)) → r ≡ Some x → x ≡ which f → f ≡ fault → q ≡ put_on p words → q ≡ put_all p (refusal_line r)
+refusal_put p which fault words e is of_it by put =
+    let all = is ∙ ap Some of_it ∙ ap (λ (y : Fault). Some (which y)) by in
+    last_piece p words put ∙ ap (put_all p) (e ∙ ap refusal_line (sym all))
 
 module _ (t u d : List ℕ) where
   pub told_none : length d < longest → (0 ≡ told_length t u d) × ((d ≡ told t u d) × (IsPrefixLen 0 d × (0 ≤ longest)))

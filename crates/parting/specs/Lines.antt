@@ -1,9 +1,10 @@
 -- Document 02, f: the answer as the program `part` prints it. Text is put piece by piece.
-use Rattle.std.specs.Prelude.{ℕ, cond, List, [], ◌∷◌, ◌++◌, ltb, length}
+use Rattle.std.specs.Prelude.{ℕ, cond, List, [], ◌∷◌, ◌++◌, ltb, length, Option, None, Some}
 use Rattle.wire.specs.Wire.{pasted, joined}
 use Rattle.text.specs.Text.{ascii, line_end, decimal}
 use Rattle.parting.specs.declared.Refusal.{Refusal}
-use Rattle.parting.specs.declared.Refusal.TheVariants.{Nothing, UnknownInFirst, CutInFirst, UnknownInSecond, CutInSecond}
+use Rattle.parting.specs.declared.Refusal.TheVariants.{InFirst, InSecond}
+use Rattle.entries.specs.declared.Fault.TheVariants.{UnknownKind, Cut}
 use Rattle.parting.specs.Parting.{shared_part, parting_of}
 
 -- `shared N entries, M bytes; next N+1`
@@ -12,12 +13,12 @@ shared_line entries bytes next =
     ascii "shared " ∷ decimal entries ∷ ascii " entries, " ∷ decimal bytes ∷ ascii " bytes; next " ∷ decimal next ∷ line_end ∷ []
 
 -- "if a first entry won't read, a second line"
-unfoldable pub refusal_line : Refusal → List (List ℕ)
-refusal_line Nothing = []
-refusal_line UnknownInFirst = ascii "unknown kind in the first\n" ∷ []
-refusal_line CutInFirst = ascii "cut entry in the first\n" ∷ []
-refusal_line UnknownInSecond = ascii "unknown kind in the second\n" ∷ []
-refusal_line CutInSecond = ascii "cut entry in the second\n" ∷ []
+unfoldable pub refusal_line : Option Refusal → List (List ℕ)
+refusal_line None = []
+refusal_line (Some (InFirst UnknownKind)) = ascii "unknown kind in the first\n" ∷ []
+refusal_line (Some (InFirst Cut)) = ascii "cut entry in the first\n" ∷ []
+refusal_line (Some (InSecond UnknownKind)) = ascii "unknown kind in the second\n" ∷ []
+refusal_line (Some (InSecond Cut)) = ascii "cut entry in the second\n" ∷ []
 
 unfoldable pub pieces_of : List ℕ → List ℕ → List (List ℕ)
 pieces_of t u =

@@ -1,15 +1,13 @@
 -- Document 02, f: "Given two lent traces, return the longest run of whole entries they share at the start, as a part of the first one, with the number of
 -- the entry after it."
-use Rattle.std.specs.Prelude.{ℕ, suc, ◌≤◌, cond, ◌≡◌, List, [], ◌∷◌, ◌++◌, eqb, length}
+use Rattle.std.specs.Prelude.{ℕ, suc, ◌≤◌, cond, ◌≡◌, List, [], ◌∷◌, ◌++◌, eqb, length, Option, None, Some, Ok, Err}
 use Rattle.wire.specs.Conditions.{row, is}
-use Rattle.entries.specs.Entries.{Entry, written, between, entries_of, next_by}
-use Rattle.entries.specs.declared.Reading.{Reading}
-use Rattle.entries.specs.declared.Reading.TheVariants.{Unknown, Cut}
-use Rattle.entries.specs.declared.Next.{Next}
-use Rattle.entries.specs.declared.Next.TheVariants.{Stands, NoKind, CutShort, End}
+use Rattle.entries.specs.Entries.{Entry, written, between, entries_of, next_by, Reading, Next}
 use Rattle.trace.specs.Trace.{trace_table, trace_scan}
 use Rattle.parting.specs.declared.Refusal.{Refusal}
-use Rattle.parting.specs.declared.Refusal.TheVariants.{Nothing, UnknownInFirst, CutInFirst, UnknownInSecond, CutInSecond}
+use Rattle.parting.specs.declared.Refusal.TheVariants.{InFirst, InSecond}
+use Rattle.entries.specs.declared.Fault.{Fault}
+use Rattle.entries.specs.declared.Fault.TheVariants.{UnknownKind, Cut}
 use Rattle.parting.specs.declared.Parting.{Parting}
 
 -- ---- what is asked for
@@ -49,25 +47,23 @@ shared_part t u = written (shared_entries t u)
 -- ---- "a trace whose first entry won't read shares nothing, and the player's refusal for it stands beside the answer, the first trace's before the second's"
 
 -- by what stands at the front of a trace; an empty one refuses nothing
-unfoldable pub refused_for : Next → Refusal → Refusal → Refusal → Refusal
-refused_for (Stands n) kind cut later = later
-refused_for NoKind kind cut later = kind
-refused_for CutShort kind cut later = cut
-refused_for End kind cut later = later
+unfoldable pub refused_for : Next → (Fault → Refusal) → Option Refusal → Option Refusal
+refused_for (Ok next) which later = later
+refused_for (Err fault) which later = Some (which fault)
 
-unfoldable pub refusal_of : List ℕ → List ℕ → Refusal
+unfoldable pub refusal_of : List ℕ → List ℕ → Option Refusal
 refusal_of t u =
-    refused_for (next_by trace_table t) UnknownInFirst CutInFirst
-    (refused_for (next_by trace_table u) UnknownInSecond CutInSecond Nothing)
+    refused_for (next_by trace_table t) InFirst
+    (refused_for (next_by trace_table u) InSecond None)
 
 -- the same by how the player reads the traces, in order: the first row that holds
-abbrev pub PlayersRefusal : Reading → Reading → Refusal → Type 0
+abbrev pub PlayersRefusal : Reading → Reading → Option Refusal → Type 0
 PlayersRefusal r s =
-    row UnknownInFirst (r ≡ Unknown 0)
-    (row CutInFirst (r ≡ Cut 0)
-    (row UnknownInSecond (s ≡ Unknown 0)
-    (row CutInSecond (s ≡ Cut 0)
-    (is Nothing))))
+    row (Some (InFirst UnknownKind)) (r ≡ Err (record { place = 0; fault = UnknownKind }))
+    (row (Some (InFirst Cut)) (r ≡ Err (record { place = 0; fault = Cut }))
+    (row (Some (InSecond UnknownKind)) (s ≡ Err (record { place = 0; fault = UnknownKind }))
+    (row (Some (InSecond Cut)) (s ≡ Err (record { place = 0; fault = Cut }))
+    (is None))))
 
 -- "with the number of the entry after it": entries are numbered from 1
 unfoldable pub parting_of : List ℕ → List ℕ → Parting

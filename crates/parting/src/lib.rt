@@ -7,27 +7,24 @@ ghost use Rattle.io.specs.Counts.{IsPrefixLen};
 ghost use Rattle.text.specs.Text.{sheet, put_all};
 ghost use Rattle.entries.specs.Entries.{written, entries_of};
 ghost use Rattle.trace.specs.Trace.{trace_scan};
-ghost use Rattle.parting.specs.Parting.{front, shared_part, refused_for, refusal_of, parting_of};
+ghost use Rattle.parting.specs.Parting.{front, shared_part, refusal_of, parting_of};
 ghost use Rattle.parting.specs.Lines.{shared_line, refusal_line, told, told_length};
 
-use entries::{Next, Reading};
+use entries::Fault;
 
-// Why the first entry of a trace won't read, and of which.
-#[derive(Clone, Copy)]
+// The trace whose first entry won't read, and why.
+#[derive(Clone, Copy, PartialEq, Eq)]
 pub enum Refusal {
-    Nothing,
-    UnknownInFirst,
-    CutInFirst,
-    UnknownInSecond,
-    CutInSecond,
+    InFirst(Fault),
+    InSecond(Fault),
 }
 
 // How many entries are shared, the number of the one after them, and what is refused.
-#[derive(Clone, Copy)]
+#[derive(Clone, Copy, PartialEq, Eq)]
 pub struct Parting {
     pub entries: usize,
     pub next: usize,
-    pub refusal: Refusal,
+    pub refusal: Option<Refusal>,
 }
 
 // ---- the shared entries
@@ -55,14 +52,9 @@ fn whole_len(t: &[u8]) -> usize
     ensures value { result ≡ length (written (entries_of (trace_scan t.now))) }
     ensures prefix_len { IsPrefixLen result t.now }
 {
-    let reading = trace::read(t);
-    match reading {
-        Reading::Whole {
-            count: _,
-            newest: _,
-        } => t.len(),
-        Reading::Unknown(at) => at,
-        Reading::Cut(at) => at,
+    match trace::read(t) {
+        Ok(_) => t.len(),
+        Err(broken) => broken.place,
     }
 }
 
@@ -77,34 +69,16 @@ pub fn shared<'a, 'b>(first: &'a [u8], second: &'b [u8]) -> &'a [u8]
 
 // ---- what stands beside it
 
-fn refused(next: Next, unknown: Refusal, cut: Refusal, later: Refusal) -> Refusal
-    ensures { result ≡ refused_for next unknown cut later }
-{
-    match next {
-        Next::Stands(_) => later,
-        Next::NoKind => unknown,
-        Next::CutShort => cut,
-        Next::End => later,
-    }
-}
-
-fn refusal_of(first: &[u8], second: &[u8]) -> Refusal
+fn refusal_of(first: &[u8], second: &[u8]) -> Option<Refusal>
     ensures { result ≡ refusal_of first.now second.now }
 {
-    let second_next = trace::next(second);
-    let later = refused(
-        second_next,
-        Refusal::UnknownInSecond,
-        Refusal::CutInSecond,
-        Refusal::Nothing,
-    );
-    let first_next = trace::next(first);
-    refused(
-        first_next,
-        Refusal::UnknownInFirst,
-        Refusal::CutInFirst,
-        later,
-    )
+    if let Err(fault) = trace::next(first) {
+        return Some(Refusal::InFirst(fault));
+    }
+    if let Err(fault) = trace::next(second) {
+        return Some(Refusal::InSecond(fault));
+    }
+    None
 }
 
 // The number of the entry after the shared ones, and the refusal.
@@ -136,15 +110,21 @@ fn put_shared(out: &mut [u8], entries: usize, bytes: usize, next: usize) -> usiz
     text::put(out, end, b"\n")
 }
 
-fn put_refusal(out: &mut [u8], at: usize, refusal: Refusal) -> usize
+fn put_refusal(out: &mut [u8], at: usize, refusal: Option<Refusal>) -> usize
     ensures { sheet out.new result ≡ put_all (sheet out.old at) (refusal_line refusal) }
 {
-    match refusal {
-        Refusal::Nothing => at,
-        Refusal::UnknownInFirst => text::put(out, at, b"unknown kind in the first\n"),
-        Refusal::CutInFirst => text::put(out, at, b"cut entry in the first\n"),
-        Refusal::UnknownInSecond => text::put(out, at, b"unknown kind in the second\n"),
-        Refusal::CutInSecond => text::put(out, at, b"cut entry in the second\n"),
+    let Some(refused) = refusal else {
+        return at;
+    };
+    match refused {
+        Refusal::InFirst(fault) => match fault {
+            Fault::UnknownKind => text::put(out, at, b"unknown kind in the first\n"),
+            Fault::Cut => text::put(out, at, b"cut entry in the first\n"),
+        },
+        Refusal::InSecond(fault) => match fault {
+            Fault::UnknownKind => text::put(out, at, b"unknown kind in the second\n"),
+            Fault::Cut => text::put(out, at, b"cut entry in the second\n"),
+        },
     }
 }
 
@@ -164,6 +144,5 @@ pub fn tell(first: &[u8], second: &[u8], out: &mut [u8]) -> usize
     let part = shared(first, second);
     let parting = where_they_part(first, second);
     let end = put_shared(out, parting.entries, part.len(), parting.next);
-    let refusal = parting.refusal;
-    put_refusal(out, end, refusal)
+    put_refusal(out, end, parting.refusal)
 }

@@ -16,14 +16,16 @@ use Rattle.text.specs.Text.{Sheet, sheet, put_on, put_all, ascii, line_end, hexe
 use Rattle.text.proofs.laws.Pieces.{piece, pieces, last_piece}
 use Rattle.inplace.specs.declared.Told.{Told}
 use Rattle.inplace.specs.InPlace.{Left}
-use Rattle.entries.specs.declared.Reading.{Reading}
-use Rattle.entries.specs.declared.Reading.TheVariants.{Whole, Unknown, Cut}
-use Rattle.entries.specs.Entries.{entry_of}
+use Rattle.std.specs.Prelude.{Ok, Err}
+use Rattle.entries.specs.declared.Whole.{Whole}
+use Rattle.entries.specs.declared.Broken.{Broken}
+use Rattle.entries.specs.declared.Fault.{Fault}
+use Rattle.entries.specs.Entries.{entry_of, Reading}
 use Rattle.trace.specs.Trace.{trace_table}
 use Rattle.occ_call.specs.Occ.{occ_on}
 use Rattle.sbe_call.specs.Sbe.{sbe_on}
 use Rattle.undo_call.specs.Undo.{undo_on}
-use Rattle.playing.specs.Playing.{if_written, heard_with, occ_heard, sbe_heard, undo_heard, heard, Heard, status_text, line_with, line_room, Puts, place_text, stop_line, whole_entry}
+use Rattle.playing.specs.Playing.{if_written, heard_with, occ_heard, sbe_heard, undo_heard, heard, Heard, status_text, line_with, line_room, Puts, place_text, fault_text, stop_line, whole_entry}
 
 -- ---- the status
 
@@ -61,21 +63,21 @@ pub place_put : (p : Sheet) {p1 p2 p3 : Sheet} (words : List ℕ) (at : ℕ) →
 unfolding place_text
 place_put p {p1} {p2} words at e1 e2 e3 = piece p _ _ e1 (piece p1 _ _ e2 (last_piece p2 line_end e3))
 
--- r is the reading
-pub stop_none : (p : Sheet) {r : Reading} {count newest : ℕ} → r ≡ Whole count newest → (p ≡ put_all p (stop_line r)) × (length (joined (stop_line r)) ≤ 37)
+-- the line of a reading r
+abbrev pub Stopped : Sheet → Sheet → Reading → Type 0
+Stopped p q r = (q ≡ put_all p (stop_line r)) × (length (joined (stop_line r)) ≤ 37)
+
+pub stop_none : (p : Sheet) {r : Reading} {whole : Whole} → r ≡ Ok whole → Stopped p p r
 unfolding stop_line put_all joined
-stop_none p e = subst (λ (x : Reading). (p ≡ put_all p (stop_line x)) × (length (joined (stop_line x)) ≤ 37)) (sym e) (refl, omega arith)
+stop_none p is = subst (Stopped p p) (sym is) (refl, omega arith)
 
-module _ (p : Sheet) {q : Sheet} {r : Reading} {place : ℕ} where
-  pub stop_unknown : r ≡ Unknown place → q ≡ put_all p (place_text (ascii "unknown kind at ") place) → length (joined (place_text (ascii "unknown kind at ") place)) ≤ 37
-      → (q ≡ put_all p (stop_line r)) × (length (joined (stop_line r)) ≤ 37)
-  unfolding stop_line
-  stop_unknown e f g = subst (λ (x : Reading). (q ≡ put_all p (stop_line x)) × (length (joined (stop_line x)) ≤ 37)) (sym e) (f, g)
-
-  pub stop_cut : r ≡ Cut place → q ≡ put_all p (place_text (ascii "cut entry at ") place) → length (joined (place_text (ascii "cut entry at ") place)) ≤ 37
-      → (q ≡ put_all p (stop_line r)) × (length (joined (stop_line r)) ≤ 37)
-  unfolding stop_line
-  stop_cut e f g = subst (λ (x : Reading). (q ≡ put_all p (stop_line x)) × (length (joined (stop_line x)) ≤ 37)) (sym e) (f, g)
+-- that of bytes that break with a fault
+pub stop_at : (p : Sheet) {q : Sheet} {r : Reading} {broken : Broken} {fault : Fault} → r ≡ Err broken → broken.fault ≡ fault
+    → q ≡ put_all p (place_text (fault_text fault) broken.place) → length (joined (place_text (fault_text fault) broken.place)) ≤ 37 → Stopped p q r
+unfolding stop_line
+stop_at p {q} {broken = broken} is e f g =
+    let At : Fault → Type 0 = λ x. (q ≡ put_all p (place_text (fault_text x) broken.place)) × (length (joined (place_text (fault_text x) broken.place)) ≤ 37) in
+    subst (Stopped p q) (sym is) (subst At (sym e) (f, g))
 
 -- x is what the call leaves, f the status bytes of a reply
 pub told_put : {number at end : ℕ} {d b' d' reply : List ℕ} {told : Told} (x : Left) (f : List ℕ → List ℕ) → told ≡ x.told → b' ≡ x.image → reply ≡ x.reply

@@ -6,7 +6,6 @@ use mathlib.Core.List.{List, [], ◌∷◌, ◌++◌}
 use native.Mathlib.Nat.{add-sub_cancel_left}
 use native.Mathlib.Numerals.{add-one}
 use native.Mathlib.Omega.{arith}
-use denote.Enum.Declared.{tag_of}
 use borrow.Author.Tests.{eq-eqb, lt-leb, leb-true, leb-false, not-true, not-false}
 use lib.Dec.{leb}
 use lib.ListN.{length, take, drop, get_or, length-append, length-drop}
@@ -18,13 +17,10 @@ use Rattle.wire.proofs.laws.Cases.{if_not, else_not, if_ne, else_ne, if_lt, else
 use Rattle.io.specs.Counts.{IsPrefixLen}
 use Rattle.text.specs.Text.{sheet, put_all}
 use Rattle.text.proofs.laws.Pieces.{pieces, fitting}
-use Rattle.entries.specs.declared.Reading.{Reading}
-use Rattle.entries.specs.declared.Next.{Next}
-use Rattle.entries.specs.declared.Next.TheVariants.{Stands, NoKind, CutShort, End}
-use Rattle.entries.specs.contracts.Next.{the_type}
-use Rattle.entries.specs.Entries.{Entry, entry_of, entries_of, reading_of, next_by}
+use Rattle.std.specs.Prelude.{None, Some, Ok, Err}
+use Rattle.entries.specs.Entries.{Entry, entry_of, entries_of, reading_of, next_by, Next, Reading}
 use Rattle.entries.proofs.laws.ByTable.{count_written}
-use Rattle.entries.proofs.laws.Placed.{first_place, place_written, scan_end}
+use Rattle.entries.proofs.laws.Placed.{first_place, place_written}
 use Rattle.entries.specs.Places.{Placed}
 use Rattle.entries.proofs.laws.Next.{Leads, leads_on, next_fits}
 use Rattle.trace.specs.Trace.{trace_table, trace_scan}
@@ -35,6 +31,7 @@ use Rattle.layout.specs.Layout.{image_length}
 use Rattle.playing.specs.declared.Played.{Played}
 use Rattle.playing.specs.declared.Played.TheVariants.{NoImage, NoRoom, Lines}
 use Rattle.playing.specs.Playing.{Heard, heard, line, line_room, Puts, image_after, lines_of, stop_line, pieces_of, text_of, whole_entry, Stepped, stepped, room_for, Replayed, replayed}
+use Rattle.entries.specs.declared.Fault.{Fault}
 
 -- ---- `step`
 
@@ -66,7 +63,7 @@ first_byte zero l h = absurd (omega arith)
 first_byte (suc n) [] h = refl
 first_byte (suc n) (x ∷ l) h = refl
 
-module _ (t : List ℕ) (at n : ℕ) (stands : Stands n ≡ next_by trace_table (drop at t)) where
+module _ (t : List ℕ) (at n : ℕ) (stands : Ok (Some n) ≡ next_by trace_table (drop at t)) where
   lent : take (at + n - at) (drop at t) ≡ take n (drop at t)
   lent = rw add-sub_cancel_left
 
@@ -103,13 +100,6 @@ playing_none t d b e = record { entries = []; place = first_place trace_table t;
 abbrev Done : List Entry → List ℕ → ℕ → List ℕ → List ℕ → Type 0
 Done es d₀ end b d = (b ≡ image_after es) × ((sheet d end ≡ put_all (sheet d₀ 0) (lines_of es)) × (length (joined (lines_of es)) ≤ line_room * length es))
 
-no_more : (t : List ℕ) (at : ℕ) (es : List Entry) (x : Next) → (tag_of the_type x ≡ 0 → ⊥) → Leads trace_table t at es x → entries_of (trace_scan t) ≡ es
-unfolding entries_of
-no_more t at es (Stands n) h l = absurd (h refl)
-no_more t at es NoKind h l = l.0
-no_more t at es CutShort h l = l.0
-no_more t at es End h l = ap entries_of l
-
 line_more : (e : Entry) (es : List Entry) → lines_of es ++ line (suc (length es)) (heard (image_after es) e) ≡ lines_of (e ∷ es)
 unfolding lines_of
 line_more e es = refl
@@ -119,24 +109,29 @@ unfolding image_after
 image_more e es = refl
 
 -- the bytes from a place on, as the code lends them
-pub stands_at_lem : (t : List ℕ) (at : ℕ) {n : ℕ} {x : Next} → x ≡ Stands n → x ≡ next_by trace_table (take (length t - at) (drop at t)) → Stands n ≡ next_by trace_table (drop at t)
+pub stands_at_lem : (t : List ℕ) (at : ℕ) {n : ℕ} {x : Next} → x ≡ Ok (Some n) → x ≡ next_by trace_table (take (length t - at) (drop at t)) → Ok (Some n) ≡ next_by trace_table (drop at t)
 stands_at_lem t at is e = sym is ∙ e ∙ ap (next_by trace_table) (tail_part t at)
 
 module _ {t d₀ : List ℕ} {at end number : ℕ} {b d : List ℕ} (p : Playing t d₀ at end number b d) where
   done : entries_of (trace_scan t) ≡ p.entries → Done (entries_of (trace_scan t)) d₀ end b d
   done e = subst (λ (es : List Entry). Done es d₀ end b d) (sym e) (p.image, (p.puts, p.fits))
 
-  pub played_all : length t ≤ at → Done (entries_of (trace_scan t)) d₀ end b d
-  unfolding entries_of
-  played_all h = done (ap entries_of (scan_end p.place h))
+  -- the bytes from there on, as the code lends them, are at their end, or break
+  module _ {x : Next} (e : x ≡ next_by trace_table (take (length t - at) (drop at t))) where
+    leads : Leads trace_table t at p.entries x
+    leads = leads_on p.place (e ∙ ap (next_by trace_table) (tail_part t at))
 
-  pub played_stop : (x : Next) → x ≡ next_by trace_table (take (length t - at) (drop at t)) → (tag_of the_type x ≡ 0 → ⊥) → Done (entries_of (trace_scan t)) d₀ end b d
-  played_stop x e h = done (no_more t at p.entries x h (leads_on p.place (e ∙ ap (next_by trace_table) (tail_part t at))))
+    pub played_all : x ≡ Ok None → Done (entries_of (trace_scan t)) d₀ end b d
+    unfolding entries_of
+    played_all is = done (ap entries_of (subst (Leads trace_table t at p.entries) is leads))
+
+    pub played_stop : {fault : Fault} → x ≡ Err fault → Done (entries_of (trace_scan t)) d₀ end b d
+    played_stop is = done (subst (Leads trace_table t at p.entries) is leads).0
 
   pub number_fits : number ≤ at
   number_fits = omega (arith, p.counted, count_written p.entries, place_written p.place)
 
-  pub playing_next : {n end' : ℕ} {b' d' : List ℕ} → Stands n ≡ next_by trace_table (drop at t)
+  pub playing_next : {n end' : ℕ} {b' d' : List ℕ} → Ok (Some n) ≡ next_by trace_table (drop at t)
       → Puts (number + 1) (heard b (entry_of (take (at + n - at) (drop at t)))) end d b' d' end' → Playing t d₀ (at + n) end' (number + 1) b' d'
   playing_next {n} {end'} {b'} {d'} stands q =
       let es : List Entry = p.entries in

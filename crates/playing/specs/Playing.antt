@@ -1,12 +1,12 @@
 -- Document 02, a: a trace played from a fresh session. What each entry asks for, its line, and how the whole ends; a session is lent as its image.
-use Rattle.std.specs.Prelude.{ℕ, suc, ◌+◌, ◌*◌, ◌≤◌, Bool, false, cond, not, ◌≡◌, List, [], ◌∷◌, ◌++◌, ltb, eqb, length, get_or, take, drop, replicate}
+use Rattle.std.specs.Prelude.{ℕ, suc, ◌+◌, ◌*◌, ◌≤◌, Bool, false, cond, not, ◌≡◌, List, [], ◌∷◌, ◌++◌, ltb, eqb, length, get_or, take, drop, replicate, Ok, Err}
 use Rattle.wire.specs.Wire.{pasted, joined}
 use Rattle.wire.specs.Conditions.{◌and◌}
 use Rattle.io.specs.Counts.{IsPrefixLen}
 use Rattle.text.specs.Text.{ascii, line_end, hexes, decimal, sheet, put_all}
-use Rattle.entries.specs.Entries.{Entry, entry_of, entries_of, reading_of}
-use Rattle.entries.specs.declared.Reading.{Reading}
-use Rattle.entries.specs.declared.Reading.TheVariants.{Whole, Unknown, Cut}
+use Rattle.entries.specs.Entries.{Entry, entry_of, entries_of, reading_of, Reading}
+use Rattle.entries.specs.declared.Fault.{Fault}
+use Rattle.entries.specs.declared.Fault.TheVariants.{UnknownKind, Cut}
 use Rattle.trace.specs.Trace.{trace_table, trace_scan}
 use Rattle.session.specs.Session.{fresh_session}
 use Rattle.image.specs.Image.{image_of}
@@ -80,10 +80,13 @@ lines_of (e ∷ es) = lines_of es ++ line (suc (length es)) (heard (image_after 
 unfoldable pub place_text : List ℕ → ℕ → List (List ℕ)
 place_text words at = words ∷ decimal at ∷ line_end ∷ []
 
+unfoldable pub fault_text : Fault → List ℕ
+fault_text UnknownKind = ascii "unknown kind at "
+fault_text Cut = ascii "cut entry at "
+
 unfoldable pub stop_line : Reading → List (List ℕ)
-stop_line (Whole count newest) = []
-stop_line (Unknown at) = place_text (ascii "unknown kind at ") at
-stop_line (Cut at) = place_text (ascii "cut entry at ") at
+stop_line (Ok whole) = []
+stop_line (Err broken) = place_text (fault_text broken.fault) broken.place
 
 unfoldable pub pieces_of : List ℕ → List (List ℕ)
 pieces_of t = lines_of (entries_of (trace_scan t)) ++ stop_line (reading_of (trace_scan t))

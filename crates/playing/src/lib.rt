@@ -14,7 +14,7 @@ ghost use Rattle.sbe_call.specs.Sbe.{sbe_on};
 ghost use Rattle.undo_call.specs.Undo.{undo_on};
 ghost use Rattle.playing.specs.Playing.{if_written, occ_heard, sbe_heard, undo_heard, heard, status_text, line_with, line_room, Puts, image_after, lines_of, place_text, stop_line, whole_entry, StepAllows, room_for, PlayAllows};
 
-use entries::{Next, Reading};
+use entries::{Broken, Fault, Whole};
 
 // ---- the line of a call
 
@@ -134,7 +134,7 @@ pub fn step(lent: &mut [u8], number: u64, entry: &[u8], out: &mut [u8]) -> usize
 pub enum Played {
     NoImage,
     NoRoom,
-    Lines(usize, Reading),
+    Lines(usize, Result<Whole, Broken>),
 }
 
 // Whether `len` bytes take the lines of `count` entries and a stop line.
@@ -157,11 +157,7 @@ fn play_entries(lent: &mut [u8], t: &[u8], out: &mut [u8]) -> usize
     let mut at = 0;
     let mut end = 0;
     let mut number: u64 = 0;
-    while at < t.len() {
-        let next = trace::next(&t[at..]);
-        let Next::Stands(n) = next else {
-            return end;
-        };
+    while let Ok(Some(n)) = trace::next(&t[at..]) {
         let past = at + n;
         number += 1;
         end = play_entry(&mut *lent, number, &t[at..past], &mut *out, end);
@@ -181,23 +177,22 @@ fn put_place(out: &mut [u8], at: usize, words: &[u8], place: usize) -> usize
 }
 
 // Where the trace breaks, and why.
-fn put_stop(out: &mut [u8], at: usize, reading: Reading) -> usize
+fn put_stop(out: &mut [u8], at: usize, reading: Result<Whole, Broken>) -> usize
     ensures prefix_len { at ≤ length out.old → IsPrefixLen result out.new }
     ensures result_after { sheet out.new result ≡ put_all (sheet out.old at) (stop_line reading) }
     ensures reading_len_bound { length (joined (stop_line reading)) ≤ 37 }
 {
-    match reading {
-        Reading::Whole {
-            count: _,
-            newest: _,
-        } => at,
-        Reading::Unknown(place) => put_place(out, at, b"unknown kind at ", place),
-        Reading::Cut(place) => put_place(out, at, b"cut entry at ", place),
+    let Err(broken) = reading else {
+        return at;
+    };
+    match broken.fault {
+        Fault::UnknownKind => put_place(out, at, b"unknown kind at ", broken.place),
+        Fault::Cut => put_place(out, at, b"cut entry at ", broken.place),
     }
 }
 
 // The stop line alone, at the front of `out`, and its length: for a trace that is played step by step. 37 bytes always take it.
-pub fn stop(out: &mut [u8], reading: Reading) -> usize
+pub fn stop(out: &mut [u8], reading: Result<Whole, Broken>) -> usize
     ensures prefix_len { IsPrefixLen result out.new }
     ensures result_after { sheet out.new result ≡ put_all (sheet out.old 0) (stop_line reading) }
 {

@@ -1,6 +1,6 @@
 -- What the stand-in promises, each in a few lines, each proved by pointing at the file that does the work.
 -- s, p: a session, a run of calls; c: a call with any bytes and any buffer. The calls are those of the public contracts (Calls.antt).
-use Rattle.std.specs.Prelude.{ℕ, suc, ◌+◌, ◌≤◌, ◌<◌, true, false, ◌↔◌, ◌⊎◌, ◌≡◌, List, [], ◌++◌, length, get_or, take, drop}
+use Rattle.std.specs.Prelude.{ℕ, suc, ◌+◌, ◌≤◌, ◌<◌, true, false, ◌↔◌, ◌⊎◌, ◌≡◌, List, [], ◌++◌, length, get_or, take, drop, None}
 use Rattle.std.proofs.Math.Logic.Iff
 use Rattle.std.proofs.Common.{sym, ap, subst, ◌∙◌}
 use Rattle.wire.specs.Wire.{Bytes, pasted, joined}
@@ -8,7 +8,7 @@ use Rattle.record.specs.Record.{fresh_record, worked_of}
 use Rattle.wire.specs.Conditions.{◌and◌}
 use Rattle.change.specs.Change.{put_of, timer_after}
 use Rattle.change.specs.declared.Edit.{Edit}
-use Rattle.entries.specs.Entries.{Entry, bytes_of, written, between, entries_of, reading_of, scan_by}
+use Rattle.entries.specs.Entries.{Entry, bytes_of, written, between, entries_of, reading_of, scan_by, Reading}
 use Rattle.journal.specs.Ways.{other}
 use Rattle.journal.specs.declared.Way.{Way}
 use Rattle.journal.specs.declared.Way.TheVariants.{Before, After}
@@ -36,12 +36,10 @@ use Rattle.watch_call.specs.Watch.{watch_asks, watch_call, watch_on, WatchAllows
 use Rattle.sbe.specs.Conditions.{Changes}
 use Rattle.trace.specs.Trace.{trace_scan}
 use Rattle.text.specs.Text.{Sheet, sheet, put_all}
-use Rattle.entries.specs.declared.Reading.{Reading}
 use Rattle.parting.specs.Lines.{told, told_length}
 use Rattle.parting.specs.declared.Parting.{Parting}
 use Rattle.listing.specs.Listing.{listed, listed_length}
 use Rattle.parting.specs.Parting.{Longest, shared_part, refusal_of, PlayersRefusal, parting_of}
-use Rattle.parting.specs.declared.Refusal.TheVariants.{Nothing}
 use Rattle.parting.proofs.laws.Refusals.{refusal_is_the_players, refused_shares_nothing}
 use Rattle.parting.proofs.laws.Parting.{part_longest, part_number, longest_is_one, equal_share_all, first_empty, second_empty}
 use Rattle.playing.specs.declared.Played.{Played}
@@ -876,7 +874,7 @@ empty_shares_nothing t = (first_empty t, second_empty t)
 pub parting_refused_as_played : (t u : List ℕ) → PlayersRefusal (reading_of (trace_scan t)) (reading_of (trace_scan u)) (refusal_of t u)
 parting_refused_as_played = refusal_is_the_players
 
-pub refused_traces_share_nothing : (t u : List ℕ) → (refusal_of t u ≡ Nothing → ⊥) → shared_part t u ≡ []
+pub refused_traces_share_nothing : (t u : List ℕ) → (refusal_of t u ≡ None → ⊥) → shared_part t u ≡ []
 refused_traces_share_nothing = refused_shares_nothing
 
 -- ---- the ten worked examples of document 01, at the bytes

@@ -1,10 +1,10 @@
 // Plays a recorded trace of any length from standard input on a fresh session. A line is written for each entry before more input is waited for.
 #![tactic(auto)]
 
-ghost use Rattle.std.specs.Prelude.{◌+◌, ◌≤◌, length};
+ghost use Rattle.std.specs.Prelude.{◌+◌, ◌≤◌, length, IfSome};
 ghost use Rattle.io.specs.Counts.{IsPrefixLen};
 
-use entries::{Next, Reading};
+use entries::{Broken, Fault};
 use std::io::Read;
 use streams::Got;
 
@@ -53,22 +53,18 @@ fn play(
     }
 }
 
-fn tell_stop(rt: &(impl Print + Eprint), out: &mut [u8], reading: Reading) {
-    let n = playing::stop(out, reading);
+fn tell_stop(rt: &(impl Print + Eprint), out: &mut [u8], place: usize, fault: Fault) {
+    let n = playing::stop(out, Err(Broken { place, fault }));
     streams::write(rt, &out[..n]);
 }
 
 // ---- the bytes at hand
 
-// The length of the entry at the front; 0 where none stands there whole.
-fn front(rest: &[u8]) -> usize
-    ensures { result ≤ length rest.now }
+// The length of the entry at the front, where one stands there whole.
+fn front(rest: &[u8]) -> Option<usize>
+    ensures { IfSome result (λ n. (1 ≤ n) × (n ≤ length rest.now)) }
 {
-    let next = trace::next(rest);
-    let Next::Stands(n) = next else {
-        return 0;
-    };
-    n
+    trace::next(rest).ok().flatten()
 }
 
 // How many entries were played since the start, how many of the bytes at hand they take, and whether lines can still be written.
@@ -95,8 +91,7 @@ fn play_front(
         waiting: 0,
         heard: true,
     };
-    let mut n = front(piece);
-    while n > 0 {
+    while let Some(n) = front(&piece[at..]) {
         let past = at + n;
         number = number.wrapping_add(1);
         let next = play(rt, lent, number, &piece[at..past], out, lines);
@@ -109,7 +104,6 @@ fn play_front(
             };
         }
         lines = next;
-        n = front(&piece[at..]);
     }
     let waiting = lines.waiting;
     Past {
@@ -119,25 +113,13 @@ fn play_front(
     }
 }
 
-fn is_unknown(rest: &[u8]) -> bool {
-    let Next::NoKind = trace::next(rest) else {
-        return false;
-    };
-    true
-}
-
 // The bytes from `start` to `end` go to the front; how many they are.
 fn keep(held: &mut [u8], start: usize, end: usize) -> usize
     requires { (start ≤ end) × (end ≤ length held.old) }
     ensures { result ≤ length held.new }
 {
-    let n = end - start;
-    let mut i = 0;
-    while i < n {
-        held[i] = held[start + i];
-        i += 1;
-    }
-    n
+    held.copy_within(start..end, 0);
+    end - start
 }
 
 // ---- input
@@ -153,12 +135,12 @@ fn fetch<R: Read>(rt: &impl Eprint, input: &mut R, held: &mut [u8], have: usize)
 // The input has ended: what is left of it is a cut entry.
 fn finish(rt: &(impl Print + Eprint), out: &mut [u8], have: usize, place: usize) {
     if have > 0 {
-        tell_stop(rt, out, Reading::Cut(place));
+        tell_stop(rt, out, place, Fault::Cut);
     }
 }
 
 // `held` has the bytes from the first entry on that isn't played, whose kind is byte `place` of the trace. A proved loop has to end: it counts
-// down from a number that no run uses up.
+// up to a number that no run comes to.
 fn serve<R: Read>(
     rt: &(impl Print + Eprint),
     input: &mut R,
@@ -169,9 +151,7 @@ fn serve<R: Read>(
     let mut number = 0u64;
     let mut place = 0;
     let mut have = 0;
-    let mut left = u64::MAX;
-    while left > 0 {
-        left -= 1;
+    for _ in 0..u64::MAX {
         let got = fetch(rt, input, held, have);
         if got.failed {
             return;
@@ -188,8 +168,8 @@ fn serve<R: Read>(
         let at = past.bytes;
         number = past.entries;
         place = place.wrapping_add(at);
-        if is_unknown(&held[at..end]) {
-            tell_stop(rt, out, Reading::Unknown(place));
+        if let Err(Fault::UnknownKind) = trace::next(&held[at..end]) {
+            tell_stop(rt, out, place, Fault::UnknownKind);
             return;
         }
         have = keep(held, at, end);

@@ -12,10 +12,10 @@ use Rattle.record.specs.Record.{worked_of}
 use Rattle.record.specs.declared.Record.{Record}
 use Rattle.record.specs.declared.Timer.{Timer}
 use Rattle.record.specs.declared.Worked.{Worked}
-use Rattle.entries.specs.Entries.{written, Scan, between, within, unknown, entries_of, scan, reading_of, ReadingFits, ReadsWhole}
-use Rattle.entries.specs.declared.Reading.{Reading}
-use Rattle.entries.specs.declared.Reading.TheVariants.{Whole, Unknown, Cut}
+use Rattle.entries.specs.Entries.{written, Scan, between, within, unknown, entries_of, scan, Reading, reading_of, ReadingFits, ReadsWhole}
 use Rattle.entries.proofs.laws.Entries.{scan_written}
+use Rattle.entries.specs.declared.Broken.{Broken}
+use Rattle.std.specs.Prelude.{Ok, Err}
 use Rattle.marks.specs.Marks.{marks_of}
 use Rattle.journal.proofs.Parts.{part_copied}
 use Rattle.image.specs.Image.{byte_at, part_at, number_at, record_in}
@@ -25,9 +25,8 @@ use Rattle.saving.proofs.laws.Record.{same_front}
 -- ---- how far a store's entries go
 
 abbrev pub Used : List ℕ → Reading → Type 0
-Used j (Whole count newest) = length j ≡ used_in j
-Used j (Unknown at) = at ≡ used_in j
-Used j (Cut at) = at ≡ used_in j
+Used j (Ok whole) = length j ≡ used_in j
+Used j (Err broken) = broken.place ≡ used_in j
 
 used_by : (j : List ℕ) (s : Scan) → scan j ≡ s → Used j (reading_of s)
 unfolding reading_of used_in entries_of
@@ -39,12 +38,9 @@ pub used : (j : List ℕ) (x y : Reading) → x ≡ reading_of (scan j) → x �
 used j x y e f = subst (Used j) (sym e ∙ f) (used_by j (scan j) refl)
 
 -- and no further than its bytes
-module _ (j : List ℕ) (x : Reading) (e : x ≡ reading_of (scan j)) (fits : ReadingFits (length j) x) (at : ℕ) where
-  pub used_unknown : x ≡ Unknown at → (at ≡ used_in j) × (at ≤ length j)
-  used_unknown f = (used j x (Unknown at) e f, subst (ReadingFits (length j)) f fits)
-
-  pub used_cut : x ≡ Cut at → (at ≡ used_in j) × (at ≤ length j)
-  used_cut f = (used j x (Cut at) e f, subst (ReadingFits (length j)) f fits)
+module _ (j : List ℕ) (x : Reading) (e : x ≡ reading_of (scan j)) (fits : ReadingFits (length j) x) where
+  pub used_broken : {broken : Broken} → x ≡ Err broken → (broken.place ≡ used_in j) × (broken.place ≤ length j)
+  used_broken f = (used j x _ e f, subst (ReadingFits (length j)) f fits)
 
 -- ---- a part copied into an array of its own
 

@@ -11,7 +11,6 @@ ghost use Rattle.layout.specs.Layout.{image_length};
 ghost use Rattle.saving.specs.Forms.{base_head, base_most, base_of, padded, session_of_base, saved_length, saved_of, kinds_ok, used_in, timer_from, session_of_saved};
 ghost use Rattle.saving.specs.Moves.{first_rule, base_entry, base_entries, base_holds, goes_down, base_reads, saved_reads, Allows, put_into, save_to, restore_to, move_up_to, move_down_to};
 
-use entries::Reading;
 use image::Head;
 use inplace::Told;
 use record::{Record, Timer};
@@ -132,11 +131,9 @@ fn kinds_ok(b: &[u8]) -> bool
 fn used_in(j: &[u8]) -> usize
     ensures { (result ≡ used_in j.now) × (result ≤ length j.now) }
 {
-    let reading = entries::read(j);
-    match reading {
-        Reading::Whole { count, newest: _ } => j.len(),
-        Reading::Unknown(at) => at,
-        Reading::Cut(at) => at,
+    match entries::read(j) {
+        Ok(_) => j.len(),
+        Err(broken) => broken.place,
     }
 }
 

@@ -1,5 +1,5 @@
 -- docs/PROTOCOL.md, "show": a definition for each line, in the pieces that are put one after the other.
-use Rattle.std.specs.Prelude.{ℕ, zero, suc, ◌+◌, ◌-◌, ◌*◌, ◌/◌, ◌%◌, cond, List, [], ◌∷◌, ◌++◌, eqb, ltb, length, take, get_or}
+use Rattle.std.specs.Prelude.{ℕ, zero, suc, ◌+◌, ◌-◌, ◌*◌, ◌/◌, ◌%◌, cond, List, [], ◌∷◌, ◌++◌, eqb, ltb, length, take, get_or, Ok, Err}
 use Rattle.wire.specs.Wire.{to_be}
 use Rattle.record.specs.Record.{no_log}
 use Rattle.record.specs.declared.Area.{Area}
@@ -10,9 +10,7 @@ use Rattle.record.specs.declared.Log.{Log}
 use Rattle.record.specs.declared.Record.{Record}
 use Rattle.record.specs.declared.Timer.{Timer}
 use Rattle.record.specs.declared.Worked.{Worked}
-use Rattle.entries.specs.declared.Reading.{Reading}
-use Rattle.entries.specs.declared.Reading.TheVariants.{Whole, Unknown, Cut}
-use Rattle.entries.specs.Entries.{scan, reading_of}
+use Rattle.entries.specs.Entries.{scan, reading_of, Reading}
 use Rattle.text.specs.Text.{ascii, line_end, hex_of, hexes, decimal, numbers}
 
 -- ---- words and numbers
@@ -150,9 +148,8 @@ rest_text r =
 
 -- the number of entries after the name for a whole store, or the place where they break off after the one for a damaged store
 unfoldable pub reading_text : List ℕ → List ℕ → Reading → List (List ℕ)
-reading_text whole damaged (Whole count newest) = named_text whole count
-reading_text whole damaged (Unknown place) = named_text damaged place
-reading_text whole damaged (Cut place) = named_text damaged place
+reading_text whole damaged (Ok read) = named_text whole read.count
+reading_text whole damaged (Err broken) = named_text damaged broken.place
 
 -- the first `used` bytes of a store, or the line for a used length that is too long
 unfoldable pub store_text : List ℕ → List ℕ → List ℕ → List ℕ → ℕ → List (List ℕ)

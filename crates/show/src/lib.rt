@@ -1,12 +1,12 @@
 // The session as text for a person, on a page, a function for each line of docs/PROTOCOL.md. Every
 // byte pattern shows.
-#![tactic(auto, unfolding(text::specs::Text::put_all, crate::specs::Show::number_text, crate::specs::Show::named_text, crate::specs::Show::mark_text, crate::specs::Show::yes_text, crate::specs::Show::state_word, crate::specs::Show::state_text, crate::specs::Show::role_word, crate::specs::Show::role_text, crate::specs::Show::caps_text, crate::specs::Show::wanted_text, crate::specs::Show::worked_text, crate::specs::Show::settings_text, crate::specs::Show::thresholds_text, crate::specs::Show::pair_text, crate::specs::Show::throttles_text, crate::specs::Show::log_text, crate::specs::Show::places_text, crate::specs::Show::logs_text, crate::specs::Show::mask_text, crate::specs::Show::deadman_text, crate::specs::Show::area_text, crate::specs::Show::areas_text, crate::specs::Show::rest_text, crate::specs::Show::timer_text, crate::specs::Show::profile_word, crate::specs::Show::redo_text, crate::specs::Show::journal_text, crate::specs::Show::session_text), using(text::proofs::laws::Pieces::put_all_append))]
+#![tactic(auto, unfolding(text::specs::Text::put_all, crate::specs::Show::number_text, crate::specs::Show::named_text, crate::specs::Show::mark_text, crate::specs::Show::yes_text, crate::specs::Show::state_word, crate::specs::Show::state_text, crate::specs::Show::role_word, crate::specs::Show::role_text, crate::specs::Show::caps_text, crate::specs::Show::wanted_text, crate::specs::Show::worked_text, crate::specs::Show::settings_text, crate::specs::Show::thresholds_text, crate::specs::Show::pair_text, crate::specs::Show::throttles_text, crate::specs::Show::log_text, crate::specs::Show::places_text, crate::specs::Show::logs_text, crate::specs::Show::mask_text, crate::specs::Show::deadman_text, crate::specs::Show::area_text, crate::specs::Show::areas_text, crate::specs::Show::rest_text, crate::specs::Show::timer_text, crate::specs::Show::profile_word, crate::specs::Show::redo_text, crate::specs::Show::journal_text, crate::specs::Show::session_text, crate::specs::Show::reading_text), using(text::proofs::laws::Pieces::put_all_append))]
 
 ghost use Rattle.std.specs.Prelude.{◌≡◌, ◌∷◌, cond, [], eqb};
 ghost use Rattle.text.specs.Pages.{Puts};
 ghost use Rattle.show.specs.Show.{number_text, named_text, mark_text, yes_text, state_word, state_text, role_word, role_text, caps_text, wanted_text, worked_text, settings_text, thresholds_text, pair_text, pairs_text, throttles_text, log_text, places_text, logs_text, cores_text, mask_text, deadman_text, area_text, areas_text, rest_text, reading_text, store_text, redo_text, journal_text, timer_text, profile_word, session_text};
 
-use entries::Reading;
+use entries::{Broken, Whole};
 use record::{Area, Areas, Caps, Deadman, Log, Record, Timer, Worked};
 use text::Page;
 
@@ -255,13 +255,12 @@ fn put_areas(page: &mut Page, areas: Areas)
 }
 
 // A number after the name that fits how a store reads.
-fn put_reading(page: &mut Page, whole: &[u8], damaged: &[u8], reading: Reading)
+fn put_reading(page: &mut Page, whole: &[u8], damaged: &[u8], reading: Result<Whole, Broken>)
     ensures { Puts page.old page.new (reading_text whole.now damaged.now reading) }
 {
     match reading {
-        Reading::Whole { count, newest: _ } => put_named(page, whole, count as u64),
-        Reading::Unknown(place) => put_named(page, damaged, place as u64),
-        Reading::Cut(place) => put_named(page, damaged, place as u64),
+        Ok(read) => put_named(page, whole, read.count as u64),
+        Err(broken) => put_named(page, damaged, broken.place as u64),
     }
 }
 

@@ -5,7 +5,7 @@ ghost use Rattle.std.specs.Prelude.{◌≡◌, ◌≤◌, length};
 ghost use Rattle.entries.specs.Entries.{entries_of, reading_of, ReadingFits, next_by};
 ghost use Rattle.trace.specs.Trace.{trace_table, trace_scan};
 
-use entries::{Next, Reading};
+use entries::{Broken, Fault, Whole};
 
 // Document 02, a: the length of an entry of each kind, its kind included; 0 where there is no such kind.
 pub fn entry_len(kind: u8) -> usize
@@ -21,18 +21,19 @@ pub fn entry_len(kind: u8) -> usize
     }
 }
 
-// What stands at the front of a trace, or of the rest of one.
-pub fn next(t: &[u8]) -> Next
+// The length of the entry at the front of a trace, or of the rest of one: none at the end.
+pub fn next(t: &[u8]) -> Result<Option<usize>, Fault>
     ensures { result ≡ next_by trace_table t.now }
 {
-    if t.len() == 0 {
-        return Next::End;
+    if t.is_empty() {
+        return Ok(None);
     }
-    entries::next_for(entry_len(t[0]), t.len())
+    let n = entries::next_for(entry_len(t[0]), t.len())?;
+    Ok(Some(n))
 }
 
 // The whole trace, or up to where it breaks.
-pub fn read(t: &[u8]) -> Reading
+pub fn read(t: &[u8]) -> Result<Whole, Broken>
     ensures value { result ≡ reading_of (trace_scan t.now) }
     ensures reading_fits { ReadingFits (length t.now) result }
 {
@@ -40,21 +41,15 @@ pub fn read(t: &[u8]) -> Reading
     let mut count = 0;
     let mut newest = 0;
     while at < t.len() {
-        let n = entry_len(t[at]);
-        if n == 0 {
-            return Reading::Unknown(at);
-        }
-        if t.len() - at < n {
-            return Reading::Cut(at);
-        }
+        let n = match entries::next_for(entry_len(t[at]), t.len() - at) {
+            Ok(n) => n,
+            Err(fault) => return Err(Broken { place: at, fault }),
+        };
         newest = at;
         count += 1;
         at += n;
     }
-    Reading::Whole {
-        count: count,
-        newest: newest,
-    }
+    Ok(Whole { count, newest })
 }
 
 // How many whole entries there are, up to the end or to where the trace breaks.

@@ -1,22 +1,20 @@
 -- The newest entry of a store, found from the last mark on or from the front. Assumes nothing.
 use Prim.Native.Nat.{ℕ, ◌+◌, ◌-◌, ◌≤◌}
 use mathlib.Core.Bool.{Bool, true, false, cond}
-use mathlib.Core.Path.{◌≡◌, refl, sym, ap, subst, ◌∙◌}
+use mathlib.Core.Path.{◌≡◌, refl, sym, ap, ◌∙◌}
 use mathlib.Core.List.{List, [], ◌∷◌}
 use native.Mathlib.Omega.{arith}
 use borrow.Author.Tests.{eqb-true}
 use lib.Dec.{eqb}
 use lib.ListN.{length, take, drop}
 use lib.Seq.{length-take-le, take-take}
-use Rattle.entries.specs.Entries.{Entry, written, Scan, between, entries_of, scan, newest_at, reading_of}
+use Rattle.entries.specs.Entries.{Entry, written, Scan, between, entries_of, scan, newest_at, Reading, reading_of}
 use Rattle.entries.proofs.laws.Entries.{scan_written, newest_written}
-use Rattle.entries.specs.declared.Reading.{Reading}
-use Rattle.entries.specs.declared.Reading.TheVariants.{Whole, Unknown, Cut}
+use Rattle.std.specs.Prelude.{Option, None, Some, Ok}
+use Rattle.entries.specs.declared.Whole.{Whole}
 use Rattle.marks.specs.declared.Mark.{Mark}
 use Rattle.marks.specs.declared.Newest.{Newest}
-use Rattle.marks.specs.declared.Newest.TheVariants.{At, Nothing}
 use Rattle.marks.specs.Marks.{passed_of, newest_of}
-use Rattle.marks.proofs.laws.Last.{IsAt, place_of}
 use Rattle.journal.specs.Ways.{by_way}
 use Rattle.journal.specs.declared.Way.{Way}
 use Rattle.journal.specs.declared.Way.TheVariants.{Before, After}
@@ -32,32 +30,28 @@ use Rattle.inplace.specs.InPlace.{HeadStands, Marked}
 use Rattle.inplace.proofs.laws.Marked.{formed_marked, used_is, place_low, empty_journal, newest_there}
 use Rattle.undo_call.specs.Undo.{passed_by, LooksFrom, NewestFound, MarksBefore}
 
-abbrev count_in : Reading → ℕ
-count_in (Whole count newest) = count
-count_in (Unknown at) = 0
-count_in (Cut at) = 0
+abbrev reads_as : ℕ → ℕ → Reading
+reads_as count newest = Ok (record { count = count; newest = newest })
 
-abbrev newest_in : Reading → ℕ
-newest_in (Whole count newest) = newest
-newest_in (Unknown at) = 0
-newest_in (Cut at) = 0
+begins_at : {m n x y : ℕ} → reads_as m x ≡ reads_as n y → x ≡ y
+begins_at {m} {n} {x} {y} e = let w : ◌≡◌ {A = Whole} (record { count = m; newest = x }) (record { count = n; newest = y }) = cc in ap (λ (v : Whole). v.newest) w
 
 -- what is found in a part that is the whole store
-found_whole : (count newest place passed : ℕ) → At place passed ≡ newest_of (Whole count newest) → place ≡ newest
+found_whole : (count newest : ℕ) (x : Newest) → Some x ≡ newest_of (reads_as count newest) → x.place ≡ newest
 unfolding newest_of
-found_whole count newest place passed = go (eqb count 0)
+found_whole count newest x = go (eqb count 0)
   where
-    go : (t : Bool) → At place passed ≡ cond t Nothing (At newest (count - 1)) → place ≡ newest
-    go true h = absurd (subst IsAt h tt)
-    go false h = ap place_of h
+    go : (t : Bool) → Some x ≡ cond t None (Some (record { place = newest; passed = count - 1 })) → x.place ≡ newest
+    go true h = cc
+    go false h = let e : x ≡ record { place = newest; passed = count - 1 } = cc in ap (λ (v : Newest). v.place) e
 
-none_whole : (count newest : ℕ) → Nothing ≡ newest_of (Whole count newest) → count ≡ 0
+none_whole : (count newest : ℕ) → ◌≡◌ {A = Option Newest} None (newest_of (reads_as count newest)) → count ≡ 0
 unfolding newest_of
 none_whole count newest = go (eqb count 0) refl
   where
-    go : (t : Bool) → eqb count 0 ≡ t → Nothing ≡ cond t Nothing (At newest (count - 1)) → count ≡ 0
+    go : (t : Bool) → eqb count 0 ≡ t → ◌≡◌ {A = Option Newest} None (cond t None (Some (record { place = newest; passed = count - 1 }))) → count ≡ 0
     go true e h = eqb-true count 0 e
-    go false e h = absurd (subst IsAt (sym h) tt)
+    go false e h = cc
 
 no_bytes : (es : List Entry) → length es ≡ 0 → length (written es) ≡ 0
 unfolding written
@@ -80,7 +74,7 @@ module _ (w : Way) (s : Session) (whole : well_formed s ≡ true) where
   abbrev store : List ℕ
   store = take (used_of w s) (store_of w s)
 
-  pub whole_reading : (es : List Entry) → scan store ≡ between es → reading_of (scan store) ≡ Whole (length es) (newest_at es)
+  pub whole_reading : (es : List Entry) → scan store ≡ between es → reading_of (scan store) ≡ Ok (record { count = length es; newest = newest_at es })
   unfolding reading_of
   whole_reading es r = ap reading_of r
 
@@ -92,12 +86,12 @@ unfolding used_of by_way session_in
 used_of_lem Before h b = refl
 used_of_lem After h b = refl
 
-pub newest_low : (w : Way) (h : Head) (b : List ℕ) → HeadStands h b → (whole : well_formed (session_in h b) ≡ true) (at passed : ℕ) → NewestFound w (session_in h b) (At at passed)
-    → at ≤ by_way w h.used h.ahead
-newest_low w h b here whole at passed x =
+pub newest_low : (w : Way) (h : Head) (b : List ℕ) → HeadStands h b → (whole : well_formed (session_in h b) ≡ true) (found : Newest) → NewestFound w (session_in h b) (Some found)
+    → found.place ≤ by_way w h.used h.ahead
+newest_low w h b here whole found x =
     let s = session_in h b in
     let r = store_reads w s whole in
-    let is : at ≡ newest_at r.entries = ap newest_in (sym x.1 ∙ whole_reading w s whole r.entries r.scanned) in
+    let is = begins_at (sym x.1 ∙ whole_reading w s whole r.entries r.scanned) in
     omega (arith, is, newest_written r.entries, store_long w s whole r.entries r.scanned, used_of_lem w h b)
 
 -- ---- what the marks ask for: the newest entry begins at `at`
@@ -108,15 +102,15 @@ newest_first [] at is some = absurd (some refl)
 newest_first (e ∷ es) at is some = (e, es, refl, is)
 
 pub marks_before : (w : Way) (h : Head) (b : List ℕ) → HeadStands h b → well_formed (session_in h b) ≡ true → (n : ℕ) → n ≡ by_way w h.used h.ahead → (n ≡ 0 → ⊥)
-    → (at passed : ℕ) → NewestFound w (session_in h b) (At at passed) → MarksBefore w h.used at b
+    → (found : Newest) → NewestFound w (session_in h b) (Some found) → MarksBefore w h.used found.place b
 unfolding used_of store_of by_way session_in reading_of written
-marks_before Before h b here whole n counted some at passed x =
+marks_before Before h b here whole n counted some found x =
     let m = formed_marked h b whole in
-    let is : at ≡ newest_at m.entries = ap newest_in (sym x.1 ∙ ap reading_of m.reads) in
+    let is = begins_at (sym x.1 ∙ ap reading_of m.reads) in
     let full : length m.entries ≡ 0 → ⊥ = λ z. some (counted ∙ sym (used_is b here.long h.used m) ∙ no_bytes m.entries z) in
-    let f = newest_first m.entries at is full in
+    let f = newest_first m.entries found.place is full in
     record { marked = m; newest = f.0; older = f.1; are = f.2; begins = f.3 }
-marks_before After h b here whole n counted some at passed x = formed_marked h b whole
+marks_before After h b here whole n counted some found x = formed_marked h b whole
 
 -- ---- found: n is the used end, m where the store stands in the lent bytes
 
@@ -132,7 +126,7 @@ module _ (h : Head) (b : List ℕ) (here : HeadStands h b) (whole : well_formed 
   from_low Before n counted from looks = omega (arith, counted, looks.2, place_low b here.long h.used marked looks.0 looks.1)
   from_low After n counted from looks = omega (arith, looks)
 
-  module _ (m n from : ℕ) (found : Newest) (is : found ≡ newest_of (reading_of (scan (take (m + n - (m + from)) (drop (m + from) b))))) where
+  module _ (m n from : ℕ) (found : Option Newest) (is : found ≡ newest_of (reading_of (scan (take (m + n - (m + from)) (drop (m + from) b))))) where
     -- undo: from the last mark on
     marked_part : (x : Mark) → m ≡ journal_at → n ≡ h.used → from ≡ x.place
         → found ≡ newest_of (reading_of (scan (take (journal_at + h.used - (journal_at + x.place)) (drop (journal_at + x.place) b))))
@@ -147,21 +141,21 @@ module _ (h : Head) (b : List ℕ) (here : HeadStands h b) (whole : well_formed 
         let l : m + from ≡ redo_at = omega (arith, p, r) in
         is ∙ (λ i. newest_of (reading_of (scan (take (k i) (drop (l i) b))))) ∙ ap (λ (j : List ℕ). newest_of (reading_of (scan j))) (sym (take-take h.ahead 2048 (drop redo_at b) fits))
 
-    pub found_there : (w : Way) → m ≡ store_at w → n ≡ by_way w h.used h.ahead → LooksFrom w b from → (place passed told : ℕ) → found ≡ At place passed → told ≡ by_way w passed 0
-        → NewestFound w s (At (from + place) told)
+    pub found_there : (w : Way) → m ≡ store_at w → n ≡ by_way w h.used h.ahead → LooksFrom w b from → (x : Newest) (told : ℕ) → found ≡ Some x → told ≡ by_way w x.passed 0
+        → NewestFound w s (Some (record { place = from + x.place; passed = told }))
     unfolding store_at by_way used_of store_of session_in reading_of newest_at passed_by entries_in entries_of
-    found_there Before p q looks place passed told there tp =
-        let x = newest_there b here.long h.used marked looks.0 looks.1 found (marked_part looks.0 p q looks.2) place passed there in
-        let at : from + place ≡ newest_at marked.entries = omega (arith, looks.2, x.begins, ap newest_at x.are) in
-        (length marked.entries, ap reading_of marked.reads ∙ ap (Whole (length marked.entries)) (sym at), tp ∙ x.counted ∙ ap (λ (y : Scan). passed_of (length (entries_of y))) (sym marked.reads))
-    found_there After p q looks place passed told there tp =
+    found_there Before p q looks x told there tp =
+        let n = newest_there b here.long h.used marked looks.0 looks.1 found (marked_part looks.0 p q looks.2) x there in
+        let at : from + x.place ≡ newest_at marked.entries = omega (arith, looks.2, n.begins, ap newest_at n.are) in
+        (length marked.entries, ap reading_of marked.reads ∙ ap (reads_as (length marked.entries)) (sym at), tp ∙ n.counted ∙ ap (λ (y : Scan). passed_of (length (entries_of y))) (sym marked.reads))
+    found_there After p q looks x told there tp =
         let r = store_reads After s whole in
         let read = whole_reading After s whole r.entries r.scanned in
-        let at : place ≡ newest_at r.entries = found_whole _ _ place passed (sym there ∙ whole_part_lem p q looks ∙ ap newest_of read) in
-        let sum : from + place ≡ newest_at r.entries = omega (arith, looks, at) in
-        (length r.entries, read ∙ ap (Whole (length r.entries)) (sym sum), tp)
+        let at : x.place ≡ newest_at r.entries = found_whole _ _ x (sym there ∙ whole_part_lem p q looks ∙ ap newest_of read) in
+        let sum : from + x.place ≡ newest_at r.entries = omega (arith, looks, at) in
+        (length r.entries, read ∙ ap (reads_as (length r.entries)) (sym sum), tp)
 
-    pub never_nothing : (w : Way) → m ≡ store_at w → n ≡ by_way w h.used h.ahead → (n ≡ 0 → ⊥) → LooksFrom w b from → found ≡ Nothing → ⊥
+    pub never_nothing : (w : Way) → m ≡ store_at w → n ≡ by_way w h.used h.ahead → (n ≡ 0 → ⊥) → LooksFrom w b from → found ≡ None → ⊥
     unfolding store_at by_way used_of store_of session_in
     never_nothing Before p q some looks none =
         let z = empty_journal b here.long h.used marked looks.0 looks.1 found (marked_part looks.0 p q looks.2) none in

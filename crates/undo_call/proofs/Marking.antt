@@ -1,5 +1,5 @@
 -- The marks of the journal after an entry was moved, and the places that finding it asks for. Assumes nothing.
-use Prim.Native.Nat.{ℕ, ◌+◌, ◌-◌, ◌≤◌}
+use Prim.Native.Nat.{ℕ, ◌+◌, ◌≤◌}
 use mathlib.Core.Path.{◌≡◌, refl, sym, ap, subst, ◌∙◌}
 use mathlib.Core.List.{List, ◌∷◌}
 use native.Mathlib.Omega.{arith}
@@ -9,11 +9,10 @@ use Rattle.wire.specs.Wire.{pasted}
 use Rattle.wire.proofs.laws.Cases.{else_lt}
 use Rattle.change.specs.Change.{takes_back}
 use Rattle.change.specs.declared.Edit.{Edit}
-use Rattle.entries.specs.Entries.{Entry, Scan, entries_of, scan}
-use Rattle.entries.specs.Entries.{Sized}
+use Rattle.entries.specs.Entries.{Entry, Scan, entries_of, scan, Sized}
 use Rattle.marks.specs.declared.Mark.{Mark}
 use Rattle.marks.specs.declared.Newest.{Newest}
-use Rattle.marks.specs.declared.Newest.TheVariants.{At}
+use Rattle.std.specs.Prelude.{Option, Some}
 use Rattle.marks.specs.Marks.{marks_of, passed_of, Last, NewestFits}
 use Rattle.marks.proofs.laws.Marks.{length_marks}
 use Rattle.journal.specs.Ways.{by_way, other}
@@ -96,8 +95,8 @@ again_after w used at b y is h = subst (λ (v : Way). MarksAfter v used at b y) 
 
 -- ---- numbers that are small
 
-pub found_bound : (k : ℕ) (l : List ℕ) (r : Newest) (place passed : ℕ) → NewestFits (length (take k l)) r → r ≡ At place passed → (place ≤ k) × (passed ≤ k)
-found_bound k l r place passed f e =
+pub found_bound : (k : ℕ) (l : List ℕ) (r : Option Newest) (x : Newest) → NewestFits (length (take k l)) r → r ≡ Some x → (x.place ≤ k) × (x.passed ≤ k)
+found_bound k l r x f e =
     let n : length (take k l) ≤ k = simp length-take (omega arith) in
     let g = subst (NewestFits (length (take k l))) e f in
     (omega (arith, g.0, n), omega (arith, g.1, n))

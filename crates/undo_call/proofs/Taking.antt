@@ -18,10 +18,9 @@ use Rattle.change.specs.declared.Change.{Change}
 use Rattle.change.specs.declared.Changed.{Changed}
 use Rattle.change.specs.declared.Edit.{Edit}
 use Rattle.formed.specs.Formed.{record_ok}
-use Rattle.entries.specs.Entries.{body_len}
-use Rattle.entries.specs.declared.Reading.{Reading}
-use Rattle.entries.specs.declared.Reading.TheVariants.{Whole}
-use Rattle.marks.specs.declared.Newest.TheVariants.{At}
+use Rattle.entries.specs.Entries.{body_len, Reading}
+use Rattle.std.specs.Prelude.{Some, Ok}
+use Rattle.marks.specs.declared.Newest.{Newest}
 use Rattle.journal.specs.Ways.{by_way, other}
 use Rattle.journal.specs.Bytes.{entry_bytes}
 use Rattle.journal.specs.Read.{got_of}
@@ -261,12 +260,12 @@ module _ (w : Way) (h : Head) (b : List ℕ) (here : HeadStands h b) where
       got_is : g ≡ got_of w (take (used_of w s - at) (drop at (store_of w s)))
       got_is = is ∙ ap (got_of w) newest_part
 
-      pub entry_bad : (t : Told) (r : Reading) (count : ℕ) → t ≡ record { answer = 1; small = 0; beside = 0 } → g.found ≡ Bad → r ≡ Whole count at → Tells w s t b (read_asks w s r)
+      pub entry_bad : (t : Told) (r : Reading) (count : ℕ) → t ≡ record { answer = 1; small = 0; beside = 0 } → g.found ≡ Bad → r ≡ Ok (record { count = count; newest = at }) → Tells w s t b (read_asks w s r)
       unfolding read_asks entry_asks got_asks found_asks
       entry_bad t r count p bad whole =
           by_number 1 t refl p (sym (ap (found_asks w s at g.tables) bad) ∙ ap (got_asks w s at) got_is ∙ sym (ap (read_asks w s) whole))
 
-      pub entry_good : (t : Told) (y : List ℕ) (r : Reading) (count : ℕ) (ch : Change) → g.found ≡ Good ch → r ≡ Whole count at
+      pub entry_good : (t : Told) (y : List ℕ) (r : Reading) (count : ℕ) (ch : Change) → g.found ≡ Good ch → r ≡ Ok (record { count = count; newest = at })
           → Tells w s t y (edit_asks w s at (record { change = ch; tables = g.tables })) → Tells w s t y (read_asks w s r)
       unfolding read_asks entry_asks got_asks found_asks
       entry_good t y r count ch good whole q =
@@ -298,14 +297,14 @@ module _ (w : Way) (h : Head) (b : List ℕ) (here : HeadStands h b) where
     none_held n counted k t kp p z = by_number (none_left w) t (some_number w) (p ∙ (λ i. record { answer = kp i; small = 0; beside = 0 })) (if_eq _ _ (used_is w h b ∙ sym counted ∙ z) refl)
 
     -- the newest entry was found
-    module _ (n : ℕ) (counted : n ≡ used) (some : n ≡ 0 → ⊥) (at passed : ℕ) (x : NewestFound w s (At at passed)) where
-      pub by_newest : (t : Told) (y : List ℕ) → Tells w s t y (read_asks w s (Whole x.0 at)) → Tells w s t y (newest_asks w s)
+    module _ (n : ℕ) (counted : n ≡ used) (some : n ≡ 0 → ⊥) (r : Newest) (x : NewestFound w s (Some r)) where
+      pub by_newest : (t : Told) (y : List ℕ) → Tells w s t y (read_asks w s (Ok (record { count = x.0; newest = r.place }))) → Tells w s t y (newest_asks w s)
       unfolding newest_asks
       by_newest t y q =
           tells_same w s t y (else_eq (refuses (none_left w)) _ (λ z. some (counted ∙ sym (used_is w h b) ∙ z)) (ap (read_asks w s) (sym x.1))) q
 
-      pub at_low : at ≤ n
-      at_low = omega (arith, counted, newest_low w h b here whole at passed x)
+      pub at_low : r.place ≤ n
+      at_low = omega (arith, counted, newest_low w h b here whole r x)
 
 -- ---- the whole call
 

@@ -1,6 +1,6 @@
 -- Document 01, "The journal" and "Session answers", and document 02, d: what the calls `undo` and `redo` come to, for every session. Undo takes the
 -- journal's newest entry back, redo puts the redo store's newest in again: one road, walked both ways.
-use Rattle.std.specs.Prelude.{ℕ, ◌-◌, cond, not, List, [], ◌≡◌, length, take, drop, eqb}
+use Rattle.std.specs.Prelude.{ℕ, ◌-◌, cond, not, List, [], ◌≡◌, length, take, drop, eqb, Option, None, Some, Ok, Err}
 use Rattle.wire.specs.Conditions.{◌and◌}
 use Rattle.record.specs.declared.Record.{Record}
 use Rattle.record.specs.declared.Timer.{Timer}
@@ -9,9 +9,7 @@ use Rattle.change.specs.declared.Tables.{Tables}
 use Rattle.change.specs.declared.Edit.{Edit}
 use Rattle.change.specs.declared.Changed.{Changed}
 use Rattle.formed.specs.Formed.{record_ok}
-use Rattle.entries.specs.Entries.{scan, reading_of}
-use Rattle.entries.specs.declared.Reading.{Reading}
-use Rattle.entries.specs.declared.Reading.TheVariants.{Whole, Unknown, Cut}
+use Rattle.entries.specs.Entries.{scan, Reading, reading_of}
 use Rattle.wire.specs.Wire.{pasted}
 use Rattle.journal.specs.Ways.{by_way, other}
 use Rattle.journal.specs.Bytes.{entry_bytes}
@@ -24,7 +22,6 @@ use Rattle.journal.specs.declared.Way.{Way}
 use Rattle.journal.specs.declared.Way.TheVariants.{Before, After}
 use Rattle.marks.specs.declared.Mark.{Mark}
 use Rattle.marks.specs.declared.Newest.{Newest}
-use Rattle.marks.specs.declared.Newest.TheVariants.{At, Nothing}
 use Rattle.marks.specs.Marks.{marks_of, passed_of, Last}
 use Rattle.session.specs.Session.{entries_in, well_formed}
 use Rattle.session.specs.Road.{Asks, refuses, moves, store_of, used_of, Said, settled}
@@ -56,9 +53,8 @@ unfoldable pub entry_asks : Way → Session → ℕ → Asks
 entry_asks w s at = got_asks w s at (got_of w (take (used_of w s - at) (drop at (store_of w s))))
 
 unfoldable pub read_asks : Way → Session → Reading → Asks
-read_asks w s (Whole count newest) = entry_asks w s newest
-read_asks w s (Unknown at) = refuses 1
-read_asks w s (Cut at) = refuses 1
+read_asks w s (Ok whole) = entry_asks w s whole.newest
+read_asks w s (Err broken) = refuses 1
 
 -- 6: undo with an empty journal; "8, nothing to redo, tested where 6 is"
 unfoldable pub none_left : Way → ℕ
@@ -134,9 +130,10 @@ LooksFrom Before b from = (x : Mark) × Last (marks_in b) x × (from ≡ x.place
 LooksFrom After b from = from ≡ 0
 
 -- the newest entry of a store that has one is found at its place, and the number passed is the one to report
-abbrev pub NewestFound : Way → Session → Newest → Type 0
-NewestFound w s (At at passed) = (count : ℕ) × (reading_of (scan (take (used_of w s) (store_of w s))) ≡ Whole count at) × (passed ≡ passed_by w s)
-NewestFound w s Nothing = ⊥
+abbrev pub NewestFound : Way → Session → Option Newest → Type 0
+NewestFound w s (Some x) =
+    (count : ℕ) × (reading_of (scan (take (used_of w s) (store_of w s))) ≡ Ok (record { count = count; newest = x.place })) × (x.passed ≡ passed_by w s)
+NewestFound w s None = ⊥
 
 -- before an entry is moved: undo takes the newest away, redo puts one more at the used end
 abbrev pub MarksBefore : Way → ℕ → ℕ → List ℕ → Type 0

@@ -141,7 +141,7 @@ fn take(lent: &mut [u8], h: Head, way: Way, at: usize, e: Edit, passed: u8) -> T
 }
 
 // The newest entry of a store that has one: where it begins, and how many entries undo passed, from the last mark on, to find it.
-fn newest_of(lent: &[u8], h: Head, way: Way, used: usize) -> Newest
+fn newest_of(lent: &[u8], h: Head, way: Way, used: usize) -> Option<Newest>
     requires { HeadStands h lent.now × (well_formed (session_in h lent.now) ≡ true) × (used ≡ by_way way h.used h.ahead) × (used ≡ 0 → ⊥) }
     ensures { NewestFound way (session_in h lent.now) result }
 {
@@ -149,12 +149,12 @@ fn newest_of(lent: &[u8], h: Head, way: Way, used: usize) -> Newest
     let from = look_from(lent, way);
     let first = store + from;
     let end = store + used;
-    let found = marks::find_newest(&lent[first..end]);
-    let Newest::At(place, passed) = found else {
-        return Newest::Nothing;
-    };
-    let told = by_way(way, passed, 0);
-    Newest::At(from + place, told)
+    let found = marks::find_newest(&lent[first..end])?;
+    let passed = by_way(way, found.passed, 0);
+    Some(Newest {
+        place: from + found.place,
+        passed,
+    })
 }
 
 // A well-formed session reads as entries with good values; what the two `else` answer can't come.
@@ -167,10 +167,10 @@ fn take_newest(lent: &mut [u8], h: Head, way: Way) -> Told
     if used == 0 {
         return inplace::answer_with(none_left(way), 0);
     }
-    let newest = newest_of(&*lent, h, way, used);
-    let Newest::At(at, passed) = newest else {
+    let Some(newest) = newest_of(&*lent, h, way, used) else {
         return inplace::answer_with(1, 0);
     };
+    let at = newest.place;
     let store = image::store_at(way);
     let start = store + at;
     let end = store + used;
@@ -189,7 +189,7 @@ fn take_newest(lent: &mut [u8], h: Head, way: Way) -> Told
             change: change,
             tables: tables,
         },
-        passed as u8,
+        newest.passed as u8,
     )
 }
 

@@ -1,5 +1,5 @@
 -- The marks of a lent session: where the last part of its journal begins, and the marks with an entry more or less. Assumes nothing.
-use Rattle.std.specs.Prelude.{ℕ, ◌+◌, ◌-◌, ◌*◌, ◌/◌, ◌%◌, ◌≤◌, ◌<◌, true, ◌≡◌, List, [], ◌∷◌, length, take, drop}
+use Rattle.std.specs.Prelude.{ℕ, ◌+◌, ◌-◌, ◌*◌, ◌/◌, ◌%◌, ◌≤◌, ◌<◌, true, ◌≡◌, List, [], ◌∷◌, length, take, drop, Option, None, Some}
 use Rattle.std.proofs.Math.Path.{sym, ap}
 use Rattle.std.proofs.Common.{subst, ◌∙◌, arith, length-drop, length-take-le, take-take, take_all, drop-drop}
 use Rattle.wire.specs.Wire.{to_be, pasted}
@@ -8,7 +8,6 @@ use Rattle.entries.specs.Entries.{Entry, written, Scan, between, entries_of, sca
 use Rattle.entries.proofs.laws.Entries.{Proper, scan_written, scan_proper, scan_older, take_newest, length_written}
 use Rattle.marks.specs.declared.Mark.{Mark}
 use Rattle.marks.specs.declared.Newest.{Newest}
-use Rattle.marks.specs.declared.Newest.TheVariants.{At, Nothing}
 use Rattle.marks.specs.Marks.{marks_of, passed_of, Last, newest_of, last_mark}
 use Rattle.marks.proofs.laws.Marks.{two_each, keeps_marks, marks_first, marks_more, marks_less, zeros}
 use Rattle.marks.proofs.laws.Last.{NewestIs, last_number, last_place, mark_within, at_mark, mark_here, found_at, found_none}
@@ -83,16 +82,16 @@ module _ (b : List ℕ) (long : length b ≡ image_length) (used : ℕ) (m : Mar
     part_is = journal_part b x.place used place_low m.fits long ∙ (λ i. drop (place_is i) (bytes_are i))
 
     -- what is found there: nothing in an empty journal, else its newest entry
-    module _ (found : Newest) (is : found ≡ newest_of (reading_of (scan (take (journal_at + used - (journal_at + x.place)) (drop (journal_at + x.place) b))))) where
+    module _ (found : Option Newest) (is : found ≡ newest_of (reading_of (scan (take (journal_at + used - (journal_at + x.place)) (drop (journal_at + x.place) b))))) where
       found_is : found ≡ newest_of (reading_of (scan (drop (last_mark es) (written es))))
       found_is = is ∙ ap (λ (j : List ℕ). newest_of (reading_of (scan j))) part_is
 
-      pub empty_journal : found ≡ Nothing → es ≡ []
+      pub empty_journal : found ≡ None → es ≡ []
       empty_journal z = found_none es proper (sym z ∙ found_is)
 
-      pub newest_there : (place passed : ℕ) → found ≡ At place passed → NewestIs es (x.place + place) passed
-      newest_there place passed e =
-          subst (λ (n : ℕ). NewestIs es (n + place) passed) (sym place_is) (found_at es proper place passed (sym e ∙ found_is))
+      pub newest_there : (newest : Newest) → found ≡ Some newest → NewestIs es (x.place + newest.place) newest.passed
+      newest_there newest e =
+          subst (λ (n : ℕ). NewestIs es (n + newest.place) newest.passed) (sym place_is) (found_at es proper newest (sym e ∙ found_is))
 
     -- with one entry more, which begins at the used end
     module _ (room : used + 2 ≤ 2048) where

@@ -25,10 +25,10 @@ pub slice_bounds-find_newest-end : goal.slice_bounds-find_newest-end
 slice_bounds-find_newest-end c = omega (arith, c.requires)
 
 pub returns-in_default : goal.returns-in_default
-returns-in_default c = none_more c.args.lent.now c.requires.0 _ c.requires.1 c.requires.2 _ c.last-last.ensures _ c.find_newest-found.ensures.value c.in_default.is
+returns-in_default c = none_more c.args.lent.now c.requires.0 _ c.requires.1 c.requires.2 _ c.last-last.ensures _ c.find_newest.ensures.value c.in_default.is
 
-pub returns-then-passed-ne31 : goal.returns-then-passed-ne31
-returns-then-passed-ne31 c = unmarked_more c.args.lent.now c.requires.0 _ c.requires.1 c.requires.2 _ c.last-last.ensures _ c.find_newest-found.ensures.value _ _ c.in-At.is c.if-passed-ne31.true
+pub returns-then-newest-ne31 : goal.returns-then-newest-ne31
+returns-then-newest-ne31 c = unmarked_more c.args.lent.now c.requires.0 _ c.requires.1 c.requires.2 _ c.last-last.ensures _ c.find_newest.ensures.value _ c.in-Some.is c.if-newest-ne31.true
 
 pub overflow_add-next : goal.overflow_add-next
 overflow_add-next c = omega (arith, c.last-last.ensures.low)
@@ -40,7 +40,7 @@ pub slice_bounds-put_be-end : goal.slice_bounds-put_be-end
 slice_bounds-put_be-end c = omega (arith, c.requires.0)
 
 pub put_be-requires : goal.put_be-requires
-put_be-requires c = next_room c.args.lent.now c.requires.0 _ c.requires.1 c.requires.2 _ c.last-last.ensures _ c.find_newest-found.ensures.value _ _ c.in-At.is c.if-passed-ne31.false
+put_be-requires c = next_room c.args.lent.now c.requires.0 _ c.requires.1 c.requires.2 _ c.last-last.ensures _ c.find_newest.ensures.value _ c.in-Some.is c.if-newest-ne31.false
 
 pub returns : goal.returns
-returns c = marked_more c.args.lent.now c.requires.0 _ c.requires.1 c.requires.2 _ c.last-last.ensures _ c.find_newest-found.ensures.value _ _ c.in-At.is c.if-passed-ne31.false _ c.put_be.ensures
+returns c = marked_more c.args.lent.now c.requires.0 _ c.requires.1 c.requires.2 _ c.last-last.ensures _ c.find_newest.ensures.value _ c.in-Some.is c.if-newest-ne31.false _ c.put_be.ensures

@@ -1,5 +1,5 @@
 -- The last mark, found in the marks' bytes, and what stands from there on. Assumes nothing.
-use Rattle.std.specs.Prelude.{ℕ, zero, suc, ◌+◌, ◌-◌, ◌*◌, ◌/◌, ◌%◌, ◌≤◌, ◌<◌, Bool, true, false, ◌≡◌, refl, ltb, get_or, take, drop}
+use Rattle.std.specs.Prelude.{ℕ, zero, suc, ◌+◌, ◌-◌, ◌*◌, ◌/◌, ◌%◌, ◌≤◌, ◌<◌, Bool, true, false, ◌≡◌, refl, ltb, get_or, take, drop, Option, None, Some}
 use Rattle.std.proofs.Common.{sym, subst, ◌∙◌, arith, ltb-true, ltb-false, length-append, take_at}
 use Rattle.std.proofs.Math.Path.{ap}
 use mathlib.Core.List.{List, [], ◌∷◌, ◌++◌, append_assoc}
@@ -13,7 +13,6 @@ use Rattle.entries.specs.Entries.{Entry, bytes_of, written, Scan, between, scan_
 use Rattle.entries.proofs.laws.Entries.{Proper, length_written, count_written, read_append}
 use Rattle.marks.specs.declared.Mark.{Mark}
 use Rattle.marks.specs.declared.Newest.{Newest}
-use Rattle.marks.specs.declared.Newest.TheVariants.{At, Nothing}
 use Rattle.marks.specs.Marks.{milestones, spelled, marks_of, passed_of, mark_in, Last, newest_of, last_mark, from_mark}
 use Rattle.marks.proofs.laws.Marks.{thirty_second, marked_one, unmarked_one, count_milestones, zeros}
 
@@ -198,33 +197,24 @@ part_newest e es = thirty_second (length es)
     (λ z. let m = at_mark e es z in omega (arith, m.0, ap newest_at m.1))
     (λ z. let m = past_mark e es z in omega (arith, m.0, ap newest_at m.1, part_long es))
 
+abbrev pub found : ℕ → ℕ → Option Newest
+found place passed = Some (record { place = place; passed = passed })
+
 -- so it says where the newest of all begins, and the number passed is that of the entries held
 part_found : (e : Entry) (es : List Entry) → Proper (e ∷ es)
-    → newest_of (reading_of (scan (drop (last_mark (e ∷ es)) (written (e ∷ es))))) ≡ At (newest_at (from_mark (e ∷ es))) (passed_of (length (e ∷ es)))
+    → newest_of (reading_of (scan (drop (last_mark (e ∷ es)) (written (e ∷ es))))) ≡ found (newest_at (from_mark (e ∷ es))) (passed_of (length (e ∷ es)))
 unfolding reading_of newest_of passed_of
 part_found e es p =
     let n = part_count e es in
     let some : length (from_mark (e ∷ es)) ≡ 0 → ⊥ = λ z. omega (arith, n, z) in
     let passed : length (from_mark (e ∷ es)) - 1 ≡ length (e ∷ es) - 1 - 32 * ((length (e ∷ es) - 1) / 32) = omega (arith, n) in
     ap (λ (s : Scan). newest_of (reading_of s)) (part_reads (e ∷ es) p)
-    ∙ sym (else_eq Nothing (At (newest_at (from_mark (e ∷ es))) (length (from_mark (e ∷ es)) - 1)) some refl)
-    ∙ ap (At (newest_at (from_mark (e ∷ es)))) passed
+    ∙ sym (else_eq None (found (newest_at (from_mark (e ∷ es))) (length (from_mark (e ∷ es)) - 1)) some refl)
+    ∙ ap (found (newest_at (from_mark (e ∷ es)))) passed
 
-part_empty : newest_of (reading_of (scan (drop (last_mark []) (written [])))) ≡ Nothing
+part_empty : newest_of (reading_of (scan (drop (last_mark []) (written [])))) ≡ None
 unfolding reading_of newest_of last_mark written scan_by scan_from
 part_empty = refl
-
-abbrev pub place_of : Newest → ℕ
-place_of (At place passed) = place
-place_of Nothing = 0
-
-abbrev pub passed_in : Newest → ℕ
-passed_in (At place passed) = passed
-passed_in Nothing = 0
-
-abbrev pub IsAt : Newest → Type 0
-IsAt (At place passed) = Unit {0}
-IsAt Nothing = ⊥
 
 -- the newest of these entries begins at a place, and so many are passed
 pub record NewestIs (es : List Entry) (at passed : ℕ) : Type 0 where
@@ -234,13 +224,19 @@ pub record NewestIs (es : List Entry) (at passed : ℕ) : Type 0 where
   pub begins : at ≡ length (written older)
   pub counted : passed ≡ passed_of (length es)
 
-pub found_at : (es : List Entry) → Proper es → (place passed : ℕ) → At place passed ≡ newest_of (reading_of (scan (drop (last_mark es) (written es))))
-    → NewestIs es (last_mark es + place) passed
-found_at [] p place passed h = absurd (subst IsAt (h ∙ part_empty) tt)
-found_at (e ∷ es) p place passed h =
-    let is = h ∙ part_found e es p in
-    record { newest = e; older = es; are = refl; begins = omega (arith, ap place_of is, part_newest e es); counted = ap passed_in is }
+pub found_at : (es : List Entry) → Proper es → (x : Newest) → Some x ≡ newest_of (reading_of (scan (drop (last_mark es) (written es))))
+    → NewestIs es (last_mark es + x.place) x.passed
+found_at [] p x h = absurd (let e = h ∙ part_empty in cc)
+found_at (e ∷ es) p x h =
+    let is : x ≡ record { place = newest_at (from_mark (e ∷ es)); passed = passed_of (length (e ∷ es)) } = let f = h ∙ part_found e es p in cc in
+    record {
+      newest = e;
+      older = es;
+      are = refl;
+      begins = omega (arith, ap (λ (n : Newest). n.place) is, part_newest e es);
+      counted = ap (λ (n : Newest). n.passed) is;
+    }
 
-pub found_none : (es : List Entry) → Proper es → Nothing ≡ newest_of (reading_of (scan (drop (last_mark es) (written es)))) → es ≡ []
+pub found_none : (es : List Entry) → Proper es → None ≡ newest_of (reading_of (scan (drop (last_mark es) (written es)))) → es ≡ []
 found_none [] p h = refl
-found_none (e ∷ es) p h = absurd (subst IsAt (sym (h ∙ part_found e es p)) tt)
+found_none (e ∷ es) p h = let f = h ∙ part_found e es p in cc

@@ -1,6 +1,12 @@
 -- `parting::refusal_of` meets its contract: the first trace's before the second's. Assumes nothing.
-use Rattle.parting.proofs.Told.{refusal_is}
+use Rattle.parting.proofs.Told.{first_refused, second_refused, none_refused}
 use Rattle.parting.proofs.refusal_of.Goals as goal
 
+pub returns-in-Err : goal.returns-in-Err
+returns-in-Err c = first_refused _ _ c.next.ensures c.in-Err.is
+
+pub returns-in-Err-next : goal.returns-in-Err-next
+returns-in-Err-next c = second_refused _ _ c.next.ensures c.next-2.ensures c.in_default.is c.in-Err-next.is
+
 pub returns : goal.returns
-returns c = refusal_is _ _ c.next-second_next.ensures c.refused-later.ensures c.next-first_next.ensures c.refused.ensures
+returns c = none_refused _ _ c.next.ensures c.next-2.ensures c.in_default.is c.in_default-next.is

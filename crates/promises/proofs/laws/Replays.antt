@@ -27,7 +27,7 @@ use Rattle.occ_call.proofs.laws.Why.{answer_beside}
 use Rattle.sbe_call.specs.Sbe as sbes
 use Rattle.undo_call.specs.Undo.{move_call, undo_on, moved_left}
 use Rattle.inplace.specs.InPlace.{rung_left}
-use Rattle.playing.specs.Playing.{Heard, if_written, heard_with, occ_heard, sbe_heard, undo_heard, heard, line, image_after, place_text, stop_line, pieces_of, text_of, room_for, Replayed, replayed}
+use Rattle.playing.specs.Playing.{Heard, if_written, heard_with, occ_heard, sbe_heard, undo_heard, heard, line, image_after, place_text, stop_line, pieces_of, text_of, room_for, Replayed, replayed, fault_text}
 use Rattle.playing.specs.Steps.{oldest_first, image_from, lines_from}
 use Rattle.playing.proofs.laws.Steps.{image_by_steps, lines_by_steps, pieces_of_whole, entries_of_whole}
 use Rattle.promises.specs.Calls.{Call, occ, sbe, undo, buffer_of, asks, said}
@@ -152,7 +152,7 @@ module _ (t : List ℕ) where
     stops : StopsAt (length (written (entries_of s))) after (stop_line (reading_of s))
 
   stopped : (s : Scan) → LeadsTo trace_table s t → Stopped s
-  unfolding entries_of reading_of stop_line place_text
+  unfolding entries_of reading_of stop_line fault_text place_text
   stopped (between es) h = record { after = []; splits = h.0 ∙ sym (append-nil (written es)); sized = all_sized es h.1; stops = at_its_end }
   stopped (within es k b n) h = record { after = k ∷ b; splits = h.0; sized = all_sized es h.1; stops = too_short k b (omega (arith, h.2)) }
   stopped (unknown es) h = record { after = h.0.0 ∷ h.0.1; splits = h.0.2; sized = all_sized es h.1; stops = no_kind h.0.0 h.0.1 h.0.3 }

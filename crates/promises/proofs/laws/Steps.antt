@@ -1,5 +1,5 @@
 -- One change more, the newest one taken back, and the one last taken back put in again, on the session of a history. Assumes nothing.
-use Rattle.std.specs.Prelude.{ℕ, ◌+◌, ◌-◌, ◌≤◌, false, ◌≡◌, refl, List, [], ◌∷◌, ltb, take, drop}
+use Rattle.std.specs.Prelude.{ℕ, ◌+◌, ◌-◌, ◌≤◌, false, ◌≡◌, refl, List, [], ◌∷◌, ltb, take, drop, Ok}
 use Rattle.std.proofs.Math.Bool.{true, not}
 use Rattle.std.proofs.Math.Logic.{inl, inr, ⊎_elim}
 use Rattle.std.proofs.Math.Path.{sym, ap, subst}
@@ -17,7 +17,6 @@ use Rattle.change.specs.declared.Edit.{Edit}
 use Rattle.formed.specs.Formed.{record_ok, next_ok}
 use Rattle.formed.proofs.laws.Formed.{sound}
 use Rattle.entries.specs.Entries.{body_len, scan, reading_of}
-use Rattle.entries.specs.declared.Reading.TheVariants.{Whole}
 use Rattle.journal.specs.Bytes.{entry_bytes}
 use Rattle.journal.specs.Read.{got_of}
 use Rattle.journal.specs.Add.{entry_len, end_of, added_to, cut_from}
@@ -197,7 +196,7 @@ module _ (w : Way) (own : Session) (r : Record) (next : ℕ) (b : Edit) (bs cs :
   store_now : store_of w s ≡ padded (flat (b ∷ bs))
   store_now = store_there w own r next (b ∷ bs) cs
 
-  reads : reading_of (scan (take (used_of w s) (store_of w s))) ≡ Whole (length (pile (b ∷ bs))) at
+  reads : reading_of (scan (take (used_of w s) (store_of w s))) ≡ Ok (record { count = length (pile (b ∷ bs)); newest = at })
   reads = (λ i. reading_of (scan (take (used_now i) (store_now i)))) ∙ newest_reads w b bs a
 
   got_is : got_of w (take (used_of w s - at) (drop at (store_of w s))) ≡ record { found = Good b.change; tables = b.tables }

@@ -1,6 +1,6 @@
 -- A store of the entries of changes, the newest last: its bytes, how it reads, and that it is well formed. Assumes nothing.
 use Prim.Native.Nat.{ℕ, ◌+◌, ◌-◌, ◌≤◌}
-use Rattle.std.specs.Prelude.{true, ◌≡◌, refl, drop}
+use Rattle.std.specs.Prelude.{true, ◌≡◌, refl, drop, Ok}
 use Rattle.std.proofs.Math.Path.{sym, ap}
 use Rattle.std.proofs.Common.{◌∙◌, arith, drop_at}
 use mathlib.Core.List.{List, [], ◌∷◌, ◌++◌, append_assoc}
@@ -12,7 +12,6 @@ use Rattle.wire.proofs.laws.Wire.{all_replicate}
 use Rattle.wire.proofs.laws.Cases.{if_b, else_lt}
 use Rattle.change.specs.declared.Edit.{Edit}
 use Rattle.entries.specs.Entries.{Entry, bytes_of, written, between, scan_from, scan_by, scan, newest_at, reading_of}
-use Rattle.entries.specs.declared.Reading.TheVariants.{Whole}
 use Rattle.entries.proofs.laws.Entries.{read_append}
 use Rattle.journal.specs.Bytes.{entry_for, entry_bytes}
 use Rattle.journal.specs.Read.{got_of, entry_ok, all_ok, scan_ok, entries_ok}
@@ -123,12 +122,12 @@ module _ (w : Way) (b : Edit) (bs : List Edit) (a : AllStored w (b ∷ bs)) wher
   flat_some z = omega (arith, flat_length, z)
 
   -- it starts where the older ones end
-  pub newest_reads : reading_of (scan (take (length (flat (b ∷ bs))) (padded (flat (b ∷ bs))))) ≡ Whole (length (pile (b ∷ bs))) (length (flat bs))
+  pub newest_reads : reading_of (scan (take (length (flat (b ∷ bs))) (padded (flat (b ∷ bs))))) ≡ Ok (record { count = length (pile (b ∷ bs)); newest = length (flat bs) })
   unfolding reading_of newest_at pile
   newest_reads =
       ap (λ (l : List ℕ). reading_of (scan l)) (take_padded (flat (b ∷ bs)))
       ∙ ap reading_of (pile_reads w (b ∷ bs) a)
-      ∙ ap (λ (l : List ℕ). Whole (length (pile (b ∷ bs))) (length l)) (pile_written bs)
+      ∙ ap (λ (l : List ℕ). Ok (record { count = length (pile (b ∷ bs)); newest = length l })) (pile_written bs)
 
   pub newest_part : take (length (flat (b ∷ bs)) - length (flat bs)) (drop (length (flat bs)) (padded (flat (b ∷ bs)))) ≡ entry_bytes b
   unfolding padded flat

@@ -1,8 +1,5 @@
 use Rattle.std.proofs.Common.{◌≡◌, ◌≤◌, length}
 use Rattle.replay.proofs.serve.Given as goal
 
-abbrev pub invariant-loop-left : goal.invariant-loop-left
-invariant-loop-left g l = (l.have ≤ length l.held) × (length l.lent ≡ length l.initial.lent) × (length l.held ≡ length l.initial.held) × (length l.out ≡ length l.initial.out)
-
-abbrev pub decreases-loop-left : goal.decreases-loop-left
-decreases-loop-left g l = l.left
+abbrev pub invariant-loop : goal.invariant-loop
+invariant-loop g l = (l.have ≤ length l.held) × (length l.lent ≡ length l.initial.lent) × (length l.held ≡ length l.initial.held) × (length l.out ≡ length l.initial.out)

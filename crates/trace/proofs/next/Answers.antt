@@ -1,14 +1,16 @@
-use mathlib.Core.Path.{◌∙◌, refl, ap}
-use Prim.Native.Nat.{ℕ}
-use lib.ListN.{length}
-use Rattle.wire.proofs.laws.Cases.{if_eq, else_eq}
-use Rattle.entries.specs.Entries.{next_for, next_by}
+use Rattle.std.proofs.Common.{arith}
+use Rattle.std.proofs.lemmas.Grind.{common_steps}
+use Rattle.entries.specs.Entries.{some_next, next_by}
 use Rattle.trace.proofs.next.Goals as goal
 
-pub returns-then-t-eq0 : goal.returns-then-t-eq0
+pub returns-then-is_empty : goal.returns-then-is_empty
 unfolding next_by
-returns-then-t-eq0 c = if_eq _ _ c.if-t-eq0.true refl
+returns-then-is_empty c = grind (arith, common_steps)
+
+pub returns-in_err-n : goal.returns-in_err-n
+unfolding next_by some_next
+returns-in_err-n c = grind (arith, common_steps)
 
 pub returns : goal.returns
-unfolding next_by
-returns c = else_eq _ _ c.if-t-eq0.false (c.next_for.ensures ∙ ap (λ (n : ℕ). next_for n (length c.args.t.now)) c.entry_len.ensures.value)
+unfolding next_by some_next
+returns c = grind (arith, common_steps)

@@ -11,35 +11,35 @@ use Rattle.undo_call.proofs.take_newest.Goals as goal
 pub returns-then-used-eq0 : goal.returns-then-used-eq0
 returns-then-used-eq0 c = record { value = first_of_two (none_held c.args.way _ c.args.lent.now c.requires.0 c.requires.1 _ c.by_way-used.ensures.value _ _ c.none_left.ensures c.answer_with.ensures c.if-used-eq0.true); lent_after = second_of_two (none_held c.args.way _ c.args.lent.now c.requires.0 c.requires.1 _ c.by_way-used.ensures.value _ _ c.none_left.ensures c.answer_with.ensures c.if-used-eq0.true) }
 
-pub newest_of-newest-requires : goal.newest_of-newest-requires
-newest_of-newest-requires c = (c.requires.0, c.requires.1, c.by_way-used.ensures.value, c.if-used-eq0.false)
+pub newest_of-requires : goal.newest_of-requires
+newest_of-requires c = (c.requires.0, c.requires.1, c.by_way-used.ensures.value, c.if-used-eq0.false)
 
 pub returns-in_default : goal.returns-in_default
-returns-in_default c = record { value = absurd (subst (NewestFound c.args.way _) c.in_default.is c.newest_of-newest.ensures); lent_after = absurd (subst (NewestFound c.args.way _) c.in_default.is c.newest_of-newest.ensures) }
+returns-in_default c = record { value = absurd (subst (NewestFound c.args.way _) c.in_default.is c.newest_of.ensures); lent_after = absurd (subst (NewestFound c.args.way _) c.in_default.is c.newest_of.ensures) }
 
 pub overflow_add-start : goal.overflow_add-start
-overflow_add-start c = omega (arith, count_fits c.args.way _ c.args.lent.now c.requires.0 c.requires.1 _ c.by_way-used.ensures.value, at_low c.args.way _ c.args.lent.now c.requires.0 c.requires.1 _ c.by_way-used.ensures.value c.if-used-eq0.false _ _ (subst (NewestFound c.args.way _) c.in-At.is c.newest_of-newest.ensures), c.store_at-store.ensures, store_low c.args.way)
+overflow_add-start c = omega (arith, count_fits c.args.way _ c.args.lent.now c.requires.0 c.requires.1 _ c.by_way-used.ensures.value, at_low c.args.way _ c.args.lent.now c.requires.0 c.requires.1 _ c.by_way-used.ensures.value c.if-used-eq0.false _ (subst (NewestFound c.args.way _) c.in-Some.is c.newest_of.ensures), c.store_at-store.ensures, store_low c.args.way)
 
 pub overflow_add-end : goal.overflow_add-end
 overflow_add-end c = omega (arith, count_fits c.args.way _ c.args.lent.now c.requires.0 c.requires.1 _ c.by_way-used.ensures.value, c.store_at-store.ensures, store_low c.args.way)
 
 pub slice_bounds-get-count : goal.slice_bounds-get-count
-slice_bounds-get-count c = omega (arith, at_low c.args.way _ c.args.lent.now c.requires.0 c.requires.1 _ c.by_way-used.ensures.value c.if-used-eq0.false _ _ (subst (NewestFound c.args.way _) c.in-At.is c.newest_of-newest.ensures))
+slice_bounds-get-count c = omega (arith, at_low c.args.way _ c.args.lent.now c.requires.0 c.requires.1 _ c.by_way-used.ensures.value c.if-used-eq0.false _ (subst (NewestFound c.args.way _) c.in-Some.is c.newest_of.ensures))
 
 pub slice_bounds-get-start : goal.slice_bounds-get-start
-slice_bounds-get-start c = omega (arith, at_low c.args.way _ c.args.lent.now c.requires.0 c.requires.1 _ c.by_way-used.ensures.value c.if-used-eq0.false _ _ (subst (NewestFound c.args.way _) c.in-At.is c.newest_of-newest.ensures))
+slice_bounds-get-start c = omega (arith, at_low c.args.way _ c.args.lent.now c.requires.0 c.requires.1 _ c.by_way-used.ensures.value c.if-used-eq0.false _ (subst (NewestFound c.args.way _) c.in-Some.is c.newest_of.ensures))
 
 pub slice_bounds-get-end : goal.slice_bounds-get-end
 slice_bounds-get-end c = omega (arith, count_fits c.args.way _ c.args.lent.now c.requires.0 c.requires.1 _ c.by_way-used.ensures.value, c.requires.0.long, c.store_at-store.ensures, store_low c.args.way)
 
 pub returns-in_default-found : goal.returns-in_default-found
-returns-in_default-found c = record { value = first_of_two (by_newest c.args.way _ c.args.lent.now c.requires.0 c.requires.1 _ c.by_way-used.ensures.value c.if-used-eq0.false _ _ (subst (NewestFound c.args.way _) c.in-At.is c.newest_of-newest.ensures) _ _ (entry_bad c.args.way _ c.args.lent.now c.requires.0 _ c.store_at-store.ensures _ c.by_way-used.ensures.value (count_fits c.args.way _ c.args.lent.now c.requires.0 c.requires.1 _ c.by_way-used.ensures.value) _ (at_low c.args.way _ c.args.lent.now c.requires.0 c.requires.1 _ c.by_way-used.ensures.value c.if-used-eq0.false _ _ (subst (NewestFound c.args.way _) c.in-At.is c.newest_of-newest.ensures)) _ c.get-got.ensures _ _ _ c.answer_with-in_default-found.ensures c.in_default-found.is refl)); lent_after = second_of_two (by_newest c.args.way _ c.args.lent.now c.requires.0 c.requires.1 _ c.by_way-used.ensures.value c.if-used-eq0.false _ _ (subst (NewestFound c.args.way _) c.in-At.is c.newest_of-newest.ensures) _ _ (entry_bad c.args.way _ c.args.lent.now c.requires.0 _ c.store_at-store.ensures _ c.by_way-used.ensures.value (count_fits c.args.way _ c.args.lent.now c.requires.0 c.requires.1 _ c.by_way-used.ensures.value) _ (at_low c.args.way _ c.args.lent.now c.requires.0 c.requires.1 _ c.by_way-used.ensures.value c.if-used-eq0.false _ _ (subst (NewestFound c.args.way _) c.in-At.is c.newest_of-newest.ensures)) _ c.get-got.ensures _ _ _ c.answer_with-in_default-found.ensures c.in_default-found.is refl)) }
+returns-in_default-found c = record { value = first_of_two (by_newest c.args.way _ c.args.lent.now c.requires.0 c.requires.1 _ c.by_way-used.ensures.value c.if-used-eq0.false _ (subst (NewestFound c.args.way _) c.in-Some.is c.newest_of.ensures) _ _ (entry_bad c.args.way _ c.args.lent.now c.requires.0 _ c.store_at-store.ensures _ c.by_way-used.ensures.value (count_fits c.args.way _ c.args.lent.now c.requires.0 c.requires.1 _ c.by_way-used.ensures.value) _ (at_low c.args.way _ c.args.lent.now c.requires.0 c.requires.1 _ c.by_way-used.ensures.value c.if-used-eq0.false _ (subst (NewestFound c.args.way _) c.in-Some.is c.newest_of.ensures)) _ c.get-got.ensures _ _ _ c.answer_with-in_default-found.ensures c.in_default-found.is refl)); lent_after = second_of_two (by_newest c.args.way _ c.args.lent.now c.requires.0 c.requires.1 _ c.by_way-used.ensures.value c.if-used-eq0.false _ (subst (NewestFound c.args.way _) c.in-Some.is c.newest_of.ensures) _ _ (entry_bad c.args.way _ c.args.lent.now c.requires.0 _ c.store_at-store.ensures _ c.by_way-used.ensures.value (count_fits c.args.way _ c.args.lent.now c.requires.0 c.requires.1 _ c.by_way-used.ensures.value) _ (at_low c.args.way _ c.args.lent.now c.requires.0 c.requires.1 _ c.by_way-used.ensures.value c.if-used-eq0.false _ (subst (NewestFound c.args.way _) c.in-Some.is c.newest_of.ensures)) _ c.get-got.ensures _ _ _ c.answer_with-in_default-found.ensures c.in_default-found.is refl)) }
 
-pub overflow_cast-passed : goal.overflow_cast-passed
-overflow_cast-passed c = omega (arith, passed_low c.args.way _ _ ((subst (NewestFound c.args.way _) c.in-At.is c.newest_of-newest.ensures)).2)
+pub overflow_cast-newest : goal.overflow_cast-newest
+overflow_cast-newest c = omega (arith, passed_low c.args.way _ _ ((subst (NewestFound c.args.way _) c.in-Some.is c.newest_of.ensures)).2)
 
 pub take-requires : goal.take-requires
-take-requires c = (c.requires.0, entry_ends c.args.way _ c.args.lent.now c.requires.0 _ c.store_at-store.ensures _ c.by_way-used.ensures.value (count_fits c.args.way _ c.args.lent.now c.requires.0 c.requires.1 _ c.by_way-used.ensures.value) _ (at_low c.args.way _ c.args.lent.now c.requires.0 c.requires.1 _ c.by_way-used.ensures.value c.if-used-eq0.false _ _ (subst (NewestFound c.args.way _) c.in-At.is c.newest_of-newest.ensures)) _ c.get-got.ensures _ c.in-Good.is, sum_fits c.args.way _ c.args.lent.now c.requires.0 c.requires.1, marks_before c.args.way _ c.args.lent.now c.requires.0 c.requires.1 _ c.by_way-used.ensures.value c.if-used-eq0.false _ _ (subst (NewestFound c.args.way _) c.in-At.is c.newest_of-newest.ensures), ((subst (NewestFound c.args.way _) c.in-At.is c.newest_of-newest.ensures)).2)
+take-requires c = (c.requires.0, entry_ends c.args.way _ c.args.lent.now c.requires.0 _ c.store_at-store.ensures _ c.by_way-used.ensures.value (count_fits c.args.way _ c.args.lent.now c.requires.0 c.requires.1 _ c.by_way-used.ensures.value) _ (at_low c.args.way _ c.args.lent.now c.requires.0 c.requires.1 _ c.by_way-used.ensures.value c.if-used-eq0.false _ (subst (NewestFound c.args.way _) c.in-Some.is c.newest_of.ensures)) _ c.get-got.ensures _ c.in-Good.is, sum_fits c.args.way _ c.args.lent.now c.requires.0 c.requires.1, marks_before c.args.way _ c.args.lent.now c.requires.0 c.requires.1 _ c.by_way-used.ensures.value c.if-used-eq0.false _ (subst (NewestFound c.args.way _) c.in-Some.is c.newest_of.ensures), ((subst (NewestFound c.args.way _) c.in-Some.is c.newest_of.ensures)).2)
 
 pub returns : goal.returns
-returns c = record { value = first_of_two (by_newest c.args.way _ c.args.lent.now c.requires.0 c.requires.1 _ c.by_way-used.ensures.value c.if-used-eq0.false _ _ (subst (NewestFound c.args.way _) c.in-At.is c.newest_of-newest.ensures) _ _ (entry_good c.args.way _ c.args.lent.now c.requires.0 _ c.store_at-store.ensures _ c.by_way-used.ensures.value (count_fits c.args.way _ c.args.lent.now c.requires.0 c.requires.1 _ c.by_way-used.ensures.value) _ (at_low c.args.way _ c.args.lent.now c.requires.0 c.requires.1 _ c.by_way-used.ensures.value c.if-used-eq0.false _ _ (subst (NewestFound c.args.way _) c.in-At.is c.newest_of-newest.ensures)) _ c.get-got.ensures _ _ _ _ _ c.in-Good.is refl (c.take.ensures.value, c.take.ensures.lent_after))); lent_after = second_of_two (by_newest c.args.way _ c.args.lent.now c.requires.0 c.requires.1 _ c.by_way-used.ensures.value c.if-used-eq0.false _ _ (subst (NewestFound c.args.way _) c.in-At.is c.newest_of-newest.ensures) _ _ (entry_good c.args.way _ c.args.lent.now c.requires.0 _ c.store_at-store.ensures _ c.by_way-used.ensures.value (count_fits c.args.way _ c.args.lent.now c.requires.0 c.requires.1 _ c.by_way-used.ensures.value) _ (at_low c.args.way _ c.args.lent.now c.requires.0 c.requires.1 _ c.by_way-used.ensures.value c.if-used-eq0.false _ _ (subst (NewestFound c.args.way _) c.in-At.is c.newest_of-newest.ensures)) _ c.get-got.ensures _ _ _ _ _ c.in-Good.is refl (c.take.ensures.value, c.take.ensures.lent_after))) }
+returns c = record { value = first_of_two (by_newest c.args.way _ c.args.lent.now c.requires.0 c.requires.1 _ c.by_way-used.ensures.value c.if-used-eq0.false _ (subst (NewestFound c.args.way _) c.in-Some.is c.newest_of.ensures) _ _ (entry_good c.args.way _ c.args.lent.now c.requires.0 _ c.store_at-store.ensures _ c.by_way-used.ensures.value (count_fits c.args.way _ c.args.lent.now c.requires.0 c.requires.1 _ c.by_way-used.ensures.value) _ (at_low c.args.way _ c.args.lent.now c.requires.0 c.requires.1 _ c.by_way-used.ensures.value c.if-used-eq0.false _ (subst (NewestFound c.args.way _) c.in-Some.is c.newest_of.ensures)) _ c.get-got.ensures _ _ _ _ _ c.in-Good.is refl (c.take.ensures.value, c.take.ensures.lent_after))); lent_after = second_of_two (by_newest c.args.way _ c.args.lent.now c.requires.0 c.requires.1 _ c.by_way-used.ensures.value c.if-used-eq0.false _ (subst (NewestFound c.args.way _) c.in-Some.is c.newest_of.ensures) _ _ (entry_good c.args.way _ c.args.lent.now c.requires.0 _ c.store_at-store.ensures _ c.by_way-used.ensures.value (count_fits c.args.way _ c.args.lent.now c.requires.0 c.requires.1 _ c.by_way-used.ensures.value) _ (at_low c.args.way _ c.args.lent.now c.requires.0 c.requires.1 _ c.by_way-used.ensures.value c.if-used-eq0.false _ (subst (NewestFound c.args.way _) c.in-Some.is c.newest_of.ensures)) _ c.get-got.ensures _ _ _ _ _ c.in-Good.is refl (c.take.ensures.value, c.take.ensures.lent_after))) }

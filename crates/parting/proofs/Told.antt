@@ -76,55 +76,32 @@ module _ (t u : List ℕ) {m : Next} (first : m ≡ next_by trace_table t) where
     unfolding refused_for refusal_of
     none_refused is = ap₂ by_both (sym reads ∙ first) (sym is ∙ second)
 
--- ---- the lines
+-- ---- the lines: x is what was found
 
-pub shared_put : (p : Sheet) {p1 p2 p3 p4 p5 p6 p7 : Sheet} (entries bytes next : ℕ)
-    → p1 ≡ put_on p (ascii "shared ")
-    → p2 ≡ put_on p1 (decimal entries)
-    → p3 ≡ put_on p2 (ascii " entries, ")
-    → p4 ≡ put_on p3 (decimal bytes)
-    → p5 ≡ put_on p4 (ascii " bytes; next ")
-    → p6 ≡ put_on p5 (decimal next)
-    → p7 ≡ put_on p6 line_end
-    → p7 ≡ put_all p (shared_line entries bytes next)
-unfolding shared_line
-shared_put p {p1} {p2} {p3} {p4} {p5} {p6} entries bytes next e1 e2 e3 e4 e5 e6 e7 =
-    piece p _ _ e1 (piece p1 _ _ e2 (piece p2 _ _ e3 (piece p3 _ _ e4 (piece p4 _ _ e5 (piece p5 _ _ e6 (last_piece p6 line_end e7))))))
+module _ (t u : List ℕ) {x : Parting} {part : List ℕ} (e : x ≡ parting_of t u) (f : part ≡ shared_part t u) where
+  pub parting_pieces : shared_line x.entries (length part) x.next ++ refusal_line x.refusal ≡ pieces_of t u
+  unfolding pieces_of
+  parting_pieces = ap₂ (λ (y : Parting) (l : List ℕ). shared_line y.entries (length l) y.next ++ refusal_line y.refusal) e f
 
-pub nothing_put : (p : Sheet) {r : Option Refusal} → r ≡ None → p ≡ put_all p (refusal_line r)
-unfolding refusal_line put_all
-nothing_put p is = ap (λ (x : Option Refusal). put_all p (refusal_line x)) (sym is)
-
--- r is the refusal, of one of the traces and for one of the faults
-pub refusal_put : (p : Sheet) {q : Sheet} {r : Option Refusal} (which : Fault → Refusal) (fault : Fault) (words : List ℕ) {x : Refusal} {f : Fault}
-    → words ∷ [] ≡ refusal_line (Some (which fault)) → r ≡ Some x → x ≡ which f → f ≡ fault → q ≡ put_on p words → q ≡ put_all p (refusal_line r)
-refusal_put p which fault words e is of_it by put =
-    let all = is ∙ ap Some of_it ∙ ap (λ (y : Fault). Some (which y)) by in
-    last_piece p words put ∙ ap (put_all p) (e ∙ ap refusal_line (sym all))
+  pub parting_short : length (joined (shared_line x.entries (length part) x.next)) ≤ 91 → length (joined (pieces_of t u)) ≤ longest
+  parting_short short =
+      omega (
+        arith,
+        ap (λ (ps : List (List ℕ)). length (joined ps)) parting_pieces,
+        ap length (joined_append (shared_line x.entries (length part) x.next) (refusal_line x.refusal)),
+        length-append (joined (shared_line x.entries (length part) x.next)) (joined (refusal_line x.refusal)),
+        length_refusal x.refusal,
+      )
 
 module _ (t u d : List ℕ) where
   pub told_none : length d < longest → (0 ≡ told_length t u d) × ((d ≡ told t u d) × (IsPrefixLen 0 d × (0 ≤ longest)))
   unfolding told told_length
   told_none h = (if_lt _ _ h refl, (if_lt _ _ h refl, ((omega arith, refl), omega arith)))
 
-  -- x is what was found, q the sheet after the first line
-  pub told_put : {x : Parting} {part d' : List ℕ} {q : Sheet} {end : ℕ} → longest ≤ length d → x ≡ parting_of t u → part ≡ shared_part t u
-      → q ≡ put_all (sheet d 0) (shared_line x.entries (length part) x.next)
-      → length (joined (shared_line x.entries (length part) x.next)) ≤ 91
-      → sheet d' end ≡ put_all q (refusal_line x.refusal)
+  pub told_put : {d' : List ℕ} {end : ℕ} → longest ≤ length d → length (joined (pieces_of t u)) ≤ longest
+      → sheet d' end ≡ put_all (sheet d 0) (pieces_of t u)
       → (end ≡ told_length t u d) × ((d' ≡ told t u d) × (IsPrefixLen end d' × (end ≤ longest)))
-  unfolding told told_length text_of pieces_of
-  told_put {x} {part} h e f first line_short second =
-      let line = shared_line x.entries (length part) x.next in
-      let both : line ++ refusal_line x.refusal ≡ pieces_of t u =
-      ap₂ (λ (y : Parting) (l : List ℕ). shared_line y.entries (length l) y.next ++ refusal_line y.refusal) e f in
-      let short : length (joined (pieces_of t u)) ≤ longest =
-      omega (
-        arith,
-        ap (λ (ps : List (List ℕ)). length (joined ps)) both,
-        ap length (joined_append line (refusal_line x.refusal)),
-        length-append (joined line) (joined (refusal_line x.refusal)),
-        length_refusal x.refusal,
-      ) in
-      let put = fitting (pieces_of t u) d (omega (arith, short, h)) (pieces (sheet d 0) line (refusal_line x.refusal) first second ∙ ap (put_all (sheet d 0)) both) in
+  unfolding told told_length text_of
+  told_put h short e =
+      let put = fitting (pieces_of t u) d (omega (arith, short, h)) e in
       (else_lt _ _ h put.0, (else_lt _ _ h put.1.0, (put.1.1, omega (arith, put.0, short))))

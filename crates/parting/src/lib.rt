@@ -1,16 +1,17 @@
 // Where two recordings part: the whole entries that two lent traces share at their start, and the lines that say it.
-#![tactic(auto)]
+#![tactic(auto, unfolding(text::specs::Text::put_all, crate::specs::Lines::shared_line, crate::specs::Lines::refusal_line))]
 
 ghost use Rattle.std.specs.Prelude.{◌≡◌, ◌≤◌, length};
 ghost use Rattle.wire.specs.Wire.{joined};
 ghost use Rattle.io.specs.Counts.{IsPrefixLen};
-ghost use Rattle.text.specs.Text.{sheet, put_all};
+ghost use Rattle.text.specs.Pages.{Puts};
 ghost use Rattle.entries.specs.Entries.{written, entries_of};
 ghost use Rattle.trace.specs.Trace.{trace_scan};
 ghost use Rattle.parting.specs.Parting.{front, shared_part, refusal_of, parting_of};
-ghost use Rattle.parting.specs.Lines.{shared_line, refusal_line, told, told_length};
+ghost use Rattle.parting.specs.Lines.{shared_line, refusal_line, pieces_of, told, told_length};
 
 use entries::Fault;
+use text::Page;
 
 // The trace whose first entry won't read, and why.
 #[derive(Clone, Copy, PartialEq, Eq)]
@@ -97,41 +98,47 @@ pub fn where_they_part(first: &[u8], second: &[u8]) -> Parting
 
 // ---- the lines
 
-fn put_shared(out: &mut [u8], entries: usize, bytes: usize, next: usize) -> usize
-    ensures result_after { sheet out.new result ≡ put_all (sheet out.old 0) (shared_line entries bytes next) }
-    ensures next_len_bound { length (joined (shared_line entries bytes next)) ≤ 91 }
+fn put_shared(page: &mut Page, entries: usize, bytes: usize, next: usize)
+    ensures puts { Puts page.old page.new (shared_line entries bytes next) }
+    ensures fits { length (joined (shared_line entries bytes next)) ≤ 91 }
 {
-    let start = text::put(out, 0, b"shared ");
-    let counted = text::put_decimal(out, start, entries as u64);
-    let comma = text::put(out, counted, b" entries, ");
-    let sized = text::put_decimal(out, comma, bytes as u64);
-    let after = text::put(out, sized, b" bytes; next ");
-    let end = text::put_decimal(out, after, next as u64);
-    text::put(out, end, b"\n")
+    page.put(b"shared ");
+    page.put_decimal(entries as u64);
+    page.put(b" entries, ");
+    page.put_decimal(bytes as u64);
+    page.put(b" bytes; next ");
+    page.put_decimal(next as u64);
+    page.put(b"\n");
 }
 
-fn put_refusal(out: &mut [u8], at: usize, refusal: Option<Refusal>) -> usize
-    ensures { sheet out.new result ≡ put_all (sheet out.old at) (refusal_line refusal) }
+fn put_refusal(page: &mut Page, refusal: Option<Refusal>)
+    ensures { Puts page.old page.new (refusal_line refusal) }
 {
-    let Some(refused) = refusal else {
-        return at;
-    };
-    match refused {
-        Refusal::InFirst(fault) => match fault {
-            Fault::UnknownKind => text::put(out, at, b"unknown kind in the first\n"),
-            Fault::Cut => text::put(out, at, b"cut entry in the first\n"),
-        },
-        Refusal::InSecond(fault) => match fault {
-            Fault::UnknownKind => text::put(out, at, b"unknown kind in the second\n"),
-            Fault::Cut => text::put(out, at, b"cut entry in the second\n"),
-        },
+    match refusal {
+        None => {}
+        Some(Refusal::InFirst(Fault::UnknownKind)) => page.put(b"unknown kind in the first\n"),
+        Some(Refusal::InFirst(Fault::Cut)) => page.put(b"cut entry in the first\n"),
+        Some(Refusal::InSecond(Fault::UnknownKind)) => page.put(b"unknown kind in the second\n"),
+        Some(Refusal::InSecond(Fault::Cut)) => page.put(b"cut entry in the second\n"),
     }
 }
 
-// The longest text: 31 bytes of words and three numbers of 20 digits in the first line, 27 bytes in the second.
+fn put_parting(page: &mut Page, first: &[u8], second: &[u8])
+    ensures puts { Puts page.old page.new (pieces_of first.now second.now) }
+    ensures fits { length (joined (pieces_of first.now second.now)) ≤ 118 }
+{
+    let part = shared(first, second);
+    let parting = where_they_part(first, second);
+    put_shared(page, parting.entries, part.len(), parting.next);
+    put_refusal(page, parting.refusal);
+}
+
+// The longest text: 31 bytes of words and three numbers of 20 digits in the first line, 27 bytes in
+// the second.
 pub const LONGEST: usize = 118;
 
-// Where two traces part, in one or two lines at the front of `out`, and their length. A buffer too short for the longest is kept: 0.
+// Where two traces part, in one or two lines at the front of `out`, and their length. A buffer too
+// short for the longest is kept: 0.
 pub fn tell(first: &[u8], second: &[u8], out: &mut [u8]) -> usize
     ensures value { result ≡ told_length first.now second.now out.old }
     ensures out_after { out.new ≡ told first.now second.now out.old }
@@ -141,8 +148,7 @@ pub fn tell(first: &[u8], second: &[u8], out: &mut [u8]) -> usize
     if out.len() < LONGEST {
         return 0;
     }
-    let part = shared(first, second);
-    let parting = where_they_part(first, second);
-    let end = put_shared(out, parting.entries, part.len(), parting.next);
-    put_refusal(out, end, parting.refusal)
+    let mut page = Page::new(out);
+    put_parting(&mut page, first, second);
+    page.past
 }

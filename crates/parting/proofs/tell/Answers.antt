@@ -1,4 +1,4 @@
--- `parting::tell` meets its contract: the first line, then the refusal. Assumes nothing.
+use Rattle.std.proofs.Common.{rules}
 use Rattle.parting.proofs.Told.{told_none, told_put}
 use Rattle.parting.proofs.tell.Goals as goal
 
@@ -9,5 +9,6 @@ returns-then-out-lt-LONGEST c =
 
 pub returns : goal.returns
 returns c =
-    let told = told_put c.args.first.now c.args.second.now c.args.out.now c.if-out-lt-LONGEST.false c.where_they_part-parting.ensures c.shared-part.ensures c.put_shared-end.ensures.result_after c.put_shared-end.ensures.next_len_bound c.put_refusal.ensures in
-    record { value = told.0; out_after = told.1.0; prefix_len = told.1.1.0; upper_bound = told.1.1.1 }
+    let page = c.put_parting.new.page in
+    let told = told_put c.args.first.now c.args.second.now c.args.out.now {d' = page.out.now} {end = page.past} c.if-out-lt-LONGEST.false c.put_parting.ensures.fits (search rules) in
+    search (rules, told)

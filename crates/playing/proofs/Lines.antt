@@ -12,7 +12,8 @@ use Rattle.wire.specs.Wire.{joined}
 use Rattle.wire.proofs.laws.Wire.{tail_part}
 use Rattle.wire.proofs.laws.Cases.{if_eq, else_eq, if_ne, else_ne, cond_cases}
 use Rattle.io.specs.Counts.{IsPrefixLen}
-use Rattle.text.specs.Text.{Sheet, sheet, put_on, put_all, ascii, line_end, hexes, decimal}
+use Rattle.text.specs.Pages.{Puts}
+use Rattle.text.specs.declared.Page.{Page}
 use Rattle.text.proofs.laws.Pieces.{piece, pieces, last_piece}
 use Rattle.inplace.specs.declared.Told.{Told}
 use Rattle.inplace.specs.InPlace.{Left}
@@ -25,81 +26,26 @@ use Rattle.trace.specs.Trace.{trace_table}
 use Rattle.occ_call.specs.Occ.{occ_on}
 use Rattle.sbe_call.specs.Sbe.{sbe_on}
 use Rattle.undo_call.specs.Undo.{undo_on}
-use Rattle.playing.specs.Playing.{if_written, heard_with, occ_heard, sbe_heard, undo_heard, heard, Heard, status_text, line_with, line_room, Puts, place_text, fault_text, stop_line, whole_entry}
-
--- ---- the status
-
-module _ (p : Sheet) (answer : ℕ) (status : List ℕ) where
-  pub status_refused : (answer ≡ 0 → ⊥) → p ≡ put_all p (status_text (if_written answer status))
-  unfolding put_all status_text if_written
-  status_refused h =
-      let none : [] ≡ if_written answer status = if_ne _ _ h refl in
-      ap (λ (l : List ℕ). put_all p (status_text l)) none
-
-  pub status_empty : answer ≡ 0 → length status ≡ 0 → p ≡ put_all p (status_text (if_written answer status))
-  unfolding put_all status_text if_written
-  status_empty a z =
-      let all : status ≡ if_written answer status = else_ne _ _ a refl in
-      let none : [] ≡ status_text status = if_eq _ _ z refl in
-      ap (put_all p) none ∙ ap (λ (l : List ℕ). put_all p (status_text l)) all
-
-  pub status_put : {q r : Sheet} → answer ≡ 0 → (length status ≡ 0 → ⊥) → q ≡ put_on p (ascii " ") → r ≡ put_all q (hexes status)
-      → r ≡ put_all p (status_text (if_written answer status))
-  unfolding status_text if_written
-  status_put a z e f =
-      let all : status ≡ if_written answer status = else_ne _ _ a refl in
-      let text : ascii " " ∷ hexes status ≡ status_text status = else_eq _ _ z refl in
-      piece p (ascii " ") (hexes status) e f ∙ ap (put_all p) text ∙ ap (λ (l : List ℕ). put_all p (status_text l)) all
-
--- ---- the line
-
-pub line_put : (p : Sheet) {p1 p2 p3 p4 p5 : Sheet} (number answer : ℕ) (status : List ℕ) → p1 ≡ put_on p (decimal number) → p2 ≡ put_on p1 (ascii " ")
-    → p3 ≡ put_on p2 (decimal answer) → p4 ≡ put_all p3 (status_text status) → p5 ≡ put_on p4 line_end → p5 ≡ put_all p (line_with number answer status)
-unfolding line_with
-line_put p {p1} {p2} {p3} {p4} number answer status e1 e2 e3 e4 e5 =
-    piece p _ _ e1 (piece p1 _ _ e2 (piece p2 _ _ e3 (pieces p3 (status_text status) (line_end ∷ []) e4 (last_piece p4 line_end e5))))
-
-pub place_put : (p : Sheet) {p1 p2 p3 : Sheet} (words : List ℕ) (at : ℕ) → p1 ≡ put_on p words → p2 ≡ put_on p1 (decimal at) → p3 ≡ put_on p2 line_end → p3 ≡ put_all p (place_text words at)
-unfolding place_text
-place_put p {p1} {p2} words at e1 e2 e3 = piece p _ _ e1 (piece p1 _ _ e2 (last_piece p2 line_end e3))
-
--- the line of a reading r
-abbrev pub Stopped : Sheet → Sheet → Reading → Type 0
-Stopped p q r = (q ≡ put_all p (stop_line r)) × (length (joined (stop_line r)) ≤ 37)
-
-pub stop_none : (p : Sheet) {r : Reading} {whole : Whole} → r ≡ Ok whole → Stopped p p r
-unfolding stop_line put_all joined
-stop_none p is = subst (Stopped p p) (sym is) (refl, omega arith)
-
--- that of bytes that break with a fault
-pub stop_at : (p : Sheet) {q : Sheet} {r : Reading} {broken : Broken} {fault : Fault} → r ≡ Err broken → broken.fault ≡ fault
-    → q ≡ put_all p (place_text (fault_text fault) broken.place) → length (joined (place_text (fault_text fault) broken.place)) ≤ 37 → Stopped p q r
-unfolding stop_line
-stop_at p {q} {broken = broken} is e f g =
-    let At : Fault → Type 0 = λ x. (q ≡ put_all p (place_text (fault_text x) broken.place)) × (length (joined (place_text (fault_text x) broken.place)) ≤ 37) in
-    subst (Stopped p q) (sym is) (subst At (sym e) (f, g))
+use Rattle.playing.specs.Playing.{if_written, heard_with, occ_heard, sbe_heard, undo_heard, heard, Heard, status_text, line_with, line_room, Plays, place_text, fault_text, stop_line, whole_entry}
 
 -- x is what the call leaves, f the status bytes of a reply
-pub told_put : {number at end : ℕ} {d b' d' reply : List ℕ} {told : Told} (x : Left) (f : List ℕ → List ℕ) → told ≡ x.told → b' ≡ x.image → reply ≡ x.reply
-    → IsPrefixLen end d'
-    → sheet d' end ≡ put_all (sheet d at) (line_with number told.answer (if_written told.answer (f reply)))
+pub told_put : {number : ℕ} {p q : Page} {b' reply : List ℕ} {told : Told} (x : Left) (f : List ℕ → List ℕ) → told ≡ x.told → b' ≡ x.image → reply ≡ x.reply
+    → Puts p q (line_with number told.answer (if_written told.answer (f reply)))
     → length (joined (line_with number told.answer (if_written told.answer (f reply)))) ≤ line_room
-    → Puts number (heard_with x (f x.reply)) at d b' d' end
+    → Plays number (heard_with x (f x.reply)) p q b'
 unfolding heard_with
-told_put {number} {at} {end} {d} {b'} {d'} x f e i r counts puts fits =
+told_put {number} {p} {q} {told = told} x f e i r puts fits =
     let same = ap₂ (λ (t : Told) (l : List ℕ). line_with number t.answer (if_written t.answer (f l))) e r in
     record {
-      counts = counts;
       image = i;
-      puts = puts ∙ ap (put_all (sheet d at)) same;
+      puts = subst (Puts p q) same puts;
       fits = subst (λ (ps : List (List ℕ)). length (joined ps) ≤ line_room) same fits;
     }
 
 -- the reply buffer that the code makes
-pub occ_zeros : (b : List ℕ) (sender : ℕ) (c : List ℕ) {number at end : ℕ} {d b' d' reply : List ℕ} → reply ≡ replicate 4096 0 → Puts number (occ_heard (occ_on b sender c reply)) at d b' d' end
-    → Puts number (occ_heard (occ_on b sender c (replicate 4096 0))) at d b' d' end
-occ_zeros b sender c {number} {at} {end} {d} {b'} {d'} e p =
-    subst (λ (l : List ℕ). Puts number (occ_heard (occ_on b sender c l)) at d b' d' end) e p
+pub occ_zeros : (b : List ℕ) (sender : ℕ) (c : List ℕ) {number : ℕ} {p q : Page} {b' reply : List ℕ} → reply ≡ replicate 4096 0
+    → Plays number (occ_heard (occ_on b sender c reply)) p q b' → Plays number (occ_heard (occ_on b sender c (replicate 4096 0))) p q b'
+occ_zeros b sender c {number} {p} {q} {b'} e l = subst (λ (r : List ℕ). Plays number (occ_heard (occ_on b sender c r)) p q b') e l
 
 -- ---- the call by its entry's bytes
 
@@ -123,8 +69,8 @@ module _ (b e : List ℕ) where
   unfolding heard
   as_occ n k = else_eq _ _ n (else_eq _ _ k (ap₂ (λ (s : ℕ) (c : List ℕ). occ_heard (occ_on b s c (replicate 4096 0))) (second_byte e) (past_two e)))
 
-pub puts_as : {number at end : ℕ} {d b' d' : List ℕ} {h h' : Heard} → h ≡ h' → Puts number h at d b' d' end → Puts number h' at d b' d' end
-puts_as {number} {at} {end} {d} {b'} {d'} e p = subst (λ (h : Heard). Puts number h at d b' d' end) e p
+pub plays_as : {number : ℕ} {p q : Page} {b' : List ℕ} {h h' : Heard} → h ≡ h' → Plays number h p q b' → Plays number h' p q b'
+plays_as {number} {p} {q} {b'} e l = subst (λ (h : Heard). Plays number h p q b') e l
 
 -- ---- a whole entry has the bytes that its call reads
 

@@ -15,7 +15,9 @@ use Rattle.wire.specs.Conditions.{◌and◌}
 use Rattle.wire.proofs.laws.Wire.{tail_part, joined_append}
 use Rattle.wire.proofs.laws.Cases.{if_not, else_not, if_ne, else_ne, if_lt, else_lt, else_eq, same_le}
 use Rattle.io.specs.Counts.{IsPrefixLen}
-use Rattle.text.specs.Text.{sheet, put_all}
+use Rattle.text.specs.Text.{Sheet, sheet, put_all}
+use Rattle.text.specs.Pages.{sheet_of, Puts}
+use Rattle.text.specs.declared.Page.{Page}
 use Rattle.text.proofs.laws.Pieces.{pieces, fitting}
 use Rattle.std.specs.Prelude.{None, Some, Ok, Err}
 use Rattle.entries.specs.Entries.{Entry, entry_of, entries_of, reading_of, next_by, Next, Reading}
@@ -30,7 +32,7 @@ use Rattle.image.specs.Image.{image_of, written_to}
 use Rattle.layout.specs.Layout.{image_length}
 use Rattle.playing.specs.declared.Played.{Played}
 use Rattle.playing.specs.declared.Played.TheVariants.{NoImage, NoRoom, Lines}
-use Rattle.playing.specs.Playing.{Heard, heard, line, line_room, Puts, image_after, lines_of, stop_line, pieces_of, text_of, whole_entry, Stepped, stepped, room_for, Replayed, replayed}
+use Rattle.playing.specs.Playing.{Heard, heard, line, line_room, Plays, image_after, lines_of, stop_line, pieces_of, text_of, whole_entry, Stepped, stepped, room_for, Replayed, replayed}
 use Rattle.entries.specs.declared.Fault.{Fault}
 
 -- ---- `step`
@@ -50,11 +52,13 @@ module _ (b : List ℕ) (number : ℕ) (e d : List ℕ) {x : Bool} (judged : x �
   unfolding stepped
   step_short h short = kept (else_not _ _ judged h (if_lt _ _ short refl))
 
-  pub step_put : {r : ℕ} {b' d' : List ℕ} → not x ≡ false → line_room ≤ length d → Puts number (heard b (entry_of e)) 0 d b' d' r → Steps r b' d' (stepped b number e d)
+  pub step_put : {b' : List ℕ} {p q : Page} → not x ≡ false → line_room ≤ length d → sheet_of p ≡ sheet d 0 → Plays number (heard b (entry_of e)) p q b'
+      → Steps q.past b' q.out.now (stepped b number e d)
   unfolding stepped
-  step_put {r} {b'} {d'} h room p =
-      let text = fitting (line number (heard b (entry_of e))) d (omega (arith, p.fits)) p.puts in
-      subst (Steps r b' d') (else_not _ _ judged h (else_lt _ _ room refl)) ((text.0, (p.image, text.1.0)), p.counts)
+  step_put {b'} {p} {q} h room fresh l =
+      let put = l.puts.1 ∙ ap (λ (s : Sheet). put_all s (line number (heard b (entry_of e)))) fresh in
+      let text = fitting (line number (heard b (entry_of e))) d (omega (arith, l.fits)) put in
+      subst (Steps q.past b' q.out.now) (else_not _ _ judged h (else_lt _ _ room refl)) ((text.0, (l.image, text.1.0)), text.1.1)
 
 -- ---- the bytes of the next entry
 
@@ -84,21 +88,21 @@ module _ (t : List ℕ) (at n : ℕ) (stands : Ok (Some n) ≡ next_by trace_tab
 
 -- ---- `play_entries`: the entries before `at` were played, from a fresh session and a buffer d₀
 
-pub record Playing (t d₀ : List ℕ) (at end number : ℕ) (b d : List ℕ) : Type 0 where
+pub record Playing (t : List ℕ) (p q : Sheet) (at number : ℕ) (b : List ℕ) : Type 0 where
   pub entries : List Entry
   pub place : Placed trace_table t at entries
   pub image : b ≡ image_after entries
   pub counted : number ≡ length entries
-  pub puts : sheet d end ≡ put_all (sheet d₀ 0) (lines_of entries)
+  pub puts : q ≡ put_all p (lines_of entries)
   pub fits : length (joined (lines_of entries)) ≤ line_room * length entries
 
-pub playing_none : (t d b : List ℕ) → b ≡ image_of fresh_session → Playing t d 0 0 0 b d
+pub playing_none : (t b : List ℕ) (p : Sheet) → b ≡ image_of fresh_session → Playing t p p 0 0 b
 unfolding image_after lines_of put_all joined
-playing_none t d b e = record { entries = []; place = first_place trace_table t; image = e; counted = refl; puts = refl; fits = omega arith }
+playing_none t b p e = record { entries = []; place = first_place trace_table t; image = e; counted = refl; puts = refl; fits = omega arith }
 
 -- these entries were played, and all fits
-abbrev Done : List Entry → List ℕ → ℕ → List ℕ → List ℕ → Type 0
-Done es d₀ end b d = (b ≡ image_after es) × ((sheet d end ≡ put_all (sheet d₀ 0) (lines_of es)) × (length (joined (lines_of es)) ≤ line_room * length es))
+abbrev Done : List Entry → Sheet → Sheet → List ℕ → Type 0
+Done es p q b = (b ≡ image_after es) × ((q ≡ put_all p (lines_of es)) × (length (joined (lines_of es)) ≤ line_room * length es))
 
 line_more : (e : Entry) (es : List Entry) → lines_of es ++ line (suc (length es)) (heard (image_after es) e) ≡ lines_of (e ∷ es)
 unfolding lines_of
@@ -112,51 +116,51 @@ image_more e es = refl
 pub stands_at_lem : (t : List ℕ) (at : ℕ) {n : ℕ} {x : Next} → x ≡ Ok (Some n) → x ≡ next_by trace_table (take (length t - at) (drop at t)) → Ok (Some n) ≡ next_by trace_table (drop at t)
 stands_at_lem t at is e = sym is ∙ e ∙ ap (next_by trace_table) (tail_part t at)
 
-module _ {t d₀ : List ℕ} {at end number : ℕ} {b d : List ℕ} (p : Playing t d₀ at end number b d) where
-  done : entries_of (trace_scan t) ≡ p.entries → Done (entries_of (trace_scan t)) d₀ end b d
-  done e = subst (λ (es : List Entry). Done es d₀ end b d) (sym e) (p.image, (p.puts, p.fits))
+module _ {t : List ℕ} {p₀ p : Sheet} {at number : ℕ} {b : List ℕ} (l : Playing t p₀ p at number b) where
+  done : entries_of (trace_scan t) ≡ l.entries → Done (entries_of (trace_scan t)) p₀ p b
+  done e = subst (λ (es : List Entry). Done es p₀ p b) (sym e) (l.image, (l.puts, l.fits))
 
   -- the bytes from there on, as the code lends them, are at their end, or break
   module _ {x : Next} (e : x ≡ next_by trace_table (take (length t - at) (drop at t))) where
-    leads : Leads trace_table t at p.entries x
-    leads = leads_on p.place (e ∙ ap (next_by trace_table) (tail_part t at))
+    leads : Leads trace_table t at l.entries x
+    leads = leads_on l.place (e ∙ ap (next_by trace_table) (tail_part t at))
 
-    pub played_all : x ≡ Ok None → Done (entries_of (trace_scan t)) d₀ end b d
+    pub played_all : x ≡ Ok None → Done (entries_of (trace_scan t)) p₀ p b
     unfolding entries_of
-    played_all is = done (ap entries_of (subst (Leads trace_table t at p.entries) is leads))
+    played_all is = done (ap entries_of (subst (Leads trace_table t at l.entries) is leads))
 
-    pub played_stop : {fault : Fault} → x ≡ Err fault → Done (entries_of (trace_scan t)) d₀ end b d
-    played_stop is = done (subst (Leads trace_table t at p.entries) is leads).0
+    pub played_stop : {fault : Fault} → x ≡ Err fault → Done (entries_of (trace_scan t)) p₀ p b
+    played_stop is = done (subst (Leads trace_table t at l.entries) is leads).0
 
   pub number_fits : number ≤ at
-  number_fits = omega (arith, p.counted, count_written p.entries, place_written p.place)
+  number_fits = omega (arith, l.counted, count_written l.entries, place_written l.place)
 
-  pub playing_next : {n end' : ℕ} {b' d' : List ℕ} → Ok (Some n) ≡ next_by trace_table (drop at t)
-      → Puts (number + 1) (heard b (entry_of (take (at + n - at) (drop at t)))) end d b' d' end' → Playing t d₀ (at + n) end' (number + 1) b' d'
-  playing_next {n} {end'} {b'} {d'} stands q =
-      let es : List Entry = p.entries in
+  pub playing_next : {n : ℕ} {b' : List ℕ} {r : Page} {r' : Page} → Ok (Some n) ≡ next_by trace_table (drop at t)
+      → sheet_of r ≡ p → Plays (number + 1) (heard b (entry_of (take (at + n - at) (drop at t)))) r r' b' → Playing t p₀ (sheet_of r') (at + n) (number + 1) b'
+  playing_next {n} {b'} {r} {r'} stands same_page q =
+      let es : List Entry = l.entries in
       let e : Entry = entry_of (take n (drop at t)) in
       let h : Heard = heard (image_after es) e in
-      let count : number + 1 ≡ suc (length es) = add-one number ∙ ap suc p.counted in
+      let count : number + 1 ≡ suc (length es) = add-one number ∙ ap suc l.counted in
       let same : heard b (entry_of (take (at + n - at) (drop at t))) ≡ h =
-      ap₂ (λ (i l : List ℕ). heard i (entry_of l)) p.image (lent t at n stands) in
+      ap₂ (λ (i l : List ℕ). heard i (entry_of l)) l.image (lent t at n stands) in
       let shown : line (number + 1) (heard b (entry_of (take (at + n - at) (drop at t)))) ≡ line (suc (length es)) h =
       ap₂ (λ (m : ℕ) (x : Heard). line m x) count same in
       record {
         entries = e ∷ es;
-        place = leads_on p.place stands;
+        place = leads_on l.place stands;
         image = q.image ∙ ap (λ (x : Heard). x.image) same ∙ image_more e es;
         counted = count;
         puts =
-            pieces (sheet d₀ 0) (lines_of es) (line (suc (length es)) h) p.puts (q.puts ∙ ap (put_all (sheet d end)) shown)
-            ∙ ap (put_all (sheet d₀ 0)) (line_more e es);
+            pieces p₀ (lines_of es) (line (suc (length es)) h) l.puts (q.puts.1 ∙ ap₂ put_all same_page shown)
+            ∙ ap (put_all p₀) (line_more e es);
         fits =
             subst (λ (ps : List (List ℕ)). length (joined ps) ≤ line_room * suc (length es)) (line_more e es)
             (omega (
               arith,
               ap length (joined_append (lines_of es) (line (suc (length es)) h)),
               length-append (joined (lines_of es)) (joined (line (suc (length es)) h)),
-              p.fits,
+              l.fits,
               q.fits,
               ap (λ (ps : List (List ℕ)). length (joined ps)) shown,
             ));
@@ -172,29 +176,29 @@ room_some len count h = same_le count ((len - 37) / 34) (room_for count) len (λ
 
 -- ---- `play`
 
-abbrev Plays : Played → List ℕ → List ℕ → Replayed → Type 0
-Plays r b' d' x = (r ≡ x.result) and (b' ≡ x.image) and (d' ≡ x.out)
+abbrev PlayedAs : Played → List ℕ → List ℕ → Replayed → Type 0
+PlayedAs r b' d' x = (r ≡ x.result) and (b' ≡ x.image) and (d' ≡ x.out)
 
 pub fresh_written : (b b' : List ℕ) (s : Session) → length b ≡ image_length → s ≡ fresh_session → b' ≡ written_to b s → b' ≡ image_of fresh_session
 unfolding written_to
 fresh_written b b' s long e w = w ∙ sym (else_ne _ _ long refl) ∙ ap image_of e
 
 module _ (b t d : List ℕ) where
-  pub play_no_image : (length b ≡ image_length → ⊥) → Plays NoImage b d (replayed b t d)
+  pub play_no_image : (length b ≡ image_length → ⊥) → PlayedAs NoImage b d (replayed b t d)
   unfolding replayed
-  play_no_image h = subst (Plays NoImage b d) (if_ne _ _ h refl) (refl, (refl, refl))
+  play_no_image h = subst (PlayedAs NoImage b d) (if_ne _ _ h refl) (refl, (refl, refl))
 
   module _ (long : length b ≡ image_length) {count : ℕ} (counted : count ≡ length (entries_of (trace_scan t))) {x : Bool} (judged : x ≡ leb (room_for count) (length d)) where
-    pub play_no_room : not x ≡ true → Plays NoRoom b d (replayed b t d)
+    pub play_no_room : not x ≡ true → PlayedAs NoRoom b d (replayed b t d)
     unfolding replayed
     play_no_room h =
         let short : length d < room_for (length (entries_of (trace_scan t))) = omega (arith, leb-false (room_for count) (length d) (sym judged ∙ not-true x h)) in
-        subst (Plays NoRoom b d) (else_ne _ _ long (if_lt _ _ short refl)) (refl, (refl, refl))
+        subst (PlayedAs NoRoom b d) (else_ne _ _ long (if_lt _ _ short refl)) (refl, (refl, refl))
 
-    pub play_lines : {b' d' d'' : List ℕ} {end past : ℕ} {reading : Reading} → not x ≡ false → Done (entries_of (trace_scan t)) d end b' d' → reading ≡ reading_of (trace_scan t)
-        → sheet d'' past ≡ put_all (sheet d' end) (stop_line reading) → length (joined (stop_line reading)) ≤ 37 → Plays (Lines past reading) b' d'' (replayed b t d)
+    pub play_lines : {b' d'' : List ℕ} {q : Sheet} {past : ℕ} {reading : Reading} → not x ≡ false → Done (entries_of (trace_scan t)) (sheet d 0) q b' → reading ≡ reading_of (trace_scan t)
+        → sheet d'' past ≡ put_all q (stop_line reading) → length (joined (stop_line reading)) ≤ 37 → PlayedAs (Lines past reading) b' d'' (replayed b t d)
     unfolding replayed text_of pieces_of
-    play_lines {b'} {d'} {d''} {end} {past} {reading} h done e stop fits =
+    play_lines {b'} {d''} {past = past} {reading = reading} h done e stop fits =
         let es : List Entry = entries_of (trace_scan t) in
         let room : room_for (length es) ≤ length d = omega (arith, leb-true (room_for count) (length d) (sym judged ∙ not-false x h)) in
         let all : sheet d'' past ≡ put_all (sheet d 0) (lines_of es ++ stop_line reading) = pieces (sheet d 0) (lines_of es) (stop_line reading) done.1.0 stop in
@@ -202,7 +206,7 @@ module _ (b t d : List ℕ) where
         omega (arith, ap length (joined_append (lines_of es) (stop_line reading)), length-append (joined (lines_of es)) (joined (stop_line reading)), done.1.1) in
         let text = fitting (lines_of es ++ stop_line reading) d long_enough all in
         let same : lines_of es ++ stop_line reading ≡ lines_of es ++ stop_line (reading_of (trace_scan t)) = ap (λ (r : Reading). lines_of es ++ stop_line r) e in
-        subst (Plays (Lines past reading) b' d'') (else_ne _ _ long (else_lt _ _ room refl)) (
+        subst (PlayedAs (Lines past reading) b' d'') (else_ne _ _ long (else_lt _ _ room refl)) (
           ap₂ Lines (text.0 ∙ ap (λ (ps : List (List ℕ)). length (joined ps)) same) e,
           (done.0, text.1.0 ∙ ap (λ (ps : List (List ℕ)). pasted 0 (joined ps) d) same),
         )

@@ -3,7 +3,9 @@ use Rattle.std.specs.Prelude.{ℕ, suc, ◌+◌, ◌*◌, ◌≤◌, Bool, false
 use Rattle.wire.specs.Wire.{pasted, joined}
 use Rattle.wire.specs.Conditions.{◌and◌}
 use Rattle.io.specs.Counts.{IsPrefixLen}
-use Rattle.text.specs.Text.{ascii, line_end, hexes, decimal, sheet, put_all}
+use Rattle.text.specs.Text.{ascii, line_end, hexes, decimal}
+use Rattle.text.specs.Pages.{Puts}
+use Rattle.text.specs.declared.Page.{Page}
 use Rattle.entries.specs.Entries.{Entry, entry_of, entries_of, reading_of, Reading}
 use Rattle.entries.specs.declared.Fault.{Fault}
 use Rattle.entries.specs.declared.Fault.TheVariants.{UnknownKind, Cut}
@@ -100,11 +102,10 @@ text_of t = joined (pieces_of t)
 abbrev pub line_room : ℕ
 line_room = 34
 
--- the session b and the buffer d are left as b' and d': the line is put from `at` on, what doesn't fit left out, and `end` is the place past it
-pub record Puts (number : ℕ) (h : Heard) (at : ℕ) (d b' d' : List ℕ) (end : ℕ) : Type 0 where
-  pub counts : IsPrefixLen end d'
+-- the session is left as b', and its line is put on the page
+pub record Plays (number : ℕ) (h : Heard) (p q : Page) (b' : List ℕ) : Type 0 where
   pub image : b' ≡ h.image
-  pub puts : sheet d' end ≡ put_all (sheet d at) (line number h)
+  pub puts : Puts p q (line number h)
   pub fits : length (joined (line number h)) ≤ line_room
 
 -- bytes that are one whole entry

@@ -7,7 +7,9 @@ use Rattle.wire.proofs.laws.Cases.{cond_elim}
 use Rattle.text.specs.Text.{ascii, line_end, decimal}
 use Rattle.text.proofs.laws.Decimal.{length_decimal}
 use Rattle.text.proofs.laws.Pieces.{length_hexes}
-use Rattle.playing.specs.Playing.{if_written, status_text, line_with, line_room, place_text}
+use Rattle.entries.specs.declared.Fault.{Fault}
+use Rattle.entries.specs.declared.Fault.TheVariants.{UnknownKind, Cut}
+use Rattle.playing.specs.Playing.{if_written, status_text, line_with, line_room, place_text, fault_text}
 
 length_status : (status : List ℕ) → length status ≤ 4 → length (joined (status_text status)) ≤ 9
 unfolding status_text joined
@@ -38,3 +40,8 @@ pub length_place : (words : List ℕ) (at : ℕ) → at < 10 ^ 20 → length (jo
 unfolding place_text joined
 length_place words at h =
     omega (arith, length_decimal 19 at h, length-append words (decimal at ++ (line_end ++ [])), length-append (decimal at) (line_end ++ []))
+
+pub length_fault : (f : Fault) → length (fault_text f) ≤ 16
+unfolding fault_text
+length_fault UnknownKind = omega arith
+length_fault Cut = omega arith

@@ -15,8 +15,8 @@ overflow_add-number c = omega (arith, number_fits c.loop-n.invariant.3)
 pub slice_bounds-play_entry-end : goal.slice_bounds-play_entry-end
 slice_bounds-play_entry-end c = omega (arith, next_ends c.args.t.now _ _ (stands_at_lem c.args.t.now _ (c.in-Ok-Some.is ∙ ap Ok c.in-Ok-Some.field-0-is) c.next.ensures) c.loop-n.invariant.0)
 
-pub play_entry-end-requires : goal.play_entry-end-requires
-play_entry-end-requires c = next_whole c.args.t.now _ _ (stands_at_lem c.args.t.now _ (c.in-Ok-Some.is ∙ ap Ok c.in-Ok-Some.field-0-is) c.next.ensures)
+pub play_entry-requires : goal.play_entry-requires
+play_entry-requires c = next_whole c.args.t.now _ _ (stands_at_lem c.args.t.now _ (c.in-Ok-Some.is ∙ ap Ok c.in-Ok-Some.field-0-is) c.next.ensures)
 
 pub loop-n-smaller : goal.loop-n-smaller
 loop-n-smaller c =
@@ -26,15 +26,15 @@ loop-n-smaller c =
 pub loop-n-preserved : goal.loop-n-preserved
 loop-n-preserved c =
     let stands = stands_at_lem c.args.t.now _ (c.in-Ok-Some.is ∙ ap Ok c.in-Ok-Some.field-0-is) c.next.ensures in
-    (next_ends c.args.t.now _ _ stands c.loop-n.invariant.0, search rules, search rules, playing_next c.loop-n.invariant.3 stands c.play_entry-end.ensures)
+    (next_ends c.args.t.now _ _ stands c.loop-n.invariant.0, search rules, search rules, playing_next c.loop-n.invariant.3 stands refl c.play_entry.ensures)
 
 pub returns-in_default : goal.returns-in_default
 returns-in_default c =
     let none : c.in_default.field-0 ≡ None = search rules in
     let done = played_all c.loop-n.invariant.3 c.next.ensures (c.in_default.is ∙ ap Ok none) in
-    record { lent_after = done.0; result_after = done.1.0; t_len_bound = done.1.1 }
+    record { lent_after = done.0; puts = (c.loop-n.invariant.2, done.1.0); fits = done.1.1 }
 
 pub returns-in_default-2 : goal.returns-in_default-2
 returns-in_default-2 c =
     let done = played_stop c.loop-n.invariant.3 c.next.ensures c.in_default.is in
-    record { lent_after = done.0; result_after = done.1.0; t_len_bound = done.1.1 }
+    record { lent_after = done.0; puts = (c.loop-n.invariant.2, done.1.0); fits = done.1.1 }

@@ -14,4 +14,4 @@ pub put_line-requires : goal.put_line-requires
 put_line-requires c = omega (arith, length-take-le 4 c.alone-told.new.reply (omega arith))
 
 pub returns : goal.returns
-returns c = told_put _ (λ (l : List ℕ). take 4 l) c.alone-told.ensures.0 c.alone-told.ensures.1.0 c.alone-told.ensures.1.1 c.put_line.ensures.prefix_len c.put_line.ensures.result_after c.put_line.ensures.status_len_bound
+returns c = told_put _ (λ (l : List ℕ). take 4 l) c.alone-told.ensures.0 c.alone-told.ensures.1.0 c.alone-told.ensures.1.1 c.put_line.ensures.puts c.put_line.ensures.fits

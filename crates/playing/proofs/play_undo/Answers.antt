@@ -5,4 +5,4 @@ use Prim.Native.Nat.{ℕ}
 use Rattle.playing.proofs.play_undo.Goals as goal
 
 pub returns : goal.returns
-returns c = told_put _ (λ (l : List ℕ). []) c.undo-told.ensures.0 c.undo-told.ensures.1 refl c.put_line.ensures.prefix_len c.put_line.ensures.result_after c.put_line.ensures.status_len_bound
+returns c = told_put _ (λ (l : List ℕ). []) c.undo-told.ensures.0 c.undo-told.ensures.1 refl c.put_line.ensures.puts c.put_line.ensures.fits

@@ -1,11 +1,11 @@
 -- Laws of text put piece by piece. Assumes nothing.
-use Rattle.std.specs.Prelude.{ℕ, ◌+◌, ◌-◌, ◌*◌, ◌≤◌, ◌≡◌, refl, List, [], ◌∷◌, ◌++◌, length, take, drop}
-use Rattle.std.proofs.Common.{sym, ap₂, ◌∙◌, append_assoc, append-nil, add-zero, zero-add, arith, length-append, drop_of_length-le, drop-drop, length-take-le}
+use Rattle.std.specs.Prelude.{ℕ, ◌+◌, ◌-◌, ◌*◌, ◌≤◌, ◌≡◌, refl, List, [], ◌∷◌, ◌++◌, ltb, length, take, drop}
+use Rattle.std.proofs.Common.{sym, ap₂, ◌∙◌, append_assoc, append-nil, add-zero, zero-add, arith, length-append, drop_of_length-le, drop-drop, length-take-le, ltb-false}
 use Rattle.std.proofs.Math.Path.{ap}
 use Rattle.io.specs.Counts.{IsPrefixLen}
 use Rattle.wire.specs.Wire.{pasted, to_be, joined}
 use Rattle.wire.proofs.laws.Wire.{length_to_be, length_pasted, take_pasted, drop_pasted}
-use Rattle.wire.proofs.laws.Cases.{else_lt}
+use Rattle.wire.proofs.laws.Cases.{else_lt, cond_elim, cond_cases}
 use Rattle.wire.proofs.Loops.{paste_none}
 use Rattle.text.specs.Text.{Sheet, sheet, put_on, put_all, from_front, hex_of, hexes}
 
@@ -30,6 +30,22 @@ pieces p xs ys e f = f ∙ ap (λ (s : Sheet). put_all s ys) e ∙ sym (put_all_
 
 pub same_pieces : (p : Sheet) {q : Sheet} {xs ys : List (List ℕ)} → xs ≡ ys → q ≡ put_all p xs → q ≡ put_all p ys
 same_pieces p e h = h ∙ ap (put_all p) e
+
+-- ---- no place is past the end
+
+put_within : (p : Sheet) (x : List ℕ) → p.past ≤ length p.text → (put_on p x).past ≤ length (put_on p x).text
+unfolding put_on
+put_within p x h =
+    cond_elim (λ (s : Sheet). s.past ≤ length s.text) (ltb (length p.text) p.past) (omega arith)
+    (cond_cases (λ (s : Sheet). s.past ≤ length s.text) (ltb (length p.text - p.past) (length x)) (λ e. h)
+    (λ e.
+    let fits : p.past + length x ≤ length p.text = omega (arith, ltb-false (length p.text - p.past) (length x) e) in
+    omega (arith, length_pasted p.past x p.text fits)))
+
+pub past_within : (p : Sheet) (xs : List (List ℕ)) → p.past ≤ length p.text → (put_all p xs).past ≤ length (put_all p xs).text
+unfolding put_all
+past_within p [] h = h
+past_within p (x ∷ xs) h = past_within (put_on p x) xs (put_within p x h)
 
 -- ---- where all fits, the pieces stand as one text
 

@@ -1,5 +1,5 @@
 // The listing of raw journal bytes, put on a page piece by piece.
-#![tactic(auto, unfolding(text::specs::Text::put_all, crate::specs::Listing::damaged_at, crate::specs::Listing::whole, crate::specs::Listing::line), using(text::proofs::laws::Pieces::put_all_append))]
+#![tactic(auto, unfolding(text::specs::Text::put_all, crate::specs::Listing::damaged_at, crate::specs::Listing::whole, crate::specs::Listing::line, crate::specs::Listing::pieces_of), using(text::proofs::laws::Pieces::put_all_append))]
 
 ghost use Rattle.std.specs.Prelude.{◌≡◌};
 ghost use Rattle.io.specs.Counts.{IsPrefixLen};

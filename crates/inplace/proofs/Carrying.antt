@@ -9,7 +9,7 @@ use lib.Dec.{ltb, eqb}
 use lib.ListN.{length, replicate}
 use Rattle.wire.proofs.laws.Cases.{cond_elim}
 use Rattle.record.specs.declared.Log.{Log}
-use Rattle.change.specs.Change.{made_by, put_of, takes_back, timer_after}
+use Rattle.change.specs.Change.{made_by, put_after, takes_back, timer_after}
 use Rattle.change.specs.declared.Change.{Change}
 use Rattle.change.specs.declared.Change.TheVariants.{Clear, Unclear, SetState, SetRole, SetCaps, SetUser, SetThermal, SetThrottles, Reset, Unreset, SetMask, SetDeadman, SetAreas, SetTimer}
 use Rattle.change.specs.declared.Edit.{Edit}
@@ -72,10 +72,10 @@ module _ (s : Session) (e back : Edit) (end : End) (made : end ≡ end_of (lengt
 
   pub carried_at : (used : ℕ) (j : List ℕ) → end ≡ At used → j ≡ added_to s.used back s.journal
       → ◌≡◌ {A = Carried}
-      (record { full = false; session = renewed (with_timer s (timer_after s.timer e.change)) (put_of s.held e).after (s.next + made_of e.change) j used (replicate 2048 0) 0 })
+      (record { full = false; session = renewed (with_timer s (timer_after s.timer e.change)) (put_after s.held e) (s.next + made_of e.change) j used (replicate 2048 0) 0 })
       (carried_of s e)
   unfolding carried_of carried_to
   carried_at used j f jp =
       let jq = jp ∙ ap (λ (b : Edit). added_to s.used b s.journal) is in
-      (λ i. record { full = false; session = renewed (with_timer s (timer_after s.timer e.change)) (put_of s.held e).after (s.next + made_of e.change) (jq i) used (replicate 2048 0) 0 })
+      (λ i. record { full = false; session = renewed (with_timer s (timer_after s.timer e.change)) (put_after s.held e) (s.next + made_of e.change) (jq i) used (replicate 2048 0) 0 })
       ∙ ap (carried_to s e) (sym f ∙ carried_end)

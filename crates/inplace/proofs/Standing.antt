@@ -13,7 +13,7 @@ use Rattle.wire.specs.Wire.{all_are, pasted}
 use Rattle.wire.proofs.laws.Cases.{else_lt}
 use Rattle.wire.proofs.laws.Wire.{take_all_are}
 use Rattle.record.specs.Record.{worked_of}
-use Rattle.change.specs.Change.{put_of, takes_back, timer_after}
+use Rattle.change.specs.Change.{put_after, takes_back, timer_after}
 use Rattle.change.specs.declared.Edit.{Edit}
 use Rattle.entries.specs.Entries.{Entry, Scan, entries_of, scan}
 use Rattle.entries.specs.Entries.{Sized}
@@ -214,7 +214,7 @@ module _ (b : List ℕ) (long : length b ≡ image_length) (h : Head) (e back : 
           let j = added_to h.used back (journal_in b) in
           let k = carried_at (session_in h b) e back end made_in is used j at refl in
           let there : y ≡ image_of (session_in (head_after h e used) z) = q ∙ ap (λ (k : Head). image_of (session_in k z)) hp in
-          let r = (put_of h.held e).after in
+          let r = put_after h.held e in
           let n = h.next + made_of e.change in
           let timer = timer_after h.timer e.change in
           let stands : image_of (session_in (head_after h e used) z) ≡ image_of (renewed (with_timer (session_in h b) timer) r n j used (replicate 2048 0) 0) =

@@ -1,6 +1,6 @@
 -- What calls and changes leave in the lent bytes of a session.
 use Rattle.std.specs.Prelude.{cond, not, List, ◌∷◌, ◌≡◌, length, take, eqb, ℕ, ◌+◌, ◌≤◌}
-use Rattle.change.specs.Change.{put_of, timer_after}
+use Rattle.change.specs.Change.{put_after, timer_after}
 use Rattle.change.specs.declared.Edit.{Edit}
 use Rattle.entries.specs.Entries.{Entry, written, between, scan}
 use Rattle.marks.specs.Marks.{marks_of}
@@ -52,7 +52,7 @@ pub record MarkedTo (used at : ℕ) (b : List ℕ) : Type 0 where
 
 -- the head after a change whose entry ends at `used`: the redo store is empty then
 unfoldable pub head_after : Head → Edit → ℕ → Head
-head_after h e used = head_renewed (head_timed h (timer_after h.timer e.change)) (put_of h.held e).after (h.next + made_of e.change) used 0
+head_after h e used = head_renewed (head_timed h (timer_after h.timer e.change)) (put_after h.held e) (h.next + made_of e.change) used 0
 
 -- the image of the session after it; the bytes as they were where its entry has no room
 unfoldable pub carried_in : List ℕ → Carried → List ℕ

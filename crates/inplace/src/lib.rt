@@ -201,13 +201,9 @@ fn head_after(h: Head, e: Edit, used: u16) -> Head
     requires { h.next ≤ 256 }
     ensures { result ≡ head_after h e used }
 {
-    let held = h.held;
-    let change = e.change;
-    let timer = h.timer;
-    let put = change::put(held, e);
-    let after = put.after;
-    let next = h.next + session::made(change);
-    let timed = image::with_timer(h, change::timer_after(timer, change));
+    let after = change::put(h.held, e).unwrap_or(h.held);
+    let next = h.next + session::made(e.change);
+    let timed = image::with_timer(h, change::timer_after(h.timer, e.change));
     image::renewed(timed, after, next, used, 0)
 }
 

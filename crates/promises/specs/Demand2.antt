@@ -3,7 +3,7 @@ use Rattle.std.specs.Prelude.{ℕ, ◌+◌, ◌%◌, ◌<◌, ◌≤◌, true, c
 use Rattle.wire.specs.Conditions.{◌and◌}
 use Rattle.record.specs.Record.{worked_of}
 use Rattle.record.specs.declared.Record.{Record}
-use Rattle.change.specs.Change.{put_of}
+use Rattle.change.specs.Change.{put_after}
 use Rattle.change.specs.Logs.{pending_of, pends_at}
 use Rattle.change.specs.declared.Change.{Change}
 use Rattle.change.specs.declared.Change.TheVariants.{Clear, Unclear, SetState, SetRole, SetCaps, SetUser, SetThermal, SetThrottles, Reset, Unreset, SetMask, SetDeadman, SetAreas, SetTimer}
@@ -132,7 +132,7 @@ GoesIn r (SetTimer timer) = Unit {0}
 
 -- none of answer 7's cases: what the entry says goes in, and the record that it gives is well formed
 abbrev pub Movable : Session → Edit → Type 0
-Movable s e = GoesIn s.held e.change and (record_ok (put_of s.held e).after s.next ≡ true)
+Movable s e = GoesIn s.held e.change and (record_ok (put_after s.held e) s.next ≡ true)
 
 abbrev pub MoveAccepted : Way → Session → Type 0
 MoveAccepted w s = (e : Edit) × (Newest w s e and Movable s e)

@@ -6,7 +6,7 @@ use Rattle.record.specs.Record.{fresh_record, timer_off, worked_of}
 use Rattle.record.specs.declared.Record.{Record}
 use Rattle.record.specs.declared.Timer.{Timer}
 use Rattle.record.specs.declared.Worked.{Worked}
-use Rattle.change.specs.Change.{made_by, put_of, takes_back, timer_after}
+use Rattle.change.specs.Change.{made_by, put_after, takes_back, timer_after}
 use Rattle.change.specs.declared.Change.{Change}
 use Rattle.change.specs.declared.Change.TheVariants.{Clear, Unclear, SetState, SetRole, SetCaps, SetUser, SetThermal, SetThrottles, Reset, Unreset, SetMask, SetDeadman, SetAreas, SetTimer}
 use Rattle.change.specs.declared.Edit.{Edit}
@@ -129,7 +129,7 @@ carried_to s e (At used) =
     record {
       full = false;
       session =
-          renewed (with_timer s (timer_after s.timer e.change)) (put_of s.held e).after (s.next + made_of e.change)
+          renewed (with_timer s (timer_after s.timer e.change)) (put_after s.held e) (s.next + made_of e.change)
           (added_to s.used (takes_back s.held s.timer e) s.journal) used (replicate 2048 0) 0;
     }
 

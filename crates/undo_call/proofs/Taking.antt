@@ -3,6 +3,8 @@ use Prim.Native.Nat.{ℕ, ◌+◌, ◌-◌, ◌≤◌}
 use mathlib.Core.Bool.{Bool, true, false, not}
 use mathlib.Core.Path.{◌≡◌, refl, sym, ap, subst, ◌∙◌}
 use mathlib.Core.List.{List, []}
+use Rattle.std.specs.Prelude.{Option, Some, None}
+use Rattle.std.specs.Option.{unwrap_or}
 use native.Mathlib.Omega.{arith}
 use lib.Dec.{ltb, eqb}
 use lib.ListN.{length, take, drop, replicate, length-drop, length-replicate}
@@ -15,7 +17,6 @@ use Rattle.record.specs.declared.Record.{Record}
 use Rattle.record.specs.declared.Timer.{Timer}
 use Rattle.change.specs.Change.{kind_of, put_of, back_of, inverse_of, timed, takes_back, timer_after}
 use Rattle.change.specs.declared.Change.{Change}
-use Rattle.change.specs.declared.Changed.{Changed}
 use Rattle.change.specs.declared.Edit.{Edit}
 use Rattle.formed.specs.Formed.{record_ok}
 use Rattle.entries.specs.Entries.{body_len}
@@ -222,27 +223,27 @@ module _ (w : Way) (h : Head) (b : List ℕ) (here : HeadStands h b) where
 
   -- ---- a change put into the record, or refused
 
-  module _ (at : ℕ) (e : Edit) (p : Changed) (is : p ≡ put_of h.held e) where
-    by_put : (x : Asks) → x ≡ put_asks w h.next at e p → x ≡ edit_asks w s at e
+  module _ (at : ℕ) (e : Edit) (o : Option Record) (is : o ≡ put_of h.held e) where
+    by_put : (x : Asks) (p : Option Record) → o ≡ p → x ≡ put_asks w h.next at e p → x ≡ edit_asks w s at e
     unfolding edit_asks session_in
-    by_put x q = q ∙ ap (put_asks w h.next at e) is
+    by_put x p known q = q ∙ ap (put_asks w h.next at e) (sym known ∙ is)
 
-    pub put_refused : (t : Told) → t ≡ record { answer = 7; small = 0; beside = 0 } → not p.ok ≡ true → Tells w s t b (edit_asks w s at e)
+    pub put_refused : (t : Told) → t ≡ record { answer = 7; small = 0; beside = 0 } → o ≡ None → Tells w s t b (edit_asks w s at e)
     unfolding put_asks
-    put_refused t q failed = by_number 7 t refl q (by_put _ (if_b _ _ failed refl))
+    put_refused t q none = by_number 7 t refl q (by_put _ None none refl)
 
-    module _ (fits : not p.ok ≡ false) (g : Bool) (judged : g ≡ record_ok p.after h.next) where
-      pub put_ill : (t : Told) → t ≡ record { answer = 7; small = 0; beside = 0 } → not g ≡ true → Tells w s t b (edit_asks w s at e)
+    module _ (after : Record) (some : o ≡ Some after) (g : Bool) (judged : g ≡ record_ok after h.next) where
+      pub put_ill : (t : Told) → t ≡ record { answer = 7; small = 0; beside = 0 } → g ≡ false → Tells w s t b (edit_asks w s at e)
       unfolding put_asks
-      put_ill t q ill = by_number 7 t refl q (by_put _ (else_b _ _ fits (if_b _ _ (sym (ap not judged) ∙ ill) refl)))
+      put_ill t q ill = by_number 7 t refl q (by_put _ (Some after) some (if_b _ _ (ap not (sym judged ∙ ill)) refl))
 
       -- y are the lent bytes after it
-      pub put_done : (k passed : ℕ) (y : List ℕ) → passed ≡ passed_by w s → not g ≡ false → k ≡ kind_of e.change
-          → y ≡ image_of (session_moved w s at e p.after) → Tells w s (record { answer = 0; small = passed; beside = k }) y (edit_asks w s at e)
+      pub put_done : (k passed : ℕ) (y : List ℕ) → passed ≡ passed_by w s → g ≡ true → k ≡ kind_of e.change
+          → y ≡ image_of (session_moved w s at e after) → Tells w s (record { answer = 0; small = passed; beside = k }) y (edit_asks w s at e)
       unfolding put_asks moved_by moved_left settled done session_in
       put_done k passed y pp ok kp yp =
-          tells_same w s _ y (by_put (moves w at e) (else_b _ _ fits (else_b _ _ (sym (ap not judged) ∙ ok) refl)))
-          ((λ i. record { answer = 0; small = pp i; beside = kp i }), yp ∙ ap (λ (x : Changed). image_of (session_moved w s at e x.after)) is)
+          tells_same w s _ y (by_put (moves w at e) (Some after) some (else_b _ _ (ap not (sym judged ∙ ok)) refl))
+          ((λ i. record { answer = 0; small = pp i; beside = kp i }), yp ∙ ap (λ (x : Option Record). image_of (session_moved w s at e (unwrap_or x h.held))) (sym some ∙ is))
 
   -- ---- the entry at a place of its store
 

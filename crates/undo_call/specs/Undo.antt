@@ -1,13 +1,12 @@
 -- Document 01, "The journal" and "Session answers", and document 02, d: what the calls `undo` and `redo` come to, for every session. Undo takes the
 -- journal's newest entry back, redo puts the redo store's newest in again: one road, walked both ways.
-use Rattle.std.specs.Prelude.{ℕ, ◌-◌, cond, not, List, [], ◌≡◌, length, take, drop, eqb}
+use Rattle.std.specs.Prelude.{ℕ, ◌-◌, cond, not, List, [], Option, Some, None, ◌≡◌, length, take, drop, eqb}
 use Rattle.wire.specs.Conditions.{◌and◌}
 use Rattle.record.specs.declared.Record.{Record}
 use Rattle.record.specs.declared.Timer.{Timer}
 use Rattle.change.specs.Change.{put_of}
 use Rattle.change.specs.declared.Tables.{Tables}
 use Rattle.change.specs.declared.Edit.{Edit}
-use Rattle.change.specs.declared.Changed.{Changed}
 use Rattle.formed.specs.Formed.{record_ok}
 use Rattle.entries.specs.Entries.{scan, reading_of}
 use Rattle.entries.specs.declared.Reading.{Reading}
@@ -38,8 +37,9 @@ use Rattle.inplace.specs.InPlace.{Left, Marked, MarkedTo, MarksMore, on_image}
 -- ---- the newest entry of a way's store, put into the record
 
 -- 7: it would give an ill-formed record, or what the entry says can't be put in: "7 covers redo alike, a clear whose log isn't at its place included"
-unfoldable pub put_asks : Way → ℕ → ℕ → Edit → Changed → Asks
-put_asks w next at e p = cond (not p.ok) (refuses 7) (cond (not (record_ok p.after next)) (refuses 7) (moves w at e))
+unfoldable pub put_asks : Way → ℕ → ℕ → Edit → Option Record → Asks
+put_asks w next at e None = refuses 7
+put_asks w next at e (Some after) = cond (not (record_ok after next)) (refuses 7) (moves w at e)
 
 unfoldable pub edit_asks : Way → Session → ℕ → Edit → Asks
 edit_asks w s at e = put_asks w s.next at e (put_of s.held e)

@@ -123,12 +123,9 @@ fn take(lent: &mut [u8], h: Head, way: Way, at: usize, e: Edit, passed: u8) -> T
     ensures value { result ≡ (moved_by way (session_in h lent.old) (edit_asks way (session_in h lent.old) at e)).told }
     ensures lent_after { lent.new ≡ (moved_by way (session_in h lent.old) (edit_asks way (session_in h lent.old) at e)).image }
 {
-    let change = e.change;
-    let put = change::put(h.held, e);
-    let after = put.after;
-    if !put.ok {
+    let Some(after) = change::put(h.held, e) else {
         return inplace::answer_with(7, 0);
-    }
+    };
     if !formed::record_ok(after, h.next) {
         return inplace::answer_with(7, 0);
     }
@@ -136,7 +133,7 @@ fn take(lent: &mut [u8], h: Head, way: Way, at: usize, e: Edit, passed: u8) -> T
     Told {
         answer: 0,
         small: passed,
-        beside: change::kind(change) as u16,
+        beside: change::kind(e.change) as u16,
     }
 }
 

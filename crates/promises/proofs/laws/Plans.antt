@@ -17,7 +17,7 @@ use Rattle.wire.proofs.laws.Wire.{bytes_take, bytes_drop}
 use Rattle.record.specs.Record.{worked_of}
 use Rattle.record.specs.declared.Record.{Record}
 use Rattle.record.specs.declared.Worked.{Worked}
-use Rattle.change.specs.Change.{kind_of, put_of, takes_back}
+use Rattle.change.specs.Change.{kind_of, put_after, takes_back}
 use Rattle.change.specs.declared.Edit.{Edit}
 use Rattle.marks.proofs.laws.Marks.{length_marks}
 use Rattle.journal.specs.Add.{entry_len, end_of}
@@ -107,7 +107,7 @@ end_short s e b n = go (ltb n s.used) (ltb (n - s.used) (entry_len b))
 
 module _ (s : Session) (e : Edit) where
   abbrev made : Trial
-  made = record { ok = true; held = (put_of s.held e).after; next = s.next + made_of e.change }
+  made = record { ok = true; held = put_after s.held e; next = s.next + made_of e.change }
 
   carried_short : (carried_of s e).session.used ≤ s.used + 164
   unfolding carried_of

@@ -1,5 +1,6 @@
 -- One change more, the newest one taken back, and the one last taken back put in again, on the session of a history. Assumes nothing.
-use Rattle.std.specs.Prelude.{ℕ, ◌+◌, ◌-◌, ◌≤◌, false, ◌≡◌, refl, List, [], ◌∷◌, ltb, take, drop}
+use Rattle.std.specs.Option.{unwrap_or}
+use Rattle.std.specs.Prelude.{ℕ, ◌+◌, ◌-◌, ◌≤◌, false, ◌≡◌, refl, List, [], ◌∷◌, ltb, take, drop, Option, Some}
 use Rattle.std.proofs.Math.Bool.{true, not}
 use Rattle.std.proofs.Math.Logic.{inl, inr, ⊎_elim}
 use Rattle.std.proofs.Math.Path.{sym, ap, subst}
@@ -10,9 +11,8 @@ use Rattle.wire.proofs.laws.Chains.{passed}
 use Rattle.wire.proofs.laws.Cases.{if_eq, else_b, else_eq}
 use Rattle.wire.specs.Wire.{pasted}
 use Rattle.record.specs.declared.Record.{Record}
-use Rattle.change.specs.Change.{accepted, kind_of, put_of, inverse_of, timed, takes_back, timer_after}
+use Rattle.change.specs.Change.{kind_of, put_of, put_after, inverse_of, timed, takes_back, timer_after}
 use Rattle.change.proofs.laws.Timed.{kind_of_back, timed_puts, timed_kind, timed_inverse}
-use Rattle.change.specs.declared.Changed.{Changed}
 use Rattle.change.specs.declared.Edit.{Edit}
 use Rattle.formed.specs.Formed.{record_ok, next_ok}
 use Rattle.formed.proofs.laws.Formed.{sound}
@@ -102,9 +102,9 @@ module _ (base : Record) (s : Session) (clock : Clock s.timer) (e : Edit) (es : 
   end_is = ap (end_of (length (padded old)) (length old)) entry_kept ∙ end_at Before entry (length old) (padded old) l.back_writable store_room
 
   -- the same record, and as many logs
-  record_is : (put_of here e).after ≡ applied base (x ∷ es)
+  record_is : put_after here e ≡ applied base (x ∷ es)
   unfolding applied
-  record_is = ap (λ (p : Changed). p.after) (sym (timed_puts s.timer here e))
+  record_is = ap (λ (p : Option Record). unwrap_or p here) (sym (timed_puts s.timer here e))
 
   logs_are : made_of x.change ≡ made_of e.change
   unfolding timed
@@ -124,8 +124,8 @@ module _ (base : Record) (s : Session) (clock : Clock s.timer) (e : Edit) (es : 
   pub carried_sane : Sane base s.profile (x ∷ es) (next + made_of e.change) []
   unfolding applied flat
   carried_sane =
-      let sound : record_ok (put_of here x).after (next + made_of e.change) ≡ true = subst (λ (k : ℕ). record_ok (put_of here x).after (next + k) ≡ true) logs_are l.put_sound in
-      let small = next_small (put_of here x).after (next + made_of e.change) sound in
+      let sound : record_ok (put_after here x) (next + made_of e.change) ≡ true = subst (λ (k : ℕ). record_ok (put_after here x) (next + k) ≡ true) logs_are l.put_sound in
+      let small = next_small (put_after here x) (next + made_of e.change) sound in
       let up : next ≤ next + made_of e.change = omega arith in
       record {
         small = small;
@@ -183,7 +183,7 @@ unfolding move_asks newest_asks flat
 none_standing w own r next to formed = sym (else_b _ _ (ap not formed) (if_eq _ _ (used_there w own r next [] to) refl))
 
 module _ (w : Way) (own : Session) (r : Record) (next : ℕ) (b : Edit) (bs cs : List Edit) (formed : well_formed (standing w own r next (b ∷ bs) cs) ≡ true) (a : AllStored w (b ∷ bs))
-    (fits : length (flat (b ∷ bs)) + length (flat cs) ≤ 2048) (after : Record) (put : put_of r b ≡ accepted after) (ok : record_ok after next ≡ true)
+    (fits : length (flat (b ∷ bs)) + length (flat cs) ≤ 2048) (after : Record) (put : put_of r b ≡ Some after) (ok : record_ok after next ≡ true)
     (c : Edit) (back : takes_back r own.timer b ≡ c) (long : length (entry_bytes c) ≡ entry_len c) (same : entry_len c ≡ entry_len b) where
   abbrev s : Session
   s = standing w own r next (b ∷ bs) cs
@@ -205,8 +205,8 @@ module _ (w : Way) (own : Session) (r : Record) (next : ℕ) (b : Edit) (bs cs :
 
   -- ---- what is asked
 
-  put_is : put_asks w next at b (accepted after) ≡ moves w at b
-  unfolding put_asks accepted
+  put_is : put_asks w next at b (Some after) ≡ moves w at b
+  unfolding put_asks
   put_is = sym (else_b _ _ (ap not ok) refl)
 
   entry_is : entry_asks w s at ≡ moves w at b
@@ -241,10 +241,10 @@ module _ (w : Way) (own : Session) (r : Record) (next : ℕ) (b : Edit) (bs cs :
   abbrev given : Session
   given = with_timer own (timer_after own.timer b.change)
 
-  session_is : session_moved w s at b (put_of s.held b).after ≡ standing w given after next bs (c ∷ cs)
-  unfolding session_moved standing renewed with_timer accepted
+  session_is : session_moved w s at b (put_after s.held b) ≡ standing w given after next bs (c ∷ cs)
+  unfolding session_moved standing renewed with_timer
   session_is = λ i.
-      renewed given (put i).after next (by_way w (less_is i) (more_is i)) (by_way w at (end_is' i)) (by_way w (more_is i) (less_is i)) (by_way w (end_is' i) at)
+      renewed given (unwrap_or (put i) r) next (by_way w (less_is i) (more_is i)) (by_way w at (end_is' i)) (by_way w (more_is i) (less_is i)) (by_way w (end_is' i) at)
 
   pub moved_standing : move_call w s ≡ done (standing w given after next bs (c ∷ cs)) 0 (kind_of b.change) []
   unfolding move_call settled
@@ -255,10 +255,6 @@ module _ (w : Way) (own : Session) (r : Record) (next : ℕ) (b : Edit) (bs cs :
 flip : (own : Session) (r : Record) (next : ℕ) (from to : List Edit) → standing Before own r next from to ≡ standing After own r next to from
 unfolding standing by_way
 flip own r next from to = refl
-
-put_whole : (p : Changed) → p.ok ≡ true → p ≡ accepted p.after
-unfolding accepted
-put_whole p ok = λ i. record { ok = ok i; after = p.after }
 
 module _ (base : Record) (s : Session) (clock : Clock s.timer) (e : Edit) (es : List Edit) (next : ℕ) (rs : List Edit) where
   -- the change as it holds the timer that stands now
@@ -353,11 +349,11 @@ module _ (base : Record) (s : Session) (clock : Clock s.timer) (e : Edit) (es : 
     abbrev r : Record
     r = applied base es
 
-    after_ok : record_ok (put_of r now).after next ≡ true
-    after_ok = next_up (put_of r now).after (anew.known + made_of now.change) next anew.links.put_sound anew.below g.small
+    after_ok : record_ok (put_after r now) next ≡ true
+    after_ok = next_up (put_after r now) (anew.known + made_of now.change) next anew.links.put_sound anew.below g.small
 
-    puts_now : put_of r e ≡ accepted (put_of r now).after
-    puts_now = sym (timed_puts s.timer r e) ∙ put_whole (put_of r now) anew.links.put_accepted
+    puts_now : put_of r e ≡ Some (put_after r now)
+    puts_now = sym (timed_puts s.timer r e) ∙ anew.links.put_accepted
 
     in_again : takes_back r s.timer e ≡ inverse_of r now
     unfolding takes_back
@@ -372,7 +368,7 @@ module _ (base : Record) (s : Session) (clock : Clock s.timer) (e : Edit) (es : 
     redo_asks =
         ap (move_asks After) (flip s r next (backs base es) (e ∷ rs))
         ∙ asks_standing After s r next e rs (backs base es) formed_after (again_stored base s.profile next es (e ∷ rs) g.again) (omega (arith, g.fits))
-        (put_of r now).after puts_now after_ok (inverse_of r now) in_again (length_entry Before (inverse_of r now) anew.links.back_writable) now_back
+        (put_after r now) puts_now after_ok (inverse_of r now) in_again (length_entry Before (inverse_of r now) anew.links.back_writable) now_back
 
     abbrev pub redone : Session
     redone = with_timer s (timer_after s.timer e.change)
@@ -382,8 +378,8 @@ module _ (base : Record) (s : Session) (clock : Clock s.timer) (e : Edit) (es : 
     redo_history =
         ap (move_call After) (flip s r next (backs base es) (e ∷ rs))
         ∙ moved_standing After s r next e rs (backs base es) formed_after (again_stored base s.profile next es (e ∷ rs) g.again) (omega (arith, g.fits))
-        (put_of r now).after puts_now after_ok (inverse_of r now) in_again (length_entry Before (inverse_of r now) anew.links.back_writable) now_back
-        ∙ ap (λ (t : Session). done t 0 (kind_of e.change) []) (sym (flip redone (put_of r now).after next (inverse_of r now ∷ backs base es) rs))
+        (put_after r now) puts_now after_ok (inverse_of r now) in_again (length_entry Before (inverse_of r now) anew.links.back_writable) now_back
+        ∙ ap (λ (t : Session). done t 0 (kind_of e.change) []) (sym (flip redone (put_after r now) next (inverse_of r now ∷ backs base es) rs))
 
     pub redone_sane : Sane base s.profile (now ∷ es) next rs
     unfolding applied backs

@@ -1,5 +1,6 @@
 -- The ways of the calls `undo` and `redo`, and demands 1 and 2 read off them, for both at once. Assumes nothing.
-use Rattle.std.specs.Prelude.{ℕ, suc, ◌+◌, ◌-◌, ◌≤◌, Bool, true, not, ◌↔◌, ◌≡◌, eqb, take, drop}
+use Rattle.std.specs.Option.{is_some, unwrap_or}
+use Rattle.std.specs.Prelude.{ℕ, suc, ◌+◌, ◌-◌, ◌≤◌, Bool, true, not, ◌↔◌, ◌≡◌, eqb, take, drop, Option, Some, None}
 use Rattle.std.proofs.lemmas.Bool.{false≢true}
 use Rattle.std.proofs.Math.Bool.{true≢false}
 use Rattle.std.proofs.Math.Path.{refl, sym, ap, subst}
@@ -13,10 +14,9 @@ use Rattle.wire.proofs.laws.Chains.{eq_holds, lt_passes, le_passes, zero_passes,
 use Rattle.wire.proofs.laws.Tables.{ByTable, by_is, hit, miss}
 use Rattle.wire.proofs.laws.Wire.{tail_part, part_of_part}
 use Rattle.record.specs.declared.Record.{Record}
-use Rattle.change.specs.Change.{accepted, refused, clear_of, unclear_of, reset_of, unreset_of, put_with, put_of}
+use Rattle.change.specs.Change.{clear_of, unclear_of, reset_of, unreset_of, put_with, put_of}
 use Rattle.change.specs.declared.Change.{Change}
 use Rattle.change.specs.declared.Change.TheVariants.{Clear, Unclear, SetState, SetRole, SetCaps, SetUser, SetThermal, SetThrottles, Reset, Unreset, SetMask, SetDeadman, SetAreas, SetTimer}
-use Rattle.change.specs.declared.Changed.{Changed}
 use Rattle.change.specs.declared.Tables.{Tables}
 use Rattle.change.specs.declared.Edit.{Edit}
 use Rattle.formed.specs.Formed.{record_ok}
@@ -41,19 +41,19 @@ use Rattle.session.proofs.laws.Reads.{reads}
 
 -- ---- what can be put in
 
-abbrev ok_of : Changed → Bool
-ok_of x = x.ok
+abbrev goes_in : Option Record → Bool
+goes_in = is_some
 
 module _ (r : Record) (t : Tables) where
   abbrev Exactly : Change → Type 0
-  Exactly ch = ((put_with r t ch).ok ≡ true) ↔ GoesIn r ch
+  Exactly ch = (is_some (put_with r t ch) ≡ true) ↔ GoesIn r ch
 
   goes_exactly : (ch : Change) → Exactly ch
-  unfolding put_with clear_of unclear_of reset_of unreset_of accepted refused
-  goes_exactly (Unclear place log) = unless ok_of refl (lt_passes _ _) (unless_last ok_of refl (le_passes 4 _) refl)
-  goes_exactly (Unreset state made) = or_else ok_of refl (eq_holds made 0) (unless_last ok_of refl (zero_passes _) refl)
-  goes_exactly (Clear place log) = unless_last ok_of refl (not_passes ((λ h. h), (λ h. h))) refl
-  goes_exactly (Reset log) = or_else ok_of refl (eq_holds log.id 0) (unless_last ok_of refl (le_passes 4 _) refl)
+  unfolding put_with clear_of unclear_of reset_of unreset_of
+  goes_exactly (Unclear place log) = unless goes_in refl (lt_passes _ _) (unless_last goes_in refl (le_passes 4 _) refl)
+  goes_exactly (Unreset state made) = or_else goes_in refl (eq_holds made 0) (unless_last goes_in refl (zero_passes _) refl)
+  goes_exactly (Clear place log) = unless_last goes_in refl (not_passes ((λ h. h), (λ h. h))) refl
+  goes_exactly (Reset log) = or_else goes_in refl (eq_holds log.id 0) (unless_last goes_in refl (le_passes 4 _) refl)
   goes_exactly (SetState state) = ((λ h. tt), (λ h. refl))
   goes_exactly (SetRole got role) = ((λ h. tt), (λ h. refl))
   goes_exactly (SetCaps got caps) = ((λ h. tt), (λ h. refl))
@@ -119,11 +119,17 @@ module _ (w : Way) (s : Session) where
     called_with : (e : Edit) (n : Newest w s e) → Called (edit_asks w s (length (written n.older)) e)
     unfolding edit_asks put_asks put_of
     called_with e n =
-        let exactly = goes_exactly s.held e.tables e.change in
-        let fine = record_ok (put_of s.held e).after s.next in
-        cond_cases Called (not (put_of s.held e).ok) (λ h. barred x e n (λ u. true≢false (sym (exactly.1 u.0) ∙ not-true _ h)))
-        (λ h. cond_cases Called (not fine) (λ g. barred x e n (λ u. true≢false (sym u.1 ∙ not-true _ g)))
-        (λ g. goes x e n (exactly.0 (not-false _ h), not-false _ g)))
+        by_put (put_of s.held e) refl
+      where
+        exactly : Exactly s.held e.tables e.change
+        exactly = goes_exactly s.held e.tables e.change
+
+        by_put : (o : Option Record) → put_of s.held e ≡ o → Called (put_asks w s.next (length (written n.older)) e o)
+        by_put None q = barred x e n (λ u. true≢false (sym (exactly.1 u.0) ∙ ap goes_in q))
+        by_put (Some after) q =
+            let fine = ap (λ (o : Option Record). record_ok (unwrap_or o s.held) s.next) q in
+            cond_cases Called (not (record_ok after s.next)) (λ g. barred x e n (λ u. true≢false (sym u.1 ∙ fine ∙ not-true _ g)))
+            (λ g. goes x e n (exactly.0 (ap goes_in q), fine ∙ not-false _ g))
 
     whole : length used_part ≡ used_of w s
     whole = length-take-le (used_of w s) (store_of w s) (store_of_lem s (formed s x) w).fits

@@ -2,7 +2,7 @@
 // and changed in place, and the head is written back only where it changed.
 #![tactic(auto)]
 
-ghost use Rattle.std.specs.Prelude.{◌≡◌, true, ◌≤◌, ◌+◌, length};
+ghost use Rattle.std.specs.Prelude.{◌≡◌, true, is_err, ◌≤◌, ◌+◌, length};
 ghost use Rattle.wire.specs.Wire.{pasted};
 ghost use Rattle.entries.specs.Entries.{Sized};
 ghost use Rattle.marks.specs.Marks.{marks_of};
@@ -15,8 +15,12 @@ ghost use Rattle.inplace.specs.InPlace.{Marked, MarksMore, Entered, MarkedTo, he
 
 use change::Edit;
 use image::Head;
-use journal::{End, Way};
+use journal::Way;
 use marks::Newest;
+
+// The entry of a change is longer than the unused journal.
+#[derive(Clone, Copy)]
+pub struct NoRoom;
 
 // A session answer; beside it a small number, the reason of a status 0x13, and one of 16 bits: the place of that status, the doorbell, the kind
 // moved. 0 where a call has none.
@@ -128,7 +132,7 @@ pub fn append(lent: &mut [u8], way: Way, used: usize, e: Edit)
 }
 
 // Adds an entry to the journal, where there is room.
-fn add(lent: &mut [u8], used: usize, e: Edit) -> End
+fn add(lent: &mut [u8], used: usize, e: Edit) -> Option<usize>
     requires { length lent.old ≡ image_length }
     ensures value { result ≡ end_of 2048 used e }
     ensures lent_after { lent.new ≡ with_store journal_at (added_to used e (journal_in lent.old)) lent.old }
@@ -182,17 +186,14 @@ pub fn mark_removed(lent: &mut [u8], used: usize, at: usize)
 }
 
 // An entry is added to the journal, where there is room, with its mark.
-fn enter(lent: &mut [u8], used: usize, e: Edit) -> End
+fn enter(lent: &mut [u8], used: usize, e: Edit) -> Option<usize>
     requires { (length lent.old ≡ image_length) × Marked used lent.old }
     ensures value { result ≡ end_of 2048 used e }
     ensures entered { Entered used e lent.old lent.new result }
 {
-    let end = add(&mut *lent, used, e);
-    let End::At(to) = end else {
-        return End::Full;
-    };
+    let to = add(&mut *lent, used, e)?;
     mark_added(lent, used);
-    End::At(to)
+    Some(to)
 }
 
 // ---- a change carried out
@@ -208,19 +209,18 @@ fn head_after(h: Head, e: Edit, used: u16) -> Head
 }
 
 // A change carried out: entry, record, worked-out values, next id and timer, in one place, and the redo store is emptied. Nothing else writes a record
-// but undo and redo, by the same road. The answer is whether the entry has no room; then nothing is written.
-pub fn carry(lent: &mut [u8], h: Head, e: Edit) -> bool
+// but undo and redo, by the same road. Where the entry has no room, nothing is written.
+pub fn carry(lent: &mut [u8], h: Head, e: Edit) -> Result<(), NoRoom>
     requires { (length lent.old ≡ image_length) × (well_formed (session_in h lent.old) ≡ true) }
-    ensures value { result ≡ (carried_of (session_in h lent.old) e).full }
+    ensures value { is_err result ≡ (carried_of (session_in h lent.old) e).full }
     ensures lent_after { lent.new ≡ carried_in lent.old (carried_of (session_in h lent.old) e) }
 {
     let back = change::takes_back(h.held, h.timer, e);
-    let end = enter(&mut *lent, h.used as usize, back);
-    let End::At(used) = end else {
-        return true;
+    let Some(used) = enter(&mut *lent, h.used as usize, back) else {
+        return Err(NoRoom);
     };
     cut(&mut *lent, Way::After, 0, h.ahead as usize);
     let after = head_after(h, e, used as u16);
     image::write_head(lent, after);
-    false
+    Ok(())
 }

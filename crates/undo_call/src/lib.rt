@@ -16,7 +16,7 @@ ghost use Rattle.undo_call.specs.Undo.{none_left, head_moved, edit_asks, newest_
 use change::Edit;
 use image::Head;
 use inplace::Told;
-use journal::{Found, Way};
+use journal::Way;
 use marks::Newest;
 use record::{Record, Timer};
 
@@ -171,23 +171,10 @@ fn take_newest(lent: &mut [u8], h: Head, way: Way) -> Told
     let store = image::store_at(way);
     let start = store + at;
     let end = store + used;
-    let got = journal::get(way, &lent[start..end]);
-    let found = got.found;
-    let tables = got.tables;
-    let Found::Good(change) = found else {
+    let Some(e) = journal::get(way, &lent[start..end]) else {
         return inplace::answer_with(1, 0);
     };
-    take(
-        lent,
-        h,
-        way,
-        at,
-        Edit {
-            change: change,
-            tables: tables,
-        },
-        passed as u8,
-    )
+    take(lent, h, way, at, e, passed as u8)
 }
 
 // ---- the calls, on a session that is lent as its image's bytes; kind and number passed stand beside the answer

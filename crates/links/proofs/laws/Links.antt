@@ -19,7 +19,6 @@ use Rattle.formed.proofs.laws.Formed.{Sound, sound, sound_ok, logs_next_up, pend
 use Rattle.journal.specs.Bytes.{entry_for, entry_bytes}
 use Rattle.journal.specs.Read.{got_of, entry_ok}
 use Rattle.journal.proofs.laws.Bodies.{Writable}
-use Rattle.journal.specs.declared.Found.TheVariants.{Good}
 use Rattle.journal.specs.declared.Way.{Way}
 use Rattle.journal.specs.declared.Way.TheVariants.{Before, After}
 use Rattle.journal.specs.Ways.{by_way, other}
@@ -164,9 +163,9 @@ pub record Link (r : Record) (n : ℕ) (e : Edit) : Type 0 where
   pub again : inverse_of (put_after r e) (inverse_of r e) ≡ e
   pub kind_back : kind_of (inverse_of r e).change ≡ kind_of e.change
   pub entry_good : entry_ok Before (entry_for (inverse_of r e)) ≡ true
-  pub entry_reads : got_of Before (entry_bytes (inverse_of r e)) ≡ record { found = Good (inverse_of r e).change; tables = (inverse_of r e).tables }
+  pub entry_reads : got_of Before (entry_bytes (inverse_of r e)) ≡ Some (inverse_of r e)
   pub redo_good : entry_ok After (entry_for e) ≡ true
-  pub redo_reads : got_of After (entry_bytes e) ≡ record { found = Good e.change; tables = e.tables }
+  pub redo_reads : got_of After (entry_bytes e) ≡ Some e
 
 pub link : (r : Record) (n : ℕ) (e : Edit) → record_ok r n ≡ true → TypedRecord r → Made r n e.tables e.change → Link r n e
 unfolding put_of inverse_of edit_ok other by_way

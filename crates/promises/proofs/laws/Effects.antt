@@ -1,5 +1,5 @@
 -- What each accepted command makes of the session, and the change that demand 3 counts. Assumes nothing.
-use Rattle.std.specs.Prelude.{ℕ, ◌+◌, ◌<◌, Bool, true, false, ◌↔◌, ◌⊎◌, ◌≡◌, List, [], ◌∷◌, length, get_or, replicate, Option, Some}
+use Rattle.std.specs.Prelude.{ℕ, ◌+◌, ◌<◌, Bool, true, false, ◌↔◌, ◌⊎◌, ◌≡◌, List, [], ◌∷◌, length, get_or, replicate, Option, Some, None}
 use Rattle.std.proofs.Math.Bool.{not}
 use Rattle.std.proofs.lemmas.Bool.{false≢true}
 use Rattle.std.proofs.Common.{true≢false, ⊎_elim, ap, ◌∙◌, add-zero, arith}
@@ -20,8 +20,6 @@ use Rattle.entries.specs.Entries.{bytes_of}
 use Rattle.journal.specs.Bytes.{body_of, entry_for, entry_bytes}
 use Rattle.journal.specs.Add.{end_of}
 use Rattle.journal.proofs.laws.Ends.{length_entry, added}
-use Rattle.journal.specs.declared.End.{End}
-use Rattle.journal.specs.declared.End.TheVariants.{At, Full}
 use Rattle.journal.specs.declared.Way.TheVariants.{Before, After}
 use Rattle.journal.specs.Ways.{by_way}
 use Rattle.packet.specs.Packet.{data_of}
@@ -181,9 +179,9 @@ carried_held : (s : Session) (e : Edit) → (carried_of s e).full ≡ false → 
 unfolding carried_of carried_to renewed
 carried_held s e fits = go (end_of (length s.journal) s.used (takes_back s.held s.timer e)) fits
   where
-    go : (x : End) → (carried_to s e x).full ≡ false → (carried_to s e x).session.held ≡ put_after s.held e
-    go (At used) h = refl
-    go Full h = absurd (true≢false h)
+    go : (x : Option ℕ) → (carried_to s e x).full ≡ false → (carried_to s e x).session.held ≡ put_after s.held e
+    go (Some used) h = refl
+    go None h = absurd (true≢false h)
 
 module _ (s : Session) (typed : TypedSession s) (sender : ℕ) (c d : List ℕ) where
   abbrev OccLeft : Session → Type 0

@@ -1,6 +1,6 @@
 -- Document 02, g: what each side hears is what it would hear alone. Assumes nothing.
 use Rattle.std.specs.Option.{unwrap_or}
-use Rattle.std.specs.Prelude.{ℕ, ◌+◌, Bool, cond, not, ◌≡◌, ltb, leb, length, get_or, Option}
+use Rattle.std.specs.Prelude.{ℕ, ◌+◌, Bool, cond, not, ◌≡◌, ltb, leb, length, get_or, Option, Some, None}
 use Rattle.std.proofs.Math.Bool.{true, false}
 use Rattle.std.proofs.Common.{true≢false, ◌∙◌, eqb-true}
 use Rattle.std.proofs.Math.Logic.{⊎_elim}
@@ -25,8 +25,6 @@ use Rattle.change.proofs.laws.Timed.{NoTimer, timer_kept}
 use Rattle.packet.specs.Packet.{data_of, replied}
 use Rattle.poll.specs.Poll.{poll_data}
 use Rattle.journal.specs.Add.{end_of}
-use Rattle.journal.specs.declared.End.{End}
-use Rattle.journal.specs.declared.End.TheVariants.{At, Full}
 use Rattle.occ.specs.Judge.{type_judged, judge_of}
 use Rattle.occ.specs.Open.{open_in, by_profile}
 use Rattle.occ.proofs.laws.Open.{made_open}
@@ -130,7 +128,7 @@ module _ (s : Session) (ok : well_formed s ≡ true) (full : s.profile ≡ 0) (s
   abbrev after_it : Edit → Bench
   after_it e = record { held = dry (put_after b.held e); next = b.next + made_of e.change }
 
-  carried_at : (e : Edit) (used : ℕ) → bench_of (carried_to s e (At used)).session ≡ after_it e
+  carried_at : (e : Edit) (used : ℕ) → bench_of (carried_to s e (Some used)).session ≡ after_it e
   unfolding carried_to renewed with_timer bench_of put_of
   carried_at e used = ap (λ (r : Record). record { held = r; next = s.next + made_of e.change }) (put_dry s.held e.tables e.change)
 
@@ -138,9 +136,9 @@ module _ (s : Session) (ok : well_formed s ≡ true) (full : s.profile ≡ 0) (s
   unfolding carried_of carried_to
   carried_bench e f = go (end_of (length s.journal) s.used (takes_back s.held s.timer e)) f
     where
-      go : (x : End) → (carried_to s e x).full ≡ false → bench_of (carried_to s e x).session ≡ after_it e
-      go (At used) f = carried_at e used
-      go Full f = absurd (true≢false f)
+      go : (x : Option ℕ) → (carried_to s e x).full ≡ false → bench_of (carried_to s e x).session ≡ after_it e
+      go (Some used) f = carried_at e used
+      go None f = absurd (true≢false f)
 
   abbrev why_by : Verdict → Blame
   why_by v = occs.fault_for v s.held (get_or c 1 0) (data_of c)

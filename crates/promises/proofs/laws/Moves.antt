@@ -1,5 +1,5 @@
 -- What an accepted undo or redo does: the newest entry leaves its store, and what takes it back has room in the other one. Assumes nothing.
-use Rattle.std.specs.Prelude.{ℕ, ◌+◌, ◌≤◌, true, ◌≡◌, [], ◌∷◌, length, take}
+use Rattle.std.specs.Prelude.{ℕ, ◌+◌, ◌≤◌, true, ◌≡◌, [], ◌∷◌, length, take, Option}
 use Rattle.std.proofs.Math.Path.{refl, sym}
 use Rattle.std.proofs.Common.{ap, subst, ◌∙◌, arith}
 use Rattle.wire.specs.Conditions.{◌and◌}
@@ -18,7 +18,6 @@ use Rattle.journal.specs.Bytes.{entry_for, entry_bytes}
 use Rattle.journal.specs.Read.{values_ok, entry_ok}
 use Rattle.journal.specs.Add.{entry_len}
 use Rattle.journal.specs.Ways.{by_way, other}
-use Rattle.journal.specs.declared.Found.{Found}
 use Rattle.journal.specs.declared.Way.{Way}
 use Rattle.journal.specs.declared.Way.TheVariants.{Before, After}
 use Rattle.journal.proofs.laws.Bodies.{Writable}
@@ -111,7 +110,7 @@ module _ (w : Way) (s : Session) (f : Formed s) (e : Edit) (n : Newest w s e) wh
 
   -- what the entry says is of its kind, and one of the changes that its store holds
   says : (kind_of e.change ≡ n.entry.kind) × Holds w e.change
-  says = subst (λ (x : Found). Says w n.entry.kind x) n.change (found_says w n.entry.kind n.entry.body)
+  says = subst (λ (x : Option Change). Says w n.entry.kind x) n.change (found_says w n.entry.kind n.entry.body)
 
   same_kind : kind_of back.change ≡ n.entry.kind
   unfolding takes_back timed inverse_of

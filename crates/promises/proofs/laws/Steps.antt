@@ -23,16 +23,13 @@ use Rattle.journal.specs.Read.{got_of}
 use Rattle.journal.specs.Add.{entry_len, end_of, added_to, cut_from}
 use Rattle.journal.specs.Ways.{by_way, other}
 use Rattle.journal.proofs.laws.Ends.{length_entry, end_at, added}
-use Rattle.journal.specs.declared.End.{End}
-use Rattle.journal.specs.declared.End.TheVariants.{At}
-use Rattle.journal.specs.declared.Found.TheVariants.{Good}
 use Rattle.journal.specs.declared.Way.{Way}
 use Rattle.journal.specs.declared.Way.TheVariants.{Before, After}
 use Rattle.session.specs.Session.{well_formed, renewed, with_timer, made_of, carried_to, carried_of}
 use Rattle.session.specs.Road.{refuses, moves, store_of, used_of, lessened, grown, grown_to, session_moved, done, settled}
 use Rattle.session.proofs.laws.Timer.{Clock}
 use Rattle.session.specs.declared.Session.{Session}
-use Rattle.undo_call.specs.Undo.{put_asks, edit_asks, found_asks, got_asks, entry_asks, read_asks, none_left, newest_asks, move_asks, move_call}
+use Rattle.undo_call.specs.Undo.{put_asks, edit_asks, got_asks, entry_asks, read_asks, none_left, newest_asks, move_asks, move_call}
 use Rattle.links.proofs.laws.Made.{Made}
 use Rattle.links.proofs.laws.Links.{Link, link, next_up}
 use Rattle.promises.specs.History.{applied}
@@ -98,7 +95,7 @@ module _ (base : Record) (s : Session) (clock : Clock s.timer) (e : Edit) (es : 
   unfolding backs flat
   used_is = sym (length-append old (entry_bytes entry) ∙ ap (λ (k : ℕ). length old + k) long)
 
-  end_is : end_of (length (padded old)) (length old) (takes_back here s.timer e) ≡ At (length old + entry_len entry)
+  end_is : end_of (length (padded old)) (length old) (takes_back here s.timer e) ≡ Some (length old + entry_len entry)
   end_is = ap (end_of (length (padded old)) (length old)) entry_kept ∙ end_at Before entry (length old) (padded old) l.back_writable store_room
 
   -- the same record, and as many logs
@@ -114,7 +111,7 @@ module _ (base : Record) (s : Session) (clock : Clock s.timer) (e : Edit) (es : 
       ≡ by_history base (with_timer s (timer_after s.timer e.change)) (x ∷ es) (next + made_of e.change) []
   unfolding carried_of carried_to by_history standing by_way renewed with_timer flat padded
   carried_history =
-      ap (λ (k : End). (carried_to (by_history base s es next rs) e k).session) end_is
+      ap (λ (k : Option ℕ). (carried_to (by_history base s es next rs) e k).session) end_is
       ∙ (λ i. renewed (with_timer s (timer_after s.timer e.change)) (record_is i) (next + made_of e.change) (journal_is i) (used_is i) (padded []) 0)
 
   lets_now : Lets s.profile x.change
@@ -200,7 +197,7 @@ module _ (w : Way) (own : Session) (r : Record) (next : ℕ) (b : Edit) (bs cs :
   reads : reading_of (scan (take (used_of w s) (store_of w s))) ≡ Whole (length (pile (b ∷ bs))) at
   reads = (λ i. reading_of (scan (take (used_now i) (store_now i)))) ∙ newest_reads w b bs a
 
-  got_is : got_of w (take (used_of w s - at) (drop at (store_of w s))) ≡ record { found = Good b.change; tables = b.tables }
+  got_is : got_of w (take (used_of w s - at) (drop at (store_of w s))) ≡ Some b
   got_is = (λ i. got_of w (take (used_now i - at) (drop at (store_now i)))) ∙ ap (got_of w) (newest_part w b bs a) ∙ a.0.reads
 
   -- ---- what is asked
@@ -210,7 +207,7 @@ module _ (w : Way) (own : Session) (r : Record) (next : ℕ) (b : Edit) (bs cs :
   put_is = sym (else_b _ _ (ap not ok) refl)
 
   entry_is : entry_asks w s at ≡ moves w at b
-  unfolding entry_asks got_asks found_asks edit_asks standing renewed
+  unfolding entry_asks got_asks edit_asks standing renewed
   entry_is = ap (got_asks w s at) got_is ∙ ap (put_asks w next at b) put ∙ put_is
 
   read_is : read_asks w s (reading_of (scan (take (used_of w s) (store_of w s)))) ≡ moves w at b

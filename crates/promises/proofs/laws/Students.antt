@@ -1,5 +1,5 @@
 -- Document 02, k: a watch-only session that nobody can break: whatever it is sent, right or damaged. Assumes nothing.
-use Rattle.std.specs.Prelude.{ℕ, ◌+◌, true, not, ◌≡◌, ltb, leb, eqb, length, get_or, Option}
+use Rattle.std.specs.Prelude.{ℕ, ◌+◌, true, not, ◌≡◌, ltb, leb, eqb, length, get_or, Option, Some, None}
 use Rattle.std.proofs.Common.{⊎_elim, sym, subst, ◌∙◌, arith}
 use Rattle.std.proofs.Math.Path.{refl, ap}
 use mathlib.Core.List.{List, [], ◌∷◌}
@@ -18,9 +18,6 @@ use Rattle.change.specs.declared.Tables.{Tables}
 use Rattle.change.specs.declared.Edit.{Edit}
 use Rattle.packet.specs.Packet.{data_of}
 use Rattle.journal.specs.Add.{end_of}
-use Rattle.journal.specs.declared.End.{End}
-use Rattle.journal.specs.declared.End.TheVariants.{At, Full}
-use Rattle.journal.specs.declared.Found.{Found}
 use Rattle.journal.specs.declared.Way.{Way}
 use Rattle.journal.specs.declared.Way.TheVariants.{Before, After}
 use Rattle.journal.proofs.laws.Says.{Says, found_says}
@@ -117,7 +114,7 @@ module _ (s : Session) (on : s.profile ≡ 1) where
   module _ (w : Way) where
     newest_clears : well_formed s ≡ true → (e : Edit) (n : Newest w s e) → kind_of e.change ≡ 0x01
     newest_clears ok e n =
-        let says : kind_of e.change ≡ n.entry.kind = (subst (λ (x : Found). Says w n.entry.kind x) n.change (found_says w n.entry.kind n.entry.body)).0 in
+        let says : kind_of e.change ≡ n.entry.kind = (subst (λ (x : Option Change). Says w n.entry.kind x) n.change (found_says w n.entry.kind n.entry.body)).0 in
         ⊎_elim (λ z. absurd (not_full z))
         (λ h.
         let all = clear_of_lem s w h.1 h.2 in
@@ -175,7 +172,7 @@ module _ (s : Session) (on : s.profile ≡ 1) where
   pub as_it_was : Unbroken s s
   as_it_was = unbroken s (same_logs s.held) refl refl on
 
-  carried_at : (e : Edit) → kind_of e.change ≡ 0x01 → well_formed s ≡ true → (used : ℕ) → Unbroken s (carried_to s e (At used)).session
+  carried_at : (e : Edit) → kind_of e.change ≡ 0x01 → well_formed s ≡ true → (used : ℕ) → Unbroken s (carried_to s e (Some used)).session
   unfolding carried_to renewed with_timer put_of
   carried_at e k ok used =
       let logs = put_logs s.held e.tables e.change k in
@@ -185,9 +182,9 @@ module _ (s : Session) (on : s.profile ≡ 1) where
   unfolding carried_of carried_to
   carried_unbroken e k ok = go (end_of (length s.journal) s.used (takes_back s.held s.timer e))
     where
-      go : (x : End) → Unbroken s (carried_to s e x).session
-      go (At used) = carried_at e k ok used
-      go Full = as_it_was
+      go : (x : Option ℕ) → Unbroken s (carried_to s e x).session
+      go (Some used) = carried_at e k ok used
+      go None = as_it_was
 
   abbrev Safe : Said → Type 0
   Safe q = Unbroken s q.session

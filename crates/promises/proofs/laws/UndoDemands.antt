@@ -22,17 +22,15 @@ use Rattle.change.specs.declared.Edit.{Edit}
 use Rattle.formed.specs.Formed.{record_ok}
 use Rattle.entries.specs.Entries.{Entry, body_len, bytes_of, written, Scan, between, scan, newest_at, reading_of}
 use Rattle.entries.proofs.laws.Entries.{scan_written, scan_proper, drop_newest, length_written, newest_written}
-use Rattle.journal.specs.Read.{found_for, tables_in, bad_got, got_for, got_of, values_ok, entry_ok, all_ok}
+use Rattle.journal.specs.Read.{found_for, tables_in, edit_by, got_for, got_of, values_ok, entry_ok, all_ok}
 use Rattle.journal.specs.Ways.{by_way}
-use Rattle.journal.specs.declared.Found.{Found}
-use Rattle.journal.specs.declared.Found.TheVariants.{Good, Bad}
 use Rattle.journal.specs.declared.Way.{Way}
 use Rattle.journal.specs.declared.Way.TheVariants.{Before, After}
 use Rattle.session.specs.Session.{well_formed}
 use Rattle.session.proofs.laws.Session.{formed}
 use Rattle.session.specs.declared.Session.{Session}
 use Rattle.session.specs.Road.{Asks, refuses, moves, store_of, used_of, kept, done, settled}
-use Rattle.undo_call.specs.Undo.{put_asks, edit_asks, found_asks, got_asks, entry_asks, read_asks, none_left, newest_asks, move_asks, move_call, undo_call, redo_call}
+use Rattle.undo_call.specs.Undo.{put_asks, edit_asks, got_asks, entry_asks, read_asks, none_left, newest_asks, move_asks, move_call, undo_call, redo_call}
 use Rattle.undo_call.proofs.laws.NoneLeft.{none_zero}
 use Rattle.promises.specs.Demand1.{MoveAnswer, UndoAnswer, RedoAnswer}
 use Rattle.promises.specs.Demand2.{Newest, GoesIn, Movable, MoveAccepted, UndoAccepted, RedoAccepted}
@@ -68,19 +66,19 @@ module _ (r : Record) (t : Tables) where
 -- ---- the newest entry
 
 -- an entry's bytes are read as what its kind and body say
-entry_got : (w : Way) (e : Entry) → body_len e.kind ≡ length e.body → got_of w (bytes_of e) ≡ record { found = found_for w e.kind e.body; tables = tables_in e.kind e.body }
+entry_got : (w : Way) (e : Entry) → body_len e.kind ≡ length e.body → got_of w (bytes_of e) ≡ edit_by (tables_in e.kind e.body) (found_for w e.kind e.body)
 unfolding got_of got_for bytes_of
 entry_got w e sized =
     let n : ℕ = length e.body in
     let some : suc n ≡ 0 → ⊥ = λ z. omega arith in
     let fits : suc n - 1 ≡ body_len e.kind = omega arith in
-    sym (else_eq bad_got _ {m = suc n} {n = 0} some (else_ne bad_got _ {m = suc n - 1} {n = body_len e.kind} fits refl))
+    sym (else_eq None _ {m = suc n} {n = 0} some (else_ne None _ {m = suc n - 1} {n = body_len e.kind} fits refl))
 
 -- values that pass are a change's
-good_found : (t : Tables) (x : Found) → values_ok t x ≡ true → (ch : Change) × (x ≡ Good ch)
+good_found : (t : Tables) (x : Option Change) → values_ok t x ≡ true → (ch : Change) × (x ≡ Some ch)
 unfolding values_ok
-good_found t (Good ch) h = (ch, refl)
-good_found t Bad h = absurd (false≢true h)
+good_found t (Some ch) h = (ch, refl)
+good_found t None h = absurd (false≢true h)
 
 module _ (w : Way) (s : Session) where
   abbrev used_part : List ℕ
@@ -96,7 +94,7 @@ module _ (w : Way) (s : Session) where
   same_entry : (a b : Entry) (xs ys : List Entry) → between (a ∷ xs) ≡ between (b ∷ ys) → a ≡ b
   same_entry a b xs ys e = cc
 
-  same_change : (a b : Change) → Good a ≡ Good b → a ≡ b
+  same_change : (a b : Change) → Some a ≡ Some b → a ≡ b
   same_change a b e = cc
 
   -- it says one thing only
@@ -149,10 +147,10 @@ module _ (w : Way) (s : Session) where
           ∙ tail_part used_part at
           ∙ drop_newest used_part y es read
 
-      says : got_of w (take (used_of w s - at) (drop at (store_of w s))) ≡ record { found = found_for w y.kind y.body; tables = tables_in y.kind y.body }
+      says : got_of w (take (used_of w s - at) (drop at (store_of w s))) ≡ edit_by (tables_in y.kind y.body) (found_for w y.kind y.body)
       says = ap (got_of w) newest_part ∙ entry_got w y (scan_proper used_part (y ∷ es) read).0.0
 
-      change_there : (ch : Change) × (found_for w y.kind y.body ≡ Good ch)
+      change_there : (ch : Change) × (found_for w y.kind y.body ≡ Some ch)
       unfolding entry_ok
       change_there = good_found (tables_in y.kind y.body) (found_for w y.kind y.body) (all_parts w y es good).0
 
@@ -160,8 +158,8 @@ module _ (w : Way) (s : Session) where
       newest = record { change = change_there.0; tables = tables_in y.kind y.body }
 
       at_is : entry_asks w s at ≡ edit_asks w s at newest
-      unfolding entry_asks got_asks found_asks
-      at_is = ap (got_asks w s at) says ∙ ap (found_asks w s at (tables_in y.kind y.body)) change_there.1
+      unfolding entry_asks got_asks edit_by
+      at_is = ap (got_asks w s at) (says ∙ ap (edit_by (tables_in y.kind y.body)) change_there.1)
 
       called_newest : Called (read_asks w s (reading_of (scan used_part)))
       unfolding read_asks reading_of newest_at

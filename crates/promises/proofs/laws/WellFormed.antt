@@ -1,5 +1,5 @@
 -- Well-formed in, well-formed out: for every call, on every well-formed session, reached from a fresh one or not. Assumes nothing.
-use Rattle.std.specs.Prelude.{ℕ, ◌+◌, ◌^◌, ◌≤◌, ◌<◌, true, false, not, ◌≡◌, refl, length, replicate}
+use Rattle.std.specs.Prelude.{ℕ, ◌+◌, ◌^◌, ◌≤◌, ◌<◌, true, false, not, ◌≡◌, refl, length, replicate, Option}
 use Rattle.std.proofs.Common.{inl, ⊎_elim, sym, ◌∙◌, arith}
 use Rattle.std.proofs.Math.Path.{ap, subst}
 use mathlib.Core.List.{List, []}
@@ -18,7 +18,6 @@ use Rattle.journal.specs.Read.{entry_ok}
 use Rattle.journal.proofs.laws.Bodies.{Writable}
 use Rattle.journal.specs.Add.{entry_len, added_to}
 use Rattle.journal.proofs.laws.Ends.{end_at}
-use Rattle.journal.specs.declared.End.{End}
 use Rattle.journal.specs.declared.Way.{Way}
 use Rattle.journal.specs.declared.Way.TheVariants.{Before, After}
 use Rattle.session.specs.Session.{entries_in, well_formed, renewed, with_timer, made_of, carried_to, carried_of}
@@ -80,7 +79,7 @@ module _ (s : Session) (f : Formed s) (typed : TypedSession s) (e : Edit) (m : M
 
   pub session_is : (carried_of s e).session ≡ after
   unfolding carried_of carried_to
-  session_is = ap (λ (x : End). (carried_to s e x).session) (end_at Before b s.used s.journal back_writable room)
+  session_is = ap (λ (x : Option ℕ). (carried_to s e x).session) (end_at Before b s.used s.journal back_writable room)
 
   timer_passes : timer_ok (timer_after s.timer e.change) ≡ true
   unfolding change_ok

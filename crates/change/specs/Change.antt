@@ -1,5 +1,6 @@
 -- Document 01, "The journal" and the commands: what each change puts into a record, and what takes it back.
-use Rattle.std.specs.Prelude.{ℕ, ◌-◌, true, false, cond, not, List, get_or, replicate, ltb, leb, eqb}
+use Rattle.std.specs.Prelude.{ℕ, ◌-◌, cond, not, List, Option, Some, None, get_or, replicate, ltb, leb, eqb}
+use Rattle.std.specs.Option.{unwrap_or}
 use Rattle.record.specs.Record.{no_log, no_throttles}
 use Rattle.record.specs.declared.Log.{Log}
 use Rattle.record.specs.declared.Record.{Record}
@@ -8,61 +9,60 @@ use Rattle.change.specs.declared.Change.{Change}
 use Rattle.change.specs.declared.Change.TheVariants.{Clear, Unclear, SetState, SetRole, SetCaps, SetUser, SetThermal, SetThrottles, Reset, Unreset, SetMask, SetDeadman, SetAreas, SetTimer}
 use Rattle.change.specs.declared.Tables.{Tables}
 use Rattle.change.specs.declared.Edit.{Edit}
-use Rattle.change.specs.declared.Changed.{Changed}
 use Rattle.change.specs.Logs.{pending_of, remove_at, insert_at, pends_at}
 use Rattle.change.specs.With.{with_state, with_role, with_caps, with_throttles, with_user, with_thermal, with_logs, with_mask, with_deadman, with_areas}
 
-unfoldable pub accepted : Record → Changed
-accepted r = record { ok = true; after = r }
-
-unfoldable pub refused : Record → Changed
-refused r = record { ok = false; after = r }
+-- ---- the record with a change put in; None where it can't be
 
 -- "0x12 clear log": the log leaves its place, where it is there
-unfoldable pub clear_of : Record → ℕ → Log → Changed
+unfoldable pub clear_of : Record → ℕ → Log → Option Record
 clear_of r place log =
-    cond (not (pends_at place log r.logs)) (refused r) (accepted (with_logs r (remove_at place r.logs)))
+    cond (not (pends_at place log r.logs)) None (Some (with_logs r (remove_at place r.logs)))
 
 -- "Undo .. re-inserts a cleared log at its place"; answer 7: its place is above the number pending, or 4 pend
-unfoldable pub unclear_of : Record → ℕ → Log → Changed
+unfoldable pub unclear_of : Record → ℕ → Log → Option Record
 unclear_of r place log =
-    cond (ltb (pending_of r.logs) place) (refused r)
-    (cond (leb 4 (pending_of r.logs)) (refused r)
-    (accepted (with_logs r (insert_at place log r.logs))))
+    cond (ltb (pending_of r.logs) place) None
+    (cond (leb 4 (pending_of r.logs)) None
+    (Some (with_logs r (insert_at place log r.logs))))
 
 -- "0x25 reset prep": state becomes 1, and the log, where one is made (its id isn't 0), pends last
-unfoldable pub reset_of : Record → Log → Changed
+unfoldable pub reset_of : Record → Log → Option Record
 reset_of r log =
-    cond (eqb log.id 0) (accepted (with_state r 1))
-    (cond (leb 4 (pending_of r.logs)) (refused r)
-    (accepted (with_logs (with_state r 1) (insert_at (pending_of r.logs) log r.logs))))
+    cond (eqb log.id 0) (Some (with_state r 1))
+    (cond (leb 4 (pending_of r.logs)) None
+    (Some (with_logs (with_state r 1) (insert_at (pending_of r.logs) log r.logs))))
 
 -- "Undo .. removes the log a reset made (the last pending)"; answer 7: a log was made and none pends
-unfoldable pub unreset_of : Record → ℕ → ℕ → Changed
+unfoldable pub unreset_of : Record → ℕ → ℕ → Option Record
 unreset_of r state made =
-    cond (eqb made 0) (accepted (with_state r state))
-    (cond (eqb (pending_of r.logs) 0) (refused r)
-    (accepted (with_logs (with_state r state) (remove_at (pending_of r.logs - 1) r.logs))))
+    cond (eqb made 0) (Some (with_state r state))
+    (cond (eqb (pending_of r.logs) 0) None
+    (Some (with_logs (with_state r state) (remove_at (pending_of r.logs - 1) r.logs))))
 
 -- a change put into a record, with the tables beside it
-unfoldable pub put_with : Record → Tables → Change → Changed
+unfoldable pub put_with : Record → Tables → Change → Option Record
 put_with r t (Clear place log) = clear_of r place log
 put_with r t (Unclear place log) = unclear_of r place log
-put_with r t (SetState state) = accepted (with_state r state)
-put_with r t (SetRole got role) = accepted (with_role r got role)
-put_with r t (SetCaps got caps) = accepted (with_caps r got caps)
-put_with r t (SetUser user) = accepted (with_user r user)
-put_with r t (SetThermal got) = accepted (with_thermal r got t.thermal)
-put_with r t (SetThrottles got) = accepted (with_throttles r got t.throttles)
+put_with r t (SetState state) = Some (with_state r state)
+put_with r t (SetRole got role) = Some (with_role r got role)
+put_with r t (SetCaps got caps) = Some (with_caps r got caps)
+put_with r t (SetUser user) = Some (with_user r user)
+put_with r t (SetThermal got) = Some (with_thermal r got t.thermal)
+put_with r t (SetThrottles got) = Some (with_throttles r got t.throttles)
 put_with r t (Reset log) = reset_of r log
 put_with r t (Unreset state made) = unreset_of r state made
-put_with r t (SetMask mask) = accepted (with_mask r mask)
-put_with r t (SetDeadman deadman) = accepted (with_deadman r deadman)
-put_with r t (SetAreas areas) = accepted (with_areas r areas)
-put_with r t (SetTimer timer) = accepted r
+put_with r t (SetMask mask) = Some (with_mask r mask)
+put_with r t (SetDeadman deadman) = Some (with_deadman r deadman)
+put_with r t (SetAreas areas) = Some (with_areas r areas)
+put_with r t (SetTimer timer) = Some r
 
-unfoldable pub put_of : Record → Edit → Changed
+unfoldable pub put_of : Record → Edit → Option Record
 put_of r e = put_with r e.tables e.change
+
+-- and the record after it: as it was where the change can't be put in
+abbrev pub put_after : Record → Edit → Record
+put_after r e = unwrap_or (put_of r e) r
 
 -- ---- what was before: the change that takes a change back
 

@@ -1,5 +1,5 @@
 -- Document 01: pending logs (at most 4), by place. A place is used if its id isn't 0; used places come first.
-use Rattle.std.specs.Prelude.{ℕ, suc, Bool, false, cond, not, List, [], ◌∷◌, ◌++◌, get_or, take, drop, ltb, eqb}
+use Rattle.std.specs.Prelude.{ℕ, suc, Bool, false, cond, not, List, [], ◌∷◌, ◌++◌, Option, None, position, get_or, take, drop, ltb, eqb}
 use Rattle.record.specs.Record.{no_log}
 use Rattle.record.specs.declared.Log.{Log}
 
@@ -8,14 +8,9 @@ unfoldable pub pending_of : List Log → ℕ
 pending_of [] = 0
 pending_of (x ∷ l) = cond (eqb x.id 0) 0 (suc (pending_of l))
 
--- the first place with an id; past the end where none has it
-unfoldable pub first_with : ℕ → List Log → ℕ
-first_with i [] = 0
-first_with i (x ∷ l) = cond (eqb x.id i) 0 (suc (first_with i l))
-
--- the place of the pending log with an id; 4 where none has it, and for id 0, which is no log's
-unfoldable pub find_of : ℕ → List Log → ℕ
-find_of i l = cond (eqb i 0) 4 (first_with i l)
+-- the first place with an id; none for id 0, which is no log's
+unfoldable pub find_of : ℕ → List Log → Option ℕ
+find_of i l = cond (eqb i 0) None (position (λ (x : Log). eqb x.id i) l)
 
 -- the log at a place is taken out, those above move down; a place above 3 changes nothing
 unfoldable pub remove_at : ℕ → List Log → List Log

@@ -8,41 +8,33 @@ use Rattle.record.specs.declared.Throttles.{Throttles}
 use Rattle.record.specs.declared.Record.{Record}
 
 unfoldable pub with_state : Record → ℕ → Record
-with_state r state =
-    record { state = state; role = r.role; caps = r.caps; throttles = r.throttles; user = r.user; thermal = r.thermal; received = r.received; logs = r.logs; mask = r.mask; deadman = r.deadman; areas = r.areas }
+with_state r state = record r { state = state }
 
 unfoldable pub with_role : Record → ℕ → ℕ → Record
-with_role r got role =
-    record { state = r.state; role = role; caps = r.caps; throttles = r.throttles; user = r.user; thermal = r.thermal; received = record { role = got; caps = r.received.caps; throttles = r.received.throttles; thermal = r.received.thermal }; logs = r.logs; mask = r.mask; deadman = r.deadman; areas = r.areas }
+with_role r got role = record r { role = role; received = record r.received { role = got } }
 
 unfoldable pub with_caps : Record → ℕ → Caps → Record
-with_caps r got caps =
-    record { state = r.state; role = r.role; caps = caps; throttles = r.throttles; user = r.user; thermal = r.thermal; received = record { role = r.received.role; caps = got; throttles = r.received.throttles; thermal = r.received.thermal }; logs = r.logs; mask = r.mask; deadman = r.deadman; areas = r.areas }
+with_caps r got caps = record r { caps = caps; received = record r.received { caps = got } }
 
 unfoldable pub with_throttles : Record → ℕ → Throttles → Record
 with_throttles r got throttles =
-    record { state = r.state; role = r.role; caps = r.caps; throttles = throttles; user = r.user; thermal = r.thermal; received = record { role = r.received.role; caps = r.received.caps; throttles = got; thermal = r.received.thermal }; logs = r.logs; mask = r.mask; deadman = r.deadman; areas = r.areas }
+    record r { throttles = throttles; received = record r.received { throttles = got } }
 
 unfoldable pub with_user : Record → ℕ → Record
-with_user r user =
-    record { state = r.state; role = r.role; caps = r.caps; throttles = r.throttles; user = user; thermal = r.thermal; received = r.received; logs = r.logs; mask = r.mask; deadman = r.deadman; areas = r.areas }
+with_user r user = record r { user = user }
 
 unfoldable pub with_thermal : Record → ℕ → List ℕ → Record
 with_thermal r got thermal =
-    record { state = r.state; role = r.role; caps = r.caps; throttles = r.throttles; user = r.user; thermal = thermal; received = record { role = r.received.role; caps = r.received.caps; throttles = r.received.throttles; thermal = got }; logs = r.logs; mask = r.mask; deadman = r.deadman; areas = r.areas }
+    record r { thermal = thermal; received = record r.received { thermal = got } }
 
 unfoldable pub with_logs : Record → List Log → Record
-with_logs r logs =
-    record { state = r.state; role = r.role; caps = r.caps; throttles = r.throttles; user = r.user; thermal = r.thermal; received = r.received; logs = logs; mask = r.mask; deadman = r.deadman; areas = r.areas }
+with_logs r logs = record r { logs = logs }
 
 unfoldable pub with_mask : Record → ℕ → Record
-with_mask r mask =
-    record { state = r.state; role = r.role; caps = r.caps; throttles = r.throttles; user = r.user; thermal = r.thermal; received = r.received; logs = r.logs; mask = mask; deadman = r.deadman; areas = r.areas }
+with_mask r mask = record r { mask = mask }
 
 unfoldable pub with_deadman : Record → Deadman → Record
-with_deadman r deadman =
-    record { state = r.state; role = r.role; caps = r.caps; throttles = r.throttles; user = r.user; thermal = r.thermal; received = r.received; logs = r.logs; mask = r.mask; deadman = deadman; areas = r.areas }
+with_deadman r deadman = record r { deadman = deadman }
 
 unfoldable pub with_areas : Record → Areas → Record
-with_areas r areas =
-    record { state = r.state; role = r.role; caps = r.caps; throttles = r.throttles; user = r.user; thermal = r.thermal; received = r.received; logs = r.logs; mask = r.mask; deadman = r.deadman; areas = areas }
+with_areas r areas = record r { areas = areas }

@@ -1,12 +1,11 @@
 // Changes to a record: as a command makes them, and as undo takes them back. Nothing else writes a record.
-#![tactic(auto)]
+#![tactic(auto, unfolding(crate::specs::Logs::pending_of, crate::specs::Logs::find_of, crate::specs::Logs::remove_at, crate::specs::Logs::insert_at, crate::specs::Logs::pends_at, crate::specs::With::with_state, crate::specs::With::with_role, crate::specs::With::with_caps, crate::specs::With::with_throttles, crate::specs::With::with_user, crate::specs::With::with_thermal, crate::specs::With::with_logs, crate::specs::With::with_mask, crate::specs::With::with_deadman, crate::specs::With::with_areas, crate::specs::Change::clear_of, crate::specs::Change::unclear_of, crate::specs::Change::reset_of, crate::specs::Change::unreset_of, crate::specs::Change::put_with, crate::specs::Change::put_of, crate::specs::Change::last_of, crate::specs::Change::made_by, crate::specs::Change::made_again, crate::specs::Change::back_of, crate::specs::Change::kind_of, crate::specs::Change::tables_for, crate::specs::Change::inverse_of, crate::specs::Change::timed_change, crate::specs::Change::timed, crate::specs::Change::takes_back, crate::specs::Change::timer_after,))]
 
-ghost use Rattle.std.specs.Prelude.{◌≡◌};
-ghost use Rattle.change.specs.Logs.{pending_of, first_with, find_of, remove_at, insert_at, pends_at};
-ghost use Rattle.change.specs.With.{with_state, with_role, with_caps, with_throttles, with_user, with_thermal, with_logs, with_mask, with_deadman, with_areas};
-ghost use Rattle.change.specs.Change.{accepted, refused, clear_of, unclear_of, reset_of, unreset_of, put_of, last_of, made_by, made_again, back_of, kind_of, no_tables, tables_for, timed_change, takes_back, timer_after};
+ghost use Rattle.std.specs.Prelude.{◌≡◌, ◌<◌, length, eqb, position, IfSome};
+ghost use Rattle.change.specs.Logs.{pending_of, find_of, remove_at, insert_at, pends_at};
+ghost use Rattle.change.specs.Change.{clear_of, unclear_of, reset_of, unreset_of, put_of, last_of, made_by, made_again, back_of, kind_of, no_tables, tables_for, timed_change, takes_back, timer_after};
 
-use record::{Areas, Caps, Deadman, Log, Record, Throttles, Timer};
+use record::{Areas, Caps, Deadman, Log, Received, Record, Throttles, Timer};
 
 // One change. A case that sets values holds them, with the received mark first; the wide tables stand beside it, in Edit.
 // A clear and a reset take another case to be taken back.
@@ -41,45 +40,32 @@ pub struct Edit {
     pub tables: Tables,
 }
 
-// The record with a change put in, or the record as it was where it can't be.
-#[derive(Clone, Copy)]
-pub struct Changed {
-    pub ok: bool,
-    pub after: Record,
-}
-
 // ---- logs by place
 
-// The first place with an id, 4 where there is none.
-fn first_with(logs: [Log; 4], id: u8) -> usize
-    ensures { result ≡ first_with id logs }
+// The first place with an id.
+fn first_with(logs: &[Log], id: u8) -> Option<usize>
+    ensures value { result ≡ position (λ (x : Log). eqb x.id id) logs.now }
+    ensures bound { IfSome result (λ i. i < length logs.now) }
 {
-    let mut i = 0;
-    while i < 4 {
-        let log = logs[i];
-        if log.id == id {
-            return i;
-        }
-        i += 1;
-    }
-    i
+    logs.iter().position(|log| log.id == id)
 }
 
 // How many logs pend: used places come first.
 pub fn pending(logs: [Log; 4]) -> usize
     ensures { result ≡ pending_of logs }
 {
-    first_with(logs, 0)
+    first_with(&logs, 0).unwrap_or(4)
 }
 
-// The place of the pending log with an id, 4 where none has it. Id 0 is none's.
-pub fn find(logs: [Log; 4], id: u8) -> usize
-    ensures { result ≡ find_of id logs }
+// The place of the pending log with an id. Id 0 is none's.
+pub fn find(logs: [Log; 4], id: u8) -> Option<usize>
+    ensures value { result ≡ find_of id logs }
+    ensures bound { IfSome result (λ i. i < 4) }
 {
     if id == 0 {
-        return 4;
+        return None;
     }
-    first_with(logs, id)
+    first_with(&logs, id)
 }
 
 // The log at a place is taken out, and those above it move down.
@@ -127,202 +113,111 @@ fn pends_at(logs: [Log; 4], place: u8, log: Log) -> bool
     if log.id == 0 {
         return false;
     }
-    let at = place as usize;
-    let there = logs[at];
-    if there.id != log.id {
-        return false;
-    }
-    there.reason == log.reason
+    logs[usize::from(place)] == log
 }
 
-// ---- a record with another value in one place
+// ---- putting a change into a record; nothing where it can't be put in
 
-fn with_state(r: Record, state: u8) -> Record
-    ensures { result ≡ with_state r state }
-{
-    let mut x = r;
-    x.state = state;
-    x
-}
-
-fn set_role(r: Record, got: u8, role: u8) -> Changed
-    ensures { result ≡ accepted (with_role r got role) }
-{
-    let mut marks = r.received;
-    marks.role = got;
-    let mut x = r;
-    x.received = marks;
-    x.role = role;
-    Changed { ok: true, after: x }
-}
-
-fn set_caps(r: Record, got: u8, caps: Caps) -> Changed
-    ensures { result ≡ accepted (with_caps r got caps) }
-{
-    let mut marks = r.received;
-    marks.caps = got;
-    let mut x = r;
-    x.received = marks;
-    x.caps = caps;
-    Changed { ok: true, after: x }
-}
-
-fn set_throttles(r: Record, got: u8, throttles: Throttles) -> Changed
-    ensures { result ≡ accepted (with_throttles r got throttles) }
-{
-    let mut marks = r.received;
-    marks.throttles = got;
-    let mut x = r;
-    x.received = marks;
-    x.throttles = throttles;
-    Changed { ok: true, after: x }
-}
-
-fn set_user(r: Record, user: u16) -> Changed
-    ensures { result ≡ accepted (with_user r user) }
-{
-    let mut x = r;
-    x.user = user;
-    Changed { ok: true, after: x }
-}
-
-fn set_thermal(r: Record, got: u8, thermal: [u8; 9]) -> Changed
-    ensures { result ≡ accepted (with_thermal r got thermal) }
-{
-    let mut marks = r.received;
-    marks.thermal = got;
-    let mut x = r;
-    x.received = marks;
-    x.thermal = thermal;
-    Changed { ok: true, after: x }
-}
-
-fn with_logs(r: Record, logs: [Log; 4]) -> Record
-    ensures { result ≡ with_logs r logs }
-{
-    let mut x = r;
-    x.logs = logs;
-    x
-}
-
-fn set_mask(r: Record, mask: u32) -> Changed
-    ensures { result ≡ accepted (with_mask r mask) }
-{
-    let mut x = r;
-    x.mask = mask;
-    Changed { ok: true, after: x }
-}
-
-fn set_deadman(r: Record, deadman: Deadman) -> Changed
-    ensures { result ≡ accepted (with_deadman r deadman) }
-{
-    let mut x = r;
-    x.deadman = deadman;
-    Changed { ok: true, after: x }
-}
-
-fn set_areas(r: Record, areas: Areas) -> Changed
-    ensures { result ≡ accepted (with_areas r areas) }
-{
-    let mut x = r;
-    x.areas = areas;
-    Changed { ok: true, after: x }
-}
-
-// ---- putting a change into a record
-
-fn accept(r: Record) -> Changed
-    ensures { result ≡ accepted r }
-{
-    Changed { ok: true, after: r }
-}
-
-fn refuse(r: Record) -> Changed
-    ensures { result ≡ refused r }
-{
-    Changed {
-        ok: false,
-        after: r,
-    }
-}
-
-fn clear(r: Record, place: u8, log: Log) -> Changed
+fn clear(r: Record, place: u8, log: Log) -> Option<Record>
     ensures { result ≡ clear_of r place log }
 {
-    let logs = r.logs;
-    if !pends_at(logs, place, log) {
-        return refuse(r);
+    if !pends_at(r.logs, place, log) {
+        return None;
     }
-    accept(with_logs(r, removed(logs, place as usize)))
+    let logs = removed(r.logs, usize::from(place));
+    Some(Record { logs, ..r })
 }
 
-fn unclear(r: Record, place: u8, log: Log) -> Changed
+fn unclear(r: Record, place: u8, log: Log) -> Option<Record>
     ensures { result ≡ unclear_of r place log }
 {
-    let logs = r.logs;
-    let n = pending(logs);
-    let at = place as usize;
+    let n = pending(r.logs);
+    let at = usize::from(place);
     if n < at {
-        return refuse(r);
+        return None;
     }
     if 4 <= n {
-        return refuse(r);
+        return None;
     }
-    accept(with_logs(r, inserted(logs, at, log)))
+    let logs = inserted(r.logs, at, log);
+    Some(Record { logs, ..r })
 }
 
-fn reset(r: Record, log: Log) -> Changed
+fn reset(r: Record, log: Log) -> Option<Record>
     ensures { result ≡ reset_of r log }
 {
-    let logs = r.logs;
     if log.id == 0 {
-        return accept(with_state(r, 1));
+        return Some(Record { state: 1, ..r });
     }
-    let n = pending(logs);
+    let n = pending(r.logs);
     if 4 <= n {
-        return refuse(r);
+        return None;
     }
-    accept(with_logs(with_state(r, 1), inserted(logs, n, log)))
+    let logs = inserted(r.logs, n, log);
+    Some(Record {
+        state: 1,
+        logs,
+        ..r
+    })
 }
 
-fn unreset(r: Record, state: u8, made: u8) -> Changed
+fn unreset(r: Record, state: u8, made: u8) -> Option<Record>
     ensures { result ≡ unreset_of r state made }
 {
-    let logs = r.logs;
     if made == 0 {
-        return accept(with_state(r, state));
+        return Some(Record { state, ..r });
     }
-    let n = pending(logs);
+    let n = pending(r.logs);
     if n == 0 {
-        return refuse(r);
+        return None;
     }
-    accept(with_logs(with_state(r, state), removed(logs, n - 1)))
+    let logs = removed(r.logs, n - 1);
+    Some(Record { state, logs, ..r })
 }
 
 // The one function that puts a change into a record, for a command and for undo.
-pub fn put(r: Record, e: Edit) -> Changed
+pub fn put(r: Record, e: Edit) -> Option<Record>
     ensures { result ≡ put_of r e }
 {
-    let change = e.change;
-    let tables = e.tables;
-    let thermal = tables.thermal;
-    let throttles = tables.throttles;
-    match change {
-        Change::Clear(place, log) => clear(r, place, log),
-        Change::Unclear(place, log) => unclear(r, place, log),
-        Change::SetState(state) => accept(with_state(r, state)),
-        Change::SetRole(got, role) => set_role(r, got, role),
-        Change::SetCaps(got, caps) => set_caps(r, got, caps),
-        Change::SetUser(user) => set_user(r, user),
-        Change::SetThermal(got) => set_thermal(r, got, thermal),
-        Change::SetThrottles(got) => set_throttles(r, got, throttles),
-        Change::Reset(log) => reset(r, log),
-        Change::Unreset(state, made) => unreset(r, state, made),
-        Change::SetMask(mask) => set_mask(r, mask),
-        Change::SetDeadman(deadman) => set_deadman(r, deadman),
-        Change::SetAreas(areas) => set_areas(r, areas),
-        Change::SetTimer(_) => accept(r),
-    }
+    let got = r.received;
+    Some(match e.change {
+        Change::Clear(place, log) => return clear(r, place, log),
+        Change::Unclear(place, log) => return unclear(r, place, log),
+        Change::Reset(log) => return reset(r, log),
+        Change::Unreset(state, made) => return unreset(r, state, made),
+        Change::SetState(state) => Record { state, ..r },
+        Change::SetRole(mark, role) => Record {
+            role,
+            received: Received { role: mark, ..got },
+            ..r
+        },
+        Change::SetCaps(mark, caps) => Record {
+            caps,
+            received: Received { caps: mark, ..got },
+            ..r
+        },
+        Change::SetUser(user) => Record { user, ..r },
+        Change::SetThermal(mark) => Record {
+            thermal: e.tables.thermal,
+            received: Received {
+                thermal: mark,
+                ..got
+            },
+            ..r
+        },
+        Change::SetThrottles(mark) => Record {
+            throttles: e.tables.throttles,
+            received: Received {
+                throttles: mark,
+                ..got
+            },
+            ..r
+        },
+        Change::SetMask(mask) => Record { mask, ..r },
+        Change::SetDeadman(deadman) => Record { deadman, ..r },
+        Change::SetAreas(areas) => Record { areas, ..r },
+        Change::SetTimer(_) => r,
+    })
 }
 
 // ---- the change that takes a change back
@@ -350,15 +245,14 @@ pub fn kind(change: Change) -> u8
 }
 
 // The last pending log; an unused one where none pends.
+#[tactic(auto, using(crate::proofs::Logs::pending_le), unfolding(crate::specs::Change::last_of))]
 fn last(logs: [Log; 4]) -> Log
     ensures { result ≡ last_of logs }
 {
-    let n = pending(logs);
-    if n == 0 {
-        return Log { id: 0, reason: 0 };
+    match pending(logs) {
+        0 => Log { id: 0, reason: 0 },
+        n => logs[n - 1],
     }
-    let at = n - 1;
-    logs[at]
 }
 
 // 1 where a reset with this log makes one.
@@ -384,25 +278,20 @@ fn made_again(logs: [Log; 4], made: u8) -> Log
 fn back(r: Record, change: Change) -> Change
     ensures { result ≡ back_of r change }
 {
-    let got = r.received;
-    let logs = r.logs;
-    let caps = r.caps;
-    let deadman = r.deadman;
-    let areas = r.areas;
     match change {
         Change::Clear(place, log) => Change::Unclear(place, log),
         Change::Unclear(place, log) => Change::Clear(place, log),
         Change::SetState(_) => Change::SetState(r.state),
-        Change::SetRole(_, _) => Change::SetRole(got.role, r.role),
-        Change::SetCaps(_, _) => Change::SetCaps(got.caps, caps),
+        Change::SetRole(_, _) => Change::SetRole(r.received.role, r.role),
+        Change::SetCaps(_, _) => Change::SetCaps(r.received.caps, r.caps),
         Change::SetUser(_) => Change::SetUser(r.user),
-        Change::SetThermal(_) => Change::SetThermal(got.thermal),
-        Change::SetThrottles(_) => Change::SetThrottles(got.throttles),
+        Change::SetThermal(_) => Change::SetThermal(r.received.thermal),
+        Change::SetThrottles(_) => Change::SetThrottles(r.received.throttles),
         Change::Reset(log) => Change::Unreset(r.state, made_by(log)),
-        Change::Unreset(_, made) => Change::Reset(made_again(logs, made)),
+        Change::Unreset(_, made) => Change::Reset(made_again(r.logs, made)),
         Change::SetMask(_) => Change::SetMask(r.mask),
-        Change::SetDeadman(_) => Change::SetDeadman(deadman),
-        Change::SetAreas(_) => Change::SetAreas(areas),
+        Change::SetDeadman(_) => Change::SetDeadman(r.deadman),
+        Change::SetAreas(_) => Change::SetAreas(r.areas),
         Change::SetTimer(timer) => Change::SetTimer(timer),
     }
 }
@@ -427,21 +316,11 @@ fn tables_for(kind: u8, r: Record) -> Tables
     let none = no_tables();
     let thermal = r.thermal;
     let throttles = r.throttles;
-    let no_thermal = none.thermal;
-    let no_throttles = none.throttles;
-    if kind == 0x06 {
-        return Tables {
-            thermal: thermal,
-            throttles: no_throttles,
-        };
+    match kind {
+        0x06 => Tables { thermal, ..none },
+        0x07 => Tables { throttles, ..none },
+        _ => none,
     }
-    if kind == 0x07 {
-        return Tables {
-            thermal: no_thermal,
-            throttles: throttles,
-        };
-    }
-    none
 }
 
 // ---- the timer, which stands outside the record
@@ -470,11 +349,8 @@ pub fn timer_after(t: Timer, change: Change) -> Timer
 pub fn takes_back(r: Record, t: Timer, e: Edit) -> Edit
     ensures { result ≡ takes_back r t e }
 {
-    let change = e.change;
-    let back = timed(t, back(r, change));
-    let tables = tables_for(kind(change), r);
     Edit {
-        change: back,
-        tables: tables,
+        change: timed(t, back(r, e.change)),
+        tables: tables_for(kind(e.change), r),
     }
 }

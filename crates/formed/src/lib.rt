@@ -1,18 +1,16 @@
 // When a record is well formed, and which values a change may hold: ones that a well-formed record could.
-#![tactic(auto)]
+#![tactic(auto, unfolding(crate::specs::Formed::state_ok, crate::specs::Formed::flag_ok, crate::specs::Formed::role_ok, crate::specs::Formed::caps_ok, crate::specs::Formed::clock_ok, crate::specs::Formed::deadman_ok, crate::specs::Formed::timer_ok, crate::specs::Formed::pair_ok, crate::specs::Formed::absent_zero, crate::specs::Formed::throttles_ok, crate::specs::Formed::multiple_of128, crate::specs::Formed::in_memory, crate::specs::Formed::area_ok, crate::specs::Formed::areas_ok, crate::specs::Formed::fields_ok, crate::specs::Formed::in_order, crate::specs::Formed::thermal_rule, crate::specs::Formed::thermal_ok, crate::specs::Formed::next_ok, crate::specs::Formed::reason_ok, crate::specs::Formed::unused, crate::specs::Formed::log_ok, crate::specs::Formed::logs_ok, crate::specs::Formed::record_ok, crate::specs::Formed::cleared_ok, crate::specs::Formed::made_ok, crate::specs::Formed::unreset_ok))]
 
-ghost use Rattle.std.specs.Prelude.{◌≡◌, drop};
-ghost use Rattle.formed.specs.Formed.{state_ok, flag_ok, role_ok, caps_ok, pair_ok, absent_zero, throttles_ok, clock_ok, deadman_ok, timer_ok, multiple_of128, in_memory, area_ok, areas_ok, in_order, thermal_rule, thermal_ok, reason_ok, log_ok, unused, logs_ok, next_ok, fields_ok, record_ok, cleared_ok, made_ok, unreset_ok};
+ghost use Rattle.std.specs.Prelude.{◌≡◌, ◌&&◌, eqb};
+ghost use Rattle.std.specs.List.{list_all};
+ghost use Rattle.formed.specs.Formed.{state_ok, flag_ok, role_ok, caps_ok, pair_ok, absent_zero, throttles_ok, clock_ok, deadman_ok, timer_ok, multiple_of128, in_memory, area_ok, areas_ok, in_order, thermal_rule, thermal_ok, reason_ok, log_ok, logs_ok, next_ok, fields_ok, record_ok, cleared_ok, made_ok, unreset_ok};
 
 use record::{Area, Areas, Caps, Deadman, Log, Record, Throttles, Timer};
 
 pub fn state_ok(state: u8) -> bool
     ensures { result ≡ state_ok state }
 {
-    if state < 1 {
-        return false;
-    }
-    state <= 3
+    1 <= state && state <= 3
 }
 
 pub fn flag_ok(flag: u8) -> bool
@@ -42,38 +40,26 @@ pub fn caps_ok(got: u8, caps: Caps) -> bool
     if got != 0 {
         return caps.min <= caps.max;
     }
-    if caps.min != 0 {
-        return false;
-    }
-    if caps.max != 0 {
-        return false;
-    }
-    caps.over == 0
+    caps.min == 0 && caps.max == 0 && caps.over == 0
 }
 
 // Whether a pair is present, or its ten bytes are zero.
 fn pair_ok(bit: u16, set: &[u8]) -> bool
     ensures { result ≡ pair_ok bit set.now }
 {
-    if bit == 1 {
-        return true;
-    }
-    wire::all_are(set, 0)
+    bit == 1 || wire::all_are(set, 0)
 }
 
 fn absent_zero(present: u16, sets: [u8; 160]) -> bool
     ensures { result ≡ absent_zero present sets }
 {
     let mut left = present;
-    let mut i = 0;
-    while i < 16 {
+    for i in 0..16 {
         let at = i * 10;
-        let end = at + 10;
-        if !pair_ok(left % 2, &sets[at..end]) {
+        if !pair_ok(left % 2, &sets[at..at + 10]) {
             return false;
         }
-        left = left / 2;
-        i += 1;
+        left /= 2;
     }
     true
 }
@@ -81,31 +67,21 @@ fn absent_zero(present: u16, sets: [u8; 160]) -> bool
 pub fn throttles_ok(got: u8, throttles: Throttles) -> bool
     ensures { result ≡ throttles_ok got throttles }
 {
-    let present = throttles.present;
     let sets = throttles.sets;
     if !flag_ok(got) {
         return false;
     }
     if got != 0 {
-        return absent_zero(present, sets);
+        return absent_zero(throttles.present, sets);
     }
-    if present != 0 {
-        return false;
-    }
-    wire::all_are(&sets, 0)
+    throttles.present == 0 && wire::all_are(&sets, 0)
 }
 
 // What is off has time 0.
 fn clock_ok(running: u8, time: u64) -> bool
     ensures { result ≡ clock_ok running time }
 {
-    if !flag_ok(running) {
-        return false;
-    }
-    if running != 0 {
-        return true;
-    }
-    time == 0
+    flag_ok(running) && (running != 0 || time == 0)
 }
 
 pub fn deadman_ok(deadman: Deadman) -> bool
@@ -130,64 +106,36 @@ pub fn aligned(n: u64) -> bool
 pub fn in_memory(address: u64, size: u32) -> bool
     ensures { result ≡ in_memory address size }
 {
-    if size == 0 {
-        return true;
-    }
-    (size - 1) as u64 <= 0xFFFFFFFFFFFFFFFF - address
+    size == 0 || u64::from(size - 1) <= u64::MAX - address
 }
 
 pub fn area_ok(area: Area) -> bool
     ensures { result ≡ area_ok area }
 {
-    let address = area.address;
-    let size = area.size;
-    if size == 0 {
-        return address == 0;
+    if area.size == 0 {
+        return area.address == 0;
     }
-    if !aligned(address) {
-        return false;
-    }
-    if !in_memory(address, size) {
-        return false;
-    }
-    aligned(size as u64)
+    aligned(area.address) && in_memory(area.address, area.size) && aligned(u64::from(area.size))
 }
 
 pub fn areas_ok(areas: Areas) -> bool
     ensures { result ≡ areas_ok areas }
 {
-    let ffdc = areas.ffdc;
-    let pass = areas.pass;
-    if !area_ok(ffdc) {
-        return false;
-    }
-    area_ok(pass)
+    area_ok(areas.ffdc) && area_ok(areas.pass)
 }
 
 // Whether DVFS is at most ERROR; one that is 0xFF is not defined, and compared with nothing.
 pub fn in_order(dvfs: u8, error: u8) -> bool
     ensures { result ≡ in_order dvfs error }
 {
-    if dvfs == 0xFF {
-        return true;
-    }
-    if error == 0xFF {
-        return true;
-    }
-    dvfs <= error
+    dvfs == 0xFF || error == 0xFF || dvfs <= error
 }
 
 // The thresholds of each of the three FRU types.
 fn thermal_rule(t: [u8; 9]) -> bool
     ensures { result ≡ thermal_rule t }
 {
-    if !in_order(t[0], t[1]) {
-        return false;
-    }
-    if !in_order(t[3], t[4]) {
-        return false;
-    }
-    in_order(t[6], t[7])
+    in_order(t[0], t[1]) && in_order(t[3], t[4]) && in_order(t[6], t[7])
 }
 
 pub fn thermal_ok(got: u8, t: [u8; 9]) -> bool
@@ -205,57 +153,34 @@ pub fn thermal_ok(got: u8, t: [u8; 9]) -> bool
 fn reason_ok(reason: u8) -> bool
     ensures { result ≡ reason_ok reason }
 {
-    if reason == 1 {
-        return true;
-    }
-    reason == 2
+    reason == 1 || reason == 2
 }
 
 // Whether a used place's log follows an id, stays below the next id and has a reason.
 fn log_ok(low: u8, next: u16, log: Log) -> bool
     ensures { result ≡ log_ok low next log }
 {
-    if log.id <= low {
-        return false;
-    }
-    if next <= log.id as u16 {
-        return false;
-    }
-    reason_ok(log.reason)
+    low < log.id && u16::from(log.id) < next && reason_ok(log.reason)
 }
 
-fn unused_from(logs: [Log; 4], from: usize) -> bool
-    ensures { result ≡ unused (drop from logs) }
+fn unused(logs: &[Log]) -> bool
+    ensures { result ≡ list_all (λ (x : Log). eqb x.id 0 && eqb x.reason 0) logs.now }
 {
-    let mut i = from;
-    while i < 4 {
-        let log = logs[i];
-        if log.id != 0 {
-            return false;
-        }
-        if log.reason != 0 {
-            return false;
-        }
-        i += 1;
-    }
-    true
+    logs.iter().all(|log| log.id == 0 && log.reason == 0)
 }
 
 pub fn logs_ok(next: u16, logs: [Log; 4]) -> bool
     ensures { result ≡ logs_ok next logs }
 {
     let mut low = 0;
-    let mut i = 0;
-    while i < 4 {
-        let log = logs[i];
+    for (i, log) in logs.iter().enumerate() {
         if log.id == 0 {
-            return unused_from(logs, i);
+            return unused(&logs[i..]);
         }
-        if !log_ok(low, next, log) {
+        if !log_ok(low, next, *log) {
             return false;
         }
         low = log.id;
-        i += 1;
     }
     true
 }
@@ -263,56 +188,29 @@ pub fn logs_ok(next: u16, logs: [Log; 4]) -> bool
 pub fn next_ok(next: u16) -> bool
     ensures { result ≡ next_ok next }
 {
-    if next < 1 {
-        return false;
-    }
-    next <= 256
+    1 <= next && next <= 256
 }
 
 // The rules of the fields alone.
 fn fields_ok(r: Record) -> bool
     ensures { result ≡ fields_ok r }
 {
-    let got = r.received;
-    let caps = r.caps;
-    let throttles = r.throttles;
-    let deadman = r.deadman;
-    let areas = r.areas;
-    if !state_ok(r.state) {
-        return false;
-    }
-    if !role_ok(got.role, r.role) {
-        return false;
-    }
-    if !caps_ok(got.caps, caps) {
-        return false;
-    }
-    if !deadman_ok(deadman) {
-        return false;
-    }
-    if !throttles_ok(got.throttles, throttles) {
-        return false;
-    }
-    areas_ok(areas)
+    state_ok(r.state)
+        && role_ok(r.received.role, r.role)
+        && caps_ok(r.received.caps, r.caps)
+        && deadman_ok(r.deadman)
+        && throttles_ok(r.received.throttles, r.throttles)
+        && areas_ok(r.areas)
 }
 
 // Whether a record is one that a session with this next id may hold.
 pub fn record_ok(r: Record, next: u16) -> bool
     ensures { result ≡ record_ok r next }
 {
-    let got = r.received;
-    let thermal = r.thermal;
-    let logs = r.logs;
-    if !fields_ok(r) {
-        return false;
-    }
-    if !thermal_ok(got.thermal, thermal) {
-        return false;
-    }
-    if !next_ok(next) {
-        return false;
-    }
-    logs_ok(next, logs)
+    fields_ok(r)
+        && thermal_ok(r.received.thermal, r.thermal)
+        && next_ok(next)
+        && logs_ok(next, r.logs)
 }
 
 // ---- the values of a change
@@ -320,13 +218,7 @@ pub fn record_ok(r: Record, next: u16) -> bool
 pub fn cleared_ok(place: u8, log: Log) -> bool
     ensures { result ≡ cleared_ok place log }
 {
-    if 3 < place {
-        return false;
-    }
-    if log.id == 0 {
-        return false;
-    }
-    reason_ok(log.reason)
+    place <= 3 && log.id != 0 && reason_ok(log.reason)
 }
 
 // A log that a reset made, or none.
@@ -342,8 +234,5 @@ pub fn made_ok(log: Log) -> bool
 pub fn unreset_ok(state: u8, made: u8) -> bool
     ensures { result ≡ unreset_ok state made }
 {
-    if !state_ok(state) {
-        return false;
-    }
-    flag_ok(made)
+    state_ok(state) && flag_ok(made)
 }

@@ -1,4 +1,5 @@
 -- The stores' parts of the lent bytes, lent on to functions and given back. Assumes nothing.
+use Rattle.std.specs.Prelude.{Option, Some, None}
 use Prim.Native.Nat.{ℕ, ◌+◌, ◌-◌, ◌≤◌}
 use mathlib.Core.Bool.{Bool, true, false, cond}
 use mathlib.Core.Path.{◌≡◌, refl, sym, ap, ap₂, subst, ◌∙◌}
@@ -13,7 +14,7 @@ use Rattle.wire.specs.Wire.{all_are, pasted}
 use Rattle.wire.proofs.laws.Cases.{else_lt}
 use Rattle.wire.proofs.laws.Wire.{take_all_are}
 use Rattle.record.specs.Record.{worked_of}
-use Rattle.change.specs.Change.{put_of, takes_back, timer_after}
+use Rattle.change.specs.Change.{put_after, takes_back, timer_after}
 use Rattle.change.specs.declared.Edit.{Edit}
 use Rattle.entries.specs.Entries.{Entry, Scan, entries_of, scan}
 use Rattle.entries.specs.Entries.{Sized}
@@ -22,8 +23,6 @@ use Rattle.marks.proofs.laws.Marks.{length_marks}
 use Rattle.journal.specs.Add.{entry_len, end_of, added_to, cut_from}
 use Rattle.journal.specs.Bytes.{entry_for, entry_bytes}
 use Rattle.journal.proofs.laws.Ends.{sized_reads}
-use Rattle.journal.specs.declared.End.{End}
-use Rattle.journal.specs.declared.End.TheVariants.{At, Full}
 use Rattle.journal.specs.declared.Way.{Way}
 use Rattle.journal.specs.declared.Way.TheVariants.{Before, After}
 use Rattle.session.specs.Session.{Carried, entries_in, marks_for, well_formed, made_of, renewed, with_timer, carried_of}
@@ -38,29 +37,29 @@ use Rattle.inplace.proofs.laws.Marked.{formed_marked, entries_are}
 use Rattle.inplace.proofs.Carrying.{carried_full, carried_at}
 
 -- an entry without room changes nothing
-abbrev IsFull : End → Type 0
-IsFull (At m) = ⊥
-IsFull Full = Unit {0}
+abbrev IsFull : Option ℕ → Type 0
+IsFull (Some m) = ⊥
+IsFull None = Unit {0}
 
-abbrev end_in : End → ℕ
-end_in (At m) = m
-end_in Full = 0
+abbrev end_in : Option ℕ → ℕ
+end_in (Some m) = m
+end_in None = 0
 
 full_keeps : (used : ℕ) (e : Edit) (j : List ℕ) → IsFull (end_of (length j) used e) → added_to used e j ≡ j
 unfolding end_of added_to
 full_keeps used e j = go (ltb (length j) used) (ltb (length j - used) (entry_len e))
   where
-    go : (p q : Bool) → IsFull (cond p Full (cond q Full (At (used + entry_len e)))) → cond p j (cond q j (pasted used (entry_bytes e) j)) ≡ j
+    go : (p q : Bool) → IsFull (cond p None (cond q None (Some (used + entry_len e)))) → cond p j (cond q j (pasted used (entry_bytes e) j)) ≡ j
     go true q f = refl
     go false true f = refl
     go false false f = absurd f
 
 -- an entry with room ends where it says, and lies within
-at_end : (n used m : ℕ) (e : Edit) → end_of n used e ≡ At m → (m ≡ used + entry_len e) × (used + entry_len e ≤ n)
+at_end : (n used m : ℕ) (e : Edit) → end_of n used e ≡ Some m → (m ≡ used + entry_len e) × (used + entry_len e ≤ n)
 unfolding end_of
 at_end n used m e = go (ltb n used) (ltb (n - used) (entry_len e)) refl refl
   where
-    go : (p q : Bool) → ltb n used ≡ p → ltb (n - used) (entry_len e) ≡ q → cond p Full (cond q Full (At (used + entry_len e))) ≡ At m → (m ≡ used + entry_len e) × (used + entry_len e ≤ n)
+    go : (p q : Bool) → ltb n used ≡ p → ltb (n - used) (entry_len e) ≡ q → cond p None (cond q None (Some (used + entry_len e))) ≡ Some m → (m ≡ used + entry_len e) × (used + entry_len e ≤ n)
     go true q i j f = absurd (subst IsFull f tt)
     go false true i j f = absurd (subst IsFull f tt)
     go false false i j f = (sym (ap end_in f), omega (arith, ltb-false n used i, ltb-false (n - used) (entry_len e) j))
@@ -82,7 +81,7 @@ emptied j used fits rest =
 
 -- ---- an entry more: the journal's part was lent to `journal::add`, which leaves the lent bytes as a
 
-module _ (b : List ℕ) (long : length b ≡ image_length) (used : ℕ) (is_marked : Marked used b) (e : Edit) (end : End) (a : List ℕ)
+module _ (b : List ℕ) (long : length b ≡ image_length) (used : ℕ) (is_marked : Marked used b) (e : Edit) (end : Option ℕ) (a : List ℕ)
     (made : end ≡ end_of 2048 used e) (added : a ≡ with_store journal_at (added_to used e (journal_in b)) b) where
   abbrev x : List ℕ
   x = added_to used e (journal_in b)
@@ -90,11 +89,11 @@ module _ (b : List ℕ) (long : length b ≡ image_length) (used : ℕ) (is_mark
   n_is : length (journal_in b) ≡ 2048
   n_is = length_store b long journal_at (omega arith)
 
-  pub no_room_lem : end ≡ Full → a ≡ b
+  pub no_room_lem : end ≡ None → a ≡ b
   no_room_lem f =
       added ∙ store_same b x journal_at (full_keeps used e (journal_in b) (subst IsFull (sym f ∙ made ∙ ap (λ (n : ℕ). end_of n used e) (sym n_is)) tt))
 
-  module _ (wide : length x ≡ 2048) (sized : Sized (entry_for e)) (m : ℕ) (at : end ≡ At m) where
+  module _ (wide : length x ≡ 2048) (sized : Sized (entry_for e)) (m : ℕ) (at : end ≡ Some m) where
     -- the entry has room, and stands behind the used bytes
     fits : (m ≡ used + entry_len e) × (used + entry_len e ≤ 2048)
     fits = at_end 2048 used m e (sym made ∙ at)
@@ -156,7 +155,7 @@ module _ (b : List ℕ) (long : length b ≡ image_length) (used : ℕ) (is_mark
 
 -- ---- a change carried out: its entry was entered, back takes the change back
 
-module _ (b : List ℕ) (long : length b ≡ image_length) (h : Head) (e back : Edit) (end : End) (g : List ℕ)
+module _ (b : List ℕ) (long : length b ≡ image_length) (h : Head) (e back : Edit) (end : Option ℕ) (g : List ℕ)
     (is : back ≡ takes_back h.held h.timer e) (made : end ≡ end_of 2048 h.used back) (entered : Entered h.used back b g end) where
   abbrev after : Carried
   after = carried_of (session_in h b) e
@@ -164,14 +163,14 @@ module _ (b : List ℕ) (long : length b ≡ image_length) (h : Head) (e back : 
   made_in : end ≡ end_of (length (journal_in b)) h.used back
   made_in = made ∙ ap (λ (n : ℕ). end_of n h.used back) (sym (length_store b long journal_at (omega arith)))
 
-  pub full_in : end ≡ Full → (true ≡ after.full) × (g ≡ carried_in b after)
+  pub full_in : end ≡ None → (true ≡ after.full) × (g ≡ carried_in b after)
   unfolding session_in carried_in
   full_in f =
       let k = carried_full (session_in h b) e back end made_in is f in
       (ap (λ (q : Carried). q.full) k, subst (Entered h.used back b g) f entered ∙ ap (carried_in b) k)
 
   -- z are the lent bytes without the redo store, y after the head was written
-  module _ (whole : well_formed (session_in h b) ≡ true) (used : ℕ) (at : end ≡ At used) where
+  module _ (whole : well_formed (session_in h b) ≡ true) (used : ℕ) (at : end ≡ Some used) where
     more : HasMore h.used back used b g
     more = subst (Entered h.used back b g) at entered
 
@@ -214,14 +213,14 @@ module _ (b : List ℕ) (long : length b ≡ image_length) (h : Head) (e back : 
           let j = added_to h.used back (journal_in b) in
           let k = carried_at (session_in h b) e back end made_in is used j at refl in
           let there : y ≡ image_of (session_in (head_after h e used) z) = q ∙ ap (λ (k : Head). image_of (session_in k z)) hp in
-          let r = (put_of h.held e).after in
+          let r = put_after h.held e in
           let n = h.next + made_of e.change in
           let timer = timer_after h.timer e.change in
           let stands : image_of (session_in (head_after h e used) z) ≡ image_of (renewed (with_timer (session_in h b) timer) r n j used (replicate 2048 0) 0) =
           λ i. image_of (record { held = r; worked = worked_of r; next = n; used = used; journal = journal_is i; ahead = 0; redo = redo_is i; marks = marks_is i; timer = timer; profile = h.profile }) in
           (ap (λ (q : Carried). q.full) k, there ∙ stands ∙ ap (carried_in b) k)
 
-pub added_in : (b : List ℕ) → length b ≡ image_length → (used : ℕ) (e : Edit) (end : End) (x : List ℕ) → end ≡ end_of (length (journal_in b)) used e → x ≡ added_to used e (journal_in b)
+pub added_in : (b : List ℕ) → length b ≡ image_length → (used : ℕ) (e : Edit) (end : Option ℕ) (x : List ℕ) → end ≡ end_of (length (journal_in b)) used e → x ≡ added_to used e (journal_in b)
     → length x ≡ length (journal_in b)
     → (end ≡ end_of 2048 used e) × ((with_store journal_at x b ≡ with_store journal_at (added_to used e (journal_in b)) b) × (length (added_to used e (journal_in b)) ≡ 2048))
 added_in b long used e end x p q wide =

@@ -1,12 +1,10 @@
 -- What calls and changes leave in the lent bytes of a session.
-use Rattle.std.specs.Prelude.{cond, not, List, ◌∷◌, ◌≡◌, length, take, eqb, ℕ, ◌+◌, ◌≤◌}
-use Rattle.change.specs.Change.{put_of, timer_after}
+use Rattle.std.specs.Prelude.{cond, not, List, ◌∷◌, ◌≡◌, length, take, eqb, ℕ, ◌+◌, ◌≤◌, Option, Some, None}
+use Rattle.change.specs.Change.{put_after, timer_after}
 use Rattle.change.specs.declared.Edit.{Edit}
 use Rattle.entries.specs.Entries.{Entry, written, between, scan}
 use Rattle.marks.specs.Marks.{marks_of}
 use Rattle.journal.specs.Add.{added_to}
-use Rattle.journal.specs.declared.End.{End}
-use Rattle.journal.specs.declared.End.TheVariants.{At, Full}
 use Rattle.session.specs.Session.{Carried, entries_in, marks_for, made_of}
 use Rattle.session.specs.Road.{Said}
 use Rattle.session.specs.declared.Session.{Session}
@@ -38,9 +36,9 @@ pub record HasMore (used : ℕ) (e : Edit) (m : ℕ) (b y : List ℕ) : Type 0 w
   pub redo : redo_in y ≡ redo_in b
   pub marks_are : marks_in y ≡ marks_for (added_to used e (journal_in b)) m
 
-abbrev pub Entered : ℕ → Edit → List ℕ → List ℕ → End → Type 0
-Entered used e b y (At m) = HasMore used e m b y
-Entered used e b y Full = y ≡ b
+abbrev pub Entered : ℕ → Edit → List ℕ → List ℕ → Option ℕ → Type 0
+Entered used e b y (Some m) = HasMore used e m b y
+Entered used e b y None = y ≡ b
 
 -- as Marked, and the newest of the entries begins at a place
 pub record MarkedTo (used at : ℕ) (b : List ℕ) : Type 0 where
@@ -52,7 +50,7 @@ pub record MarkedTo (used at : ℕ) (b : List ℕ) : Type 0 where
 
 -- the head after a change whose entry ends at `used`: the redo store is empty then
 unfoldable pub head_after : Head → Edit → ℕ → Head
-head_after h e used = head_renewed (head_timed h (timer_after h.timer e.change)) (put_of h.held e).after (h.next + made_of e.change) used 0
+head_after h e used = head_renewed (head_timed h (timer_after h.timer e.change)) (put_after h.held e) (h.next + made_of e.change) used 0
 
 -- the image of the session after it; the bytes as they were where its entry has no room
 unfoldable pub carried_in : List ℕ → Carried → List ℕ

@@ -2,7 +2,7 @@
 // and changed in place, and the head is written back only where it changed.
 #![tactic(auto)]
 
-ghost use Rattle.std.specs.Prelude.{◌≡◌, true, ◌≤◌, ◌+◌, length};
+ghost use Rattle.std.specs.Prelude.{◌≡◌, true, is_err, ◌≤◌, ◌+◌, length};
 ghost use Rattle.wire.specs.Wire.{pasted};
 ghost use Rattle.entries.specs.Entries.{Sized};
 ghost use Rattle.marks.specs.Marks.{marks_of};
@@ -15,7 +15,11 @@ ghost use Rattle.inplace.specs.InPlace.{Marked, MarksMore, Entered, MarkedTo, he
 
 use change::Edit;
 use image::Head;
-use journal::{End, Way};
+use journal::Way;
+
+// The entry of a change is longer than the unused journal.
+#[derive(Clone, Copy)]
+pub struct NoRoom;
 
 // A session answer; beside it a small number, the reason of a status 0x13, and one of 16 bits: the place of that status, the doorbell, the kind
 // moved. 0 where a call has none.
@@ -127,7 +131,7 @@ pub fn append(lent: &mut [u8], way: Way, used: usize, e: Edit)
 }
 
 // Adds an entry to the journal, where there is room.
-fn add(lent: &mut [u8], used: usize, e: Edit) -> End
+fn add(lent: &mut [u8], used: usize, e: Edit) -> Option<usize>
     requires { length lent.old ≡ image_length }
     ensures value { result ≡ end_of 2048 used e }
     ensures lent_after { lent.new ≡ with_store journal_at (added_to used e (journal_in lent.old)) lent.old }
@@ -180,17 +184,14 @@ pub fn mark_removed(lent: &mut [u8], used: usize, at: usize)
 }
 
 // An entry is added to the journal, where there is room, with its mark.
-fn enter(lent: &mut [u8], used: usize, e: Edit) -> End
+fn enter(lent: &mut [u8], used: usize, e: Edit) -> Option<usize>
     requires { (length lent.old ≡ image_length) × Marked used lent.old }
     ensures value { result ≡ end_of 2048 used e }
     ensures entered { Entered used e lent.old lent.new result }
 {
-    let end = add(&mut *lent, used, e);
-    let End::At(to) = end else {
-        return End::Full;
-    };
+    let to = add(&mut *lent, used, e)?;
     mark_added(lent, used);
-    End::At(to)
+    Some(to)
 }
 
 // ---- a change carried out
@@ -199,30 +200,25 @@ fn head_after(h: Head, e: Edit, used: u16) -> Head
     requires { h.next ≤ 256 }
     ensures { result ≡ head_after h e used }
 {
-    let held = h.held;
-    let change = e.change;
-    let timer = h.timer;
-    let put = change::put(held, e);
-    let after = put.after;
-    let next = h.next + session::made(change);
-    let timed = image::with_timer(h, change::timer_after(timer, change));
+    let after = change::put(h.held, e).unwrap_or(h.held);
+    let next = h.next + session::made(e.change);
+    let timed = image::with_timer(h, change::timer_after(h.timer, e.change));
     image::renewed(timed, after, next, used, 0)
 }
 
 // A change carried out: entry, record, worked-out values, next id and timer, in one place, and the redo store is emptied. Nothing else writes a record
-// but undo and redo, by the same road. The answer is whether the entry has no room; then nothing is written.
-pub fn carry(lent: &mut [u8], h: Head, e: Edit) -> bool
+// but undo and redo, by the same road. Where the entry has no room, nothing is written.
+pub fn carry(lent: &mut [u8], h: Head, e: Edit) -> Result<(), NoRoom>
     requires { (length lent.old ≡ image_length) × (well_formed (session_in h lent.old) ≡ true) }
-    ensures value { result ≡ (carried_of (session_in h lent.old) e).full }
+    ensures value { is_err result ≡ (carried_of (session_in h lent.old) e).full }
     ensures lent_after { lent.new ≡ carried_in lent.old (carried_of (session_in h lent.old) e) }
 {
     let back = change::takes_back(h.held, h.timer, e);
-    let end = enter(&mut *lent, h.used as usize, back);
-    let End::At(used) = end else {
-        return true;
+    let Some(used) = enter(&mut *lent, h.used as usize, back) else {
+        return Err(NoRoom);
     };
     cut(&mut *lent, Way::After, 0, h.ahead as usize);
     let after = head_after(h, e, used as u16);
     image::write_head(lent, after);
-    false
+    Ok(())
 }

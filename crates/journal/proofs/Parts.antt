@@ -1,4 +1,5 @@
 -- What the functions that read, add and cut an entry do to the part that is lent to them. Assumes nothing.
+use Rattle.std.specs.Prelude.{Option, None, Some}
 use Prim.Native.Nat.{ℕ, zero, suc, ◌+◌, ◌-◌, ◌≤◌, ◌<◌}
 use mathlib.Core.Bool.{Bool, true, false, cond, false≢true}
 use mathlib.Core.Path.{◌≡◌, refl, sym, ap, subst, ◌∙◌}
@@ -18,14 +19,11 @@ use Rattle.change.specs.Change.{kind_of}
 use Rattle.entries.specs.Entries.{bytes_of, body_lengths, body_len}
 use Rattle.entries.specs.Entries.{Sized}
 use Rattle.journal.proofs.laws.Bodies.{lengths}
-use Rattle.journal.specs.declared.Found.{Found}
-use Rattle.journal.specs.declared.Found.TheVariants.{Bad}
-use Rattle.journal.specs.declared.Got.{Got}
 use Rattle.formed.specs.Formed.{cleared_ok, change_ok}
 use Rattle.journal.specs.declared.Way.{Way}
 use Rattle.journal.specs.declared.Way.TheVariants.{Before, After}
 use Rattle.journal.specs.Bytes.{body_of, entry_for, entry_bytes}
-use Rattle.journal.specs.Read.{cleared_as, reset_as, reset_ok, found_for, tables_in, values_ok, entry_ok}
+use Rattle.journal.specs.Read.{cleared_as, reset_as, reset_ok, found_for, tables_in, values_ok, entry_ok, edit_by}
 use Rattle.change.specs.declared.Tables.{Tables}
 
 -- ---- parts of lent bytes
@@ -75,7 +73,7 @@ entry_sized e n m = let l = lengths e.tables e.change n m in (sym l.0, omega (ar
 pub room_for : (k n m : ℕ) → k ≡ n → body_len k ≤ m → body_len n ≤ m
 room_for k n m e h = subst (λ (i : ℕ). body_len i ≤ m) e h
 
-pub found_by : (w : Way) (k n : ℕ) (b : List ℕ) (x : Found) → k ≡ n → x ≡ found_for w n b → x ≡ found_for w k b
+pub found_by : (w : Way) (k n : ℕ) (b : List ℕ) (x : Option Change) → k ≡ n → x ≡ found_for w n b → x ≡ found_for w k b
 found_by w k n b x e p = p ∙ ap (λ (i : ℕ). found_for w i b) (sym e)
 
 pub put_by : (e : Edit) (ch : Change) (d x : List ℕ) → e.change ≡ ch → x ≡ pasted 0 (kind_of ch ∷ body_of e.tables ch) d → x ≡ pasted 0 (entry_bytes e) d
@@ -101,16 +99,22 @@ unfolding reset_ok reset_as change_ok
 reset_either Before t a b = refl
 reset_either After t a b = refl
 
-pub ok_bad : (t : Tables) (f : Found) → Bad ≡ f → false ≡ values_ok t f
+pub ok_bad : (t : Tables) (f : Option Change) → None ≡ f → false ≡ values_ok t f
 unfolding values_ok
 ok_bad t f e = ap (values_ok t) e
 
-pub got_by : (w : Way) (k : ℕ) (e : List ℕ) (f : Found) (t : Tables) → f ≡ found_for w k (take (length e - 1) (drop 1 e)) → t ≡ tables_in k (take (length e - 1) (drop 1 e))
-    → ◌≡◌ {A = Got} (record { found = f; tables = t }) (record { found = found_for w k (drop 1 e); tables = tables_in k (drop 1 e) })
-got_by w k e f t p q =
-    let g = p ∙ ap (found_for w k) (tail_part e 1) in
-    let h = q ∙ ap (tables_in k) (tail_part e 1) in
-    λ i. record { found = g i; tables = h i }
+module _ (w : Way) (k : ℕ) (e : List ℕ) (f : Option Change) (found : f ≡ found_for w k (take (length e - 1) (drop 1 e))) where
+  found_is : f ≡ found_for w k (drop 1 e)
+  found_is = found ∙ ap (found_for w k) (tail_part e 1)
+
+  pub got_none : f ≡ None → None ≡ edit_by (tables_in k (drop 1 e)) (found_for w k (drop 1 e))
+  unfolding edit_by
+  got_none z = ap (edit_by (tables_in k (drop 1 e))) (sym z ∙ found_is)
+
+  pub got_some : (ch : Change) (t : Tables) → f ≡ Some ch → t ≡ tables_in k (take (length e - 1) (drop 1 e))
+      → Some (record { change = ch; tables = t }) ≡ edit_by (tables_in k (drop 1 e)) (found_for w k (drop 1 e))
+  unfolding edit_by
+  got_some ch t some q = λ i. edit_by ((q ∙ ap (tables_in k) (tail_part e 1)) i) ((sym some ∙ found_is) i)
 
 -- ---- room
 

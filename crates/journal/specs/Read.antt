@@ -1,5 +1,5 @@
 -- Document 01, "The journal": what an entry's bytes say, and whether its values are ones that a well-formed record could hold.
-use Rattle.std.specs.Prelude.{ℕ, ◌+◌, ◌-◌, Bool, true, false, cond, not, List, [], ◌∷◌, length, get_or, take, drop, replicate, eqb}
+use Rattle.std.specs.Prelude.{ℕ, ◌+◌, ◌-◌, Bool, true, false, cond, not, List, [], ◌∷◌, length, get_or, take, drop, replicate, eqb, Option, Some, None}
 use Rattle.wire.specs.Wire.{be_nat}
 use Rattle.record.specs.Record.{no_throttles}
 use Rattle.record.specs.declared.Caps.{Caps}
@@ -14,9 +14,7 @@ use Rattle.entries.specs.Entries.{Entry, body_len, Scan, between, within, unknow
 use Rattle.marks.specs.Marks.{marks_of, same}
 use Rattle.formed.specs.Formed.{made_ok, unreset_ok, change_ok}
 use Rattle.journal.specs.Ways.{by_way}
-use Rattle.journal.specs.declared.Found.{Found}
-use Rattle.journal.specs.declared.Found.TheVariants.{Good, Bad}
-use Rattle.journal.specs.declared.Got.{Got}
+use Rattle.change.specs.declared.Edit.{Edit}
 use Rattle.journal.specs.declared.Way.{Way}
 use Rattle.journal.specs.declared.Way.TheVariants.{Before, After}
 
@@ -31,7 +29,7 @@ area_at at b = record { address = be_nat (take 8 (drop at b)); size = be_nat (ta
 unfoldable pub throttles_from : List ℕ → Throttles
 throttles_from b = record { present = be_nat (take 2 (drop 1 b)); sets = take 160 (drop 3 b) }
 
--- ---- what a body says, by its kind. The journal's bodies hold "what was before", those of the redo store (document 02) "what was after":
+-- ---- what a body says, by its kind, or None where there is no such kind. The journal's bodies hold "what was before", those of the redo store (document 02) "what was after":
 -- "for kind 08 that is the log's id and reason, 0 and 0 without one"
 
 unfoldable pub cleared_as : Way → ℕ → Log → Change
@@ -42,49 +40,47 @@ unfoldable pub reset_as : Way → ℕ → ℕ → Change
 reset_as Before state made = Unreset state made
 reset_as After id reason = Reset (record { id = id; reason = reason })
 
-unfoldable pub found_for : Way → ℕ → List ℕ → Found
+unfoldable pub found_for : Way → ℕ → List ℕ → Option Change
 found_for w k b =
-    cond (eqb k 0x01) (Good (cleared_as w (get_or b 0 0) (record { id = get_or b 1 0; reason = get_or b 2 0 })))
-    (cond (eqb k 0x02) (Good (SetState (get_or b 0 0)))
-    (cond (eqb k 0x03) (Good (SetRole (get_or b 0 0) (get_or b 1 0)))
-    (cond (eqb k 0x04) (Good (SetCaps (get_or b 0 0) (caps_at 1 b)))
-    (cond (eqb k 0x05) (Good (SetUser (be_nat (take 2 (drop 0 b)))))
-    (cond (eqb k 0x06) (Good (SetThermal (get_or b 0 0)))
-    (cond (eqb k 0x07) (Good (SetThrottles (get_or b 0 0)))
-    (cond (eqb k 0x08) (Good (reset_as w (get_or b 0 0) (get_or b 1 0)))
-    (cond (eqb k 0x09) (Good (SetMask (be_nat (take 4 (drop 0 b)))))
-    (cond (eqb k 0x0A) (Good (SetDeadman (record { running = get_or b 0 0; time = be_nat (take 8 (drop 1 b)) })))
-    (cond (eqb k 0x0B) (Good (SetAreas (record { ffdc = area_at 0 b; pass = area_at 12 b })))
-    (cond (eqb k 0x0C) (Good (SetTimer (record { running = get_or b 0 0; left = be_nat (take 8 (drop 1 b)) })))
-    Bad)))))))))))
+    cond (eqb k 0x01) (Some (cleared_as w (get_or b 0 0) (record { id = get_or b 1 0; reason = get_or b 2 0 })))
+    (cond (eqb k 0x02) (Some (SetState (get_or b 0 0)))
+    (cond (eqb k 0x03) (Some (SetRole (get_or b 0 0) (get_or b 1 0)))
+    (cond (eqb k 0x04) (Some (SetCaps (get_or b 0 0) (caps_at 1 b)))
+    (cond (eqb k 0x05) (Some (SetUser (be_nat (take 2 (drop 0 b)))))
+    (cond (eqb k 0x06) (Some (SetThermal (get_or b 0 0)))
+    (cond (eqb k 0x07) (Some (SetThrottles (get_or b 0 0)))
+    (cond (eqb k 0x08) (Some (reset_as w (get_or b 0 0) (get_or b 1 0)))
+    (cond (eqb k 0x09) (Some (SetMask (be_nat (take 4 (drop 0 b)))))
+    (cond (eqb k 0x0A) (Some (SetDeadman (record { running = get_or b 0 0; time = be_nat (take 8 (drop 1 b)) })))
+    (cond (eqb k 0x0B) (Some (SetAreas (record { ffdc = area_at 0 b; pass = area_at 12 b })))
+    (cond (eqb k 0x0C) (Some (SetTimer (record { running = get_or b 0 0; left = be_nat (take 8 (drop 1 b)) })))
+    None)))))))))))
 
--- the tables that stand beside it
+-- the tables that stand beside it, and both together
 unfoldable pub tables_in : ℕ → List ℕ → Tables
 tables_in k b =
     cond (eqb k 0x06) (record { thermal = take 9 (drop 1 b); throttles = no_throttles })
     (cond (eqb k 0x07) (record { thermal = replicate 9 0; throttles = throttles_from b })
     no_tables)
 
-unfoldable pub bad_got : Got
-bad_got = record { found = Bad; tables = no_tables }
+unfoldable pub edit_by : Tables → Option Change → Option Edit
+edit_by t None = None
+edit_by t (Some change) = Some (record { change = change; tables = t })
 
 -- bytes that should be one whole entry, of kind k
-unfoldable pub got_for : Way → ℕ → List ℕ → Got
+unfoldable pub got_for : Way → ℕ → List ℕ → Option Edit
 got_for w k e =
-    cond (not (eqb (length e - 1) (body_len k))) bad_got
-    (record { found = found_for w k (drop 1 e); tables = tables_in k (drop 1 e) })
+    cond (not (eqb (length e - 1) (body_len k))) None
+    (edit_by (tables_in k (drop 1 e)) (found_for w k (drop 1 e)))
 
-unfoldable pub got_of : Way → List ℕ → Got
-got_of w e = cond (eqb (length e) 0) bad_got (got_for w (get_or e 0 0) e)
+unfoldable pub got_of : Way → List ℕ → Option Edit
+got_of w e = cond (eqb (length e) 0) None (got_for w (get_or e 0 0) e)
 
 -- ---- "the used journal reads exactly as entries, each body's values ones that a well-formed record could hold"
 
-unfoldable pub values_ok : Tables → Found → Bool
-values_ok t (Good change) = change_ok t change
-values_ok t Bad = false
-
-unfoldable pub got_ok : Got → Bool
-got_ok got = values_ok got.tables got.found
+unfoldable pub values_ok : Tables → Option Change → Bool
+values_ok t (Some change) = change_ok t change
+values_ok t None = false
 
 unfoldable pub entry_ok : Way → Entry → Bool
 entry_ok w e = values_ok (tables_in e.kind e.body) (found_for w e.kind e.body)

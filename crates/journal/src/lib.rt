@@ -9,7 +9,7 @@ ghost use Rattle.entries.specs.Entries.{body_len};
 ghost use Rattle.entries.specs.Entries.{Sized};
 ghost use Rattle.marks.specs.Marks.{stands_at, rest_unused};
 ghost use Rattle.journal.specs.Bytes.{throttles_body, clock_body, areas_body, Spells, entry_for, entry_bytes};
-ghost use Rattle.journal.specs.Read.{caps_at, area_at, throttles_from, cleared_as, reset_as, reset_ok, found_for, tables_in, bad_got, got_of, entry_ok, read_ok};
+ghost use Rattle.journal.specs.Read.{caps_at, area_at, throttles_from, cleared_as, reset_as, reset_ok, found_for, tables_in, got_of, entry_ok, read_ok};
 ghost use Rattle.journal.specs.Ways.{by_way};
 ghost use Rattle.journal.specs.Add.{entry_len, end_of, added_to, cut_from};
 
@@ -21,27 +21,6 @@ use record::{Area, Areas, Caps, Deadman, Log, Throttles, Timer};
 pub enum Way {
     Before,
     After,
-}
-
-// What an entry says, or that the bytes are no entry.
-#[derive(Clone, Copy)]
-pub enum Found {
-    Good(Change),
-    Bad,
-}
-
-// The same with the tables beside it, zero where the change has none.
-#[derive(Clone, Copy)]
-pub struct Got {
-    pub found: Found,
-    pub tables: Tables,
-}
-
-// Where the used bytes end once an entry is added, or that there is no room.
-#[derive(Clone, Copy)]
-pub enum End {
-    At(usize),
-    Full,
 }
 
 // ---- writing an entry to the front of lent bytes; the rest is kept
@@ -219,13 +198,13 @@ fn reset_as(way: Way, a: u8, b: u8) -> Change
     }
 }
 
-// What a kind's body says.
-fn found_for(way: Way, kind: u8, b: &[u8]) -> Found
+// What a kind's body says, if there is such a kind.
+fn found_for(way: Way, kind: u8, b: &[u8]) -> Option<Change>
     requires { body_len kind ≤ length b.now }
     ensures { result ≡ found_for way kind b.now }
 {
     match kind {
-        0x01 => Found::Good(cleared_as(
+        0x01 => Some(cleared_as(
             way,
             b[0],
             Log {
@@ -233,27 +212,27 @@ fn found_for(way: Way, kind: u8, b: &[u8]) -> Found
                 reason: b[2],
             },
         )),
-        0x02 => Found::Good(Change::SetState(b[0])),
-        0x03 => Found::Good(Change::SetRole(b[0], b[1])),
-        0x04 => Found::Good(Change::SetCaps(b[0], caps_at(b, 1))),
-        0x05 => Found::Good(Change::SetUser(wire::be16(b, 0))),
-        0x06 => Found::Good(Change::SetThermal(b[0])),
-        0x07 => Found::Good(Change::SetThrottles(b[0])),
-        0x08 => Found::Good(reset_as(way, b[0], b[1])),
-        0x09 => Found::Good(Change::SetMask(wire::be32(b, 0))),
-        0x0A => Found::Good(Change::SetDeadman(Deadman {
+        0x02 => Some(Change::SetState(b[0])),
+        0x03 => Some(Change::SetRole(b[0], b[1])),
+        0x04 => Some(Change::SetCaps(b[0], caps_at(b, 1))),
+        0x05 => Some(Change::SetUser(wire::be16(b, 0))),
+        0x06 => Some(Change::SetThermal(b[0])),
+        0x07 => Some(Change::SetThrottles(b[0])),
+        0x08 => Some(reset_as(way, b[0], b[1])),
+        0x09 => Some(Change::SetMask(wire::be32(b, 0))),
+        0x0A => Some(Change::SetDeadman(Deadman {
             running: b[0],
             time: wire::be64(b, 1),
         })),
-        0x0B => Found::Good(Change::SetAreas(Areas {
+        0x0B => Some(Change::SetAreas(Areas {
             ffdc: area_at(b, 0),
             pass: area_at(b, 12),
         })),
-        0x0C => Found::Good(Change::SetTimer(Timer {
+        0x0C => Some(Change::SetTimer(Timer {
             running: b[0],
             left: wire::be64(b, 1),
         })),
-        _ => Found::Bad,
+        _ => None,
     }
 }
 
@@ -282,34 +261,21 @@ fn tables_in(kind: u8, b: &[u8]) -> Tables
     none
 }
 
-fn bad() -> Got
-    ensures { result ≡ bad_got }
-{
-    let none = change::no_tables();
-    Got {
-        found: Found::Bad,
-        tables: none,
-    }
-}
-
-// What one whole entry says; bytes that are not exactly one are bad.
-pub fn get(way: Way, e: &[u8]) -> Got
+// What one whole entry says, if the bytes are exactly one.
+pub fn get(way: Way, e: &[u8]) -> Option<Edit>
     ensures { result ≡ got_of way e.now }
 {
     if e.len() == 0 {
-        return bad();
+        return None;
     }
     let kind = e[0];
     if e.len() - 1 != entries::body_len(kind) {
-        return bad();
+        return None;
     }
     let b = &e[1..];
-    let found = found_for(way, kind, b);
+    let change = found_for(way, kind, b)?;
     let tables = tables_in(kind, b);
-    Got {
-        found: found,
-        tables: tables,
-    }
+    Some(Edit { change, tables })
 }
 
 // ---- judging entries
@@ -427,21 +393,21 @@ pub fn append(j: &mut [u8], used: usize, e: Edit)
     put(&mut j[used..], e);
 }
 
-// Adds a change's entry at the end of the used bytes, where there is room.
-pub fn add(j: &mut [u8], used: usize, e: Edit) -> End
+// Adds a change's entry at the end of the used bytes, where there is room: they end there then.
+pub fn add(j: &mut [u8], used: usize, e: Edit) -> Option<usize>
     ensures value { result ≡ end_of (length j.old) used e }
     ensures j_after { j.new ≡ added_to used e j.old }
     ensures sized { Sized (entry_for e) }
 {
     let n = entry_len(e);
     if j.len() < used {
-        return End::Full;
+        return None;
     }
     if j.len() - used < n {
-        return End::Full;
+        return None;
     }
     append(j, used, e);
-    End::At(used + n)
+    Some(used + n)
 }
 
 // Zeroes the bytes from `at` to the end of the used ones.

@@ -1,5 +1,5 @@
 -- Document 01, "OCC packets": the commands that hold a few numbers, judged in the order 0x12, 0x13, 0x16, 0x15. d is the data.
-use Rattle.std.specs.Prelude.{ℕ, Bool, true, false, cond, not, List, length, get_or, take, drop, ltb, leb, eqb}
+use Rattle.std.specs.Prelude.{ℕ, Bool, true, false, cond, not, List, Option, Some, None, length, get_or, take, drop, ltb, leb, eqb}
 use Rattle.wire.specs.Wire.{be_nat}
 use Rattle.record.specs.Record.{no_log}
 use Rattle.record.specs.declared.Log.{Log}
@@ -15,8 +15,9 @@ unfoldable pub poll_verdict : List ℕ → Verdict
 poll_verdict d = cond (not (eqb (length d) 1)) (Refuse 0x12) (cond (not (eqb (get_or d 0 0) 0x10)) (Refuse 0x13) Poll)
 
 -- "0x12 clear log, L 1: an id not pending is 0x13"
-unfoldable pub clear_at : ℕ → List Log → Verdict
-clear_at place logs = cond (leb 4 place) (Refuse 0x13) (Make (Clear place (get_or logs place no_log)))
+unfoldable pub clear_at : Option ℕ → List Log → Verdict
+clear_at None logs = Refuse 0x13
+clear_at (Some place) logs = Make (Clear place (get_or logs place no_log))
 
 unfoldable pub clear_verdict : List Log → List ℕ → Verdict
 clear_verdict logs d = cond (not (eqb (length d) 1)) (Refuse 0x12) (clear_at (find_of (get_or d 0 0) logs) logs)

@@ -45,18 +45,17 @@ fn poll(d: &[u8]) -> Verdict
     Verdict::Poll
 }
 
+#[tactic(auto, unfolding(crate::specs::Commands::clear_at, crate::specs::Commands::clear_verdict))]
 fn clear_log(logs: [Log; 4], d: &[u8]) -> Verdict
     ensures { result ≡ clear_verdict logs d.now }
 {
     if d.len() != 1 {
         return Verdict::Refuse(0x12);
     }
-    let place = change::find(logs, d[0]);
-    if 4 <= place {
-        return Verdict::Refuse(0x13);
+    match change::find(logs, d[0]) {
+        None => Verdict::Refuse(0x13),
+        Some(place) => Verdict::Make(Change::Clear(place as u8, logs[place])),
     }
-    let log = logs[place];
-    Verdict::Make(Change::Clear(place as u8, log))
 }
 
 // Version 0, state 1 to 3, last byte 0.

@@ -106,27 +106,16 @@ fn hear(lent: &mut [u8], h: Head, sender: u8, command: &[u8], reply: &mut [u8]) 
     ensures lent_after { lent.new ≡ (occ_read_left (session_in h lent.old) sender command.now reply.old).image }
     ensures reply_after { reply.new ≡ (occ_read_left (session_in h lent.old) sender command.now reply.old).reply }
 {
-    let held = h.held;
-    let worked = h.worked;
     let seq = command[0];
     let kind = command[1];
-    let asked = ask(held, worked, h.next, sender, command);
-    let judged = asked.verdict;
-    let verdict = occ::by_profile(h.profile, kind, judged);
-    let tables = asked.tables;
+    let asked = ask(h.held, h.worked, h.next, sender, command);
+    let verdict = occ::by_profile(h.profile, kind, asked.verdict);
     let Verdict::Make(change) = verdict else {
-        tell(verdict, held, worked, seq, kind, reply);
-        return answer_why(why(verdict, held, command));
+        tell(verdict, h.held, h.worked, seq, kind, reply);
+        return answer_why(why(verdict, h.held, command));
     };
-    let full = inplace::carry(
-        lent,
-        h,
-        Edit {
-            change: change,
-            tables: tables,
-        },
-    );
-    if full {
+    let tables = asked.tables;
+    if inplace::carry(lent, h, Edit { change, tables }).is_err() {
         return inplace::answer_with(5, 0);
     }
     let nothing = [0u8; 1];

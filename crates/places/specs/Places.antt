@@ -1,6 +1,7 @@
 -- Document 02, c: the first fault of a command's data, as the code looks for it. d is the data; where its length is wrong (0x12) no byte
 -- is judged. All faults: Faults.antt.
-use Rattle.std.specs.Prelude.{ℕ, zero, suc, ◌+◌, ◌-◌, ◌*◌, Bool, true, false, cond, not, List, length, get_or, take, drop, ltb, leb, eqb}
+use Rattle.std.specs.Prelude.{ℕ, zero, suc, ◌+◌, ◌-◌, ◌*◌, Bool, true, false, cond, not, List, length, get_or, take, drop, ltb, eqb}
+use Rattle.std.specs.Option.{is_some}
 use Rattle.wire.specs.Wire.{be_nat}
 use Rattle.record.specs.declared.Log.{Log}
 use Rattle.record.specs.declared.Caps.{Caps}
@@ -32,7 +33,7 @@ unfoldable pub poll_fault : List ℕ → Blame
 poll_fault d = sized 1 d (test (not (eqb (get_or d 0 0) 0x10)) BadVersion 1 Nothing)
 
 unfoldable pub clear_fault : List Log → List ℕ → Blame
-clear_fault logs d = sized 1 d (test (leb 4 (find_of (get_or d 0 0) logs)) NotPending 1 Nothing)
+clear_fault logs d = sized 1 d (test (not (is_some (find_of (get_or d 0 0) logs))) NotPending 1 Nothing)
 
 unfoldable pub state_fault : List ℕ → Blame
 state_fault d =

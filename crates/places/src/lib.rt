@@ -69,13 +69,14 @@ fn poll(d: &[u8]) -> Blame
     Blame::Nothing
 }
 
+#[tactic(auto, unfolding(crate::specs::Places::clear_fault))]
 fn clear_log(logs: [Log; 4], d: &[u8]) -> Blame
     ensures { result ≡ clear_fault logs d.now }
 {
     if d.len() != 1 {
         return Blame::Nothing;
     }
-    if 4 <= change::find(logs, d[0]) {
+    if change::find(logs, d[0]).is_none() {
         return found_at(Reason::NotPending, 1);
     }
     Blame::Nothing

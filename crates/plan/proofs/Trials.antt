@@ -10,10 +10,10 @@ use lib.ListN.{length, get_or, drop, drop_of_length-le}
 use Rattle.wire.proofs.laws.Cases.{cond_elim, if_not, else_not}
 use Rattle.wire.proofs.laws.Chains.{passed}
 use Rattle.record.specs.Record.{worked_of}
+use Rattle.record.specs.declared.Record.{Record}
 use Rattle.record.specs.declared.Worked.{Worked}
-use Rattle.change.specs.Change.{put_of}
+use Rattle.change.specs.Change.{put_after}
 use Rattle.change.specs.declared.Change.{Change}
-use Rattle.change.specs.declared.Changed.{Changed}
 use Rattle.change.specs.declared.Edit.{Edit}
 use Rattle.change.specs.declared.Tables.{Tables}
 use Rattle.packet.specs.Packet.{data_of}
@@ -32,10 +32,10 @@ use Rattle.plan.proofs.Orders.{from_here}
 pub made_fits : (n m : ℕ) (ch : Change) → m ≡ made_of ch → n ≤ 65534 → n + m ≤ 65535
 made_fits n m ch e h = omega (arith, e, made_one ch)
 
-pub made_is : (t : Trial) (e : Edit) (x : Changed) → x ≡ put_of t.held e → (m : ℕ) → m ≡ made_of e.change
-    → record { ok = true; held = x.after; next = t.next + m } ≡ trial_by t e.tables (Make e.change)
+pub made_is : (t : Trial) (e : Edit) (x : Record) → x ≡ put_after t.held e → (m : ℕ) → m ≡ made_of e.change
+    → record { ok = true; held = x; next = t.next + m } ≡ trial_by t e.tables (Make e.change)
 unfolding trial_by
-made_is t e x p m q = λ i. record { ok = true; held = (p i).after; next = t.next + q i }
+made_is t e x p m q = λ i. record { ok = true; held = p i; next = t.next + q i }
 
 module _ (t : Trial) (c : List ℕ) where
   pub unsound : (fine : Bool) → fine ≡ sound c → not fine ≡ true → (x : Trial) → x ≡ failed t → x ≡ trial_of t c

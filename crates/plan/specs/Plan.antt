@@ -4,7 +4,7 @@ use Rattle.std.specs.Prelude.{ℕ, zero, suc, ◌+◌, ◌-◌, ◌*◌, ◌/◌
 use Rattle.wire.specs.Conditions.{◌and◌}
 use Rattle.wire.specs.Wire.{pasted}
 use Rattle.record.specs.Record.{worked_of}
-use Rattle.change.specs.Change.{put_of}
+use Rattle.change.specs.Change.{put_after}
 use Rattle.change.specs.declared.Tables.{Tables}
 use Rattle.packet.specs.Packet.{packet_status, data_of}
 use Rattle.occ.specs.Judge.{judge_of}
@@ -47,7 +47,7 @@ unfoldable pub trial_by : Trial → Tables → Verdict → Trial
 trial_by t tables (Refuse status) = failed t
 trial_by t tables Poll = t
 trial_by t tables (Make change) =
-    record { ok = true; held = (put_of t.held (record { change = change; tables = tables })).after; next = t.next + made_of change }
+    record { ok = true; held = put_after t.held (record { change = change; tables = tables }); next = t.next + made_of change }
 
 unfoldable pub trial_judged : Trial → Judged → Trial
 trial_judged t j = trial_by t j.tables j.verdict

@@ -81,15 +81,10 @@ fn made(t: Trial, e: Edit) -> Trial
     requires { t.next ≤ 65534 }
     ensures { result ≡ trial_by t e.tables (Make e.change) }
 {
-    let held = t.held;
-    let change = e.change;
-    let put = change::put(held, e);
-    let after = put.after;
-    let next = t.next + session::made(change);
     Trial {
         ok: true,
-        held: after,
-        next: next,
+        held: change::put(t.held, e).unwrap_or(t.held),
+        next: t.next + session::made(e.change),
     }
 }
 

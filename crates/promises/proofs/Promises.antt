@@ -6,7 +6,7 @@ use Rattle.std.proofs.Common.{sym, ap, subst, ◌∙◌}
 use Rattle.wire.specs.Wire.{Bytes, pasted, joined}
 use Rattle.record.specs.Record.{fresh_record, worked_of}
 use Rattle.wire.specs.Conditions.{◌and◌}
-use Rattle.change.specs.Change.{put_of, timer_after}
+use Rattle.change.specs.Change.{put_after, timer_after}
 use Rattle.change.specs.declared.Edit.{Edit}
 use Rattle.entries.specs.Entries.{Entry, bytes_of, written, between, entries_of, reading_of, scan_by, Reading}
 use Rattle.journal.specs.Ways.{other}
@@ -498,7 +498,7 @@ pub counted_of_sbe : (s : Session) → TypedSession s → (r d m x : List ℕ) �
 counted_of_sbe = sbe_deed
 
 pub counted_is_shown : (s : Session) → TypedSession s → (e : Edit) (c : Call) → deed s c ≡ adds e
-    → ((said s c).session.held ≡ (put_of s.held e).after) and ((said s c).session.timer ≡ timer_after s.timer e.change)
+    → ((said s c).session.held ≡ put_after s.held e) and ((said s c).session.timer ≡ timer_after s.timer e.change)
 counted_is_shown s typed e c = deed_shown s e c
 
 -- ---- demand 3: start fresh, and hand each session on unchanged through any calls, forgetting among them

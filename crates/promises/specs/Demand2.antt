@@ -1,9 +1,9 @@
 -- Demand 2 of whole calls, in the words of document 01 and of document 02, h: when a call is accepted, and what an accepted one replies.
-use Rattle.std.specs.Prelude.{ℕ, ◌+◌, ◌%◌, ◌<◌, ◌≤◌, true, cond, ◌⊎◌, ◌≡◌, List, [], ◌∷◌, ◌++◌, eqb, length, get_or, take, drop}
+use Rattle.std.specs.Prelude.{ℕ, ◌+◌, ◌%◌, ◌<◌, ◌≤◌, true, cond, ◌⊎◌, ◌≡◌, List, [], ◌∷◌, ◌++◌, eqb, length, get_or, take, drop, Some}
 use Rattle.wire.specs.Conditions.{◌and◌}
 use Rattle.record.specs.Record.{worked_of}
 use Rattle.record.specs.declared.Record.{Record}
-use Rattle.change.specs.Change.{put_of}
+use Rattle.change.specs.Change.{put_after}
 use Rattle.change.specs.Logs.{pending_of, pends_at}
 use Rattle.change.specs.declared.Change.{Change}
 use Rattle.change.specs.declared.Change.TheVariants.{Clear, Unclear, SetState, SetRole, SetCaps, SetUser, SetThermal, SetThrottles, Reset, Unreset, SetMask, SetDeadman, SetAreas, SetTimer}
@@ -11,7 +11,6 @@ use Rattle.change.specs.declared.Edit.{Edit}
 use Rattle.formed.specs.Formed.{record_ok}
 use Rattle.entries.specs.Entries.{Entry, body_len, between, scan}
 use Rattle.journal.specs.Read.{found_for, tables_in}
-use Rattle.journal.specs.declared.Found.TheVariants.{Good}
 use Rattle.journal.specs.declared.Way.{Way}
 use Rattle.journal.specs.declared.Way.TheVariants.{Before, After}
 use Rattle.packet.specs.Packet.{data_of, reply_bytes}
@@ -109,7 +108,7 @@ pub record Newest (w : Way) (s : Session) (e : Edit) : Type 0 where
   pub entry : Entry
   pub older : List Entry
   pub read : scan (take (used_of w s) (store_of w s)) ≡ between (entry ∷ older)
-  pub change : found_for w entry.kind entry.body ≡ Good e.change
+  pub change : found_for w entry.kind entry.body ≡ Some e.change
   pub tables : tables_in entry.kind entry.body ≡ e.tables
 
 -- answer 7: "a cleared log's place is above the number pending or 4 pend, or the entry says a log was made and none pends". "7 covers redo alike, a
@@ -132,7 +131,7 @@ GoesIn r (SetTimer timer) = Unit {0}
 
 -- none of answer 7's cases: what the entry says goes in, and the record that it gives is well formed
 abbrev pub Movable : Session → Edit → Type 0
-Movable s e = GoesIn s.held e.change and (record_ok (put_of s.held e).after s.next ≡ true)
+Movable s e = GoesIn s.held e.change and (record_ok (put_after s.held e) s.next ≡ true)
 
 abbrev pub MoveAccepted : Way → Session → Type 0
 MoveAccepted w s = (e : Edit) × (Newest w s e and Movable s e)

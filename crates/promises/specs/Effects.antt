@@ -10,7 +10,7 @@ use Rattle.record.specs.declared.Record.{Record}
 use Rattle.record.specs.declared.Timer.{Timer}
 use Rattle.change.specs.Logs.{pending_of, remove_at, insert_at}
 use Rattle.change.specs.With.{with_state, with_role, with_caps, with_throttles, with_user, with_thermal, with_logs, with_mask, with_deadman, with_areas}
-use Rattle.change.specs.Change.{put_of, takes_back, timer_after}
+use Rattle.change.specs.Change.{put_after, takes_back, timer_after}
 use Rattle.change.specs.declared.Edit.{Edit}
 use Rattle.entries.specs.Entries.{Entry, written}
 use Rattle.journal.specs.Bytes.{cleared_body, caps_body, throttles_body, clock_body, areas_body, entry_for}
@@ -143,7 +143,7 @@ pub record MoveEffect (w : Way) (s : Session) (q : Said) : Type 0 where
   pub moved : List ℕ
   pub moved_is : EntryMoved s.held s.timer w newest.entry.kind newest.entry.body moved
   pub same_length : length moved ≡ 1 + length newest.entry.body
-  pub session_is : q.session ≡ moves_to w (with_timer s (timer_after s.timer edit.change)) (put_of s.held edit).after (length (written newest.older)) moved
+  pub session_is : q.session ≡ moves_to w (with_timer s (timer_after s.timer edit.change)) (put_after s.held edit) (length (written newest.older)) moved
 
 abbrev pub UndoEffect : Session → Said → Type 0
 UndoEffect s q = MoveEffect Before s q

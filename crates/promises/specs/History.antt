@@ -4,7 +4,7 @@ use Rattle.wire.specs.Wire.{Bytes}
 use Rattle.record.specs.Record.{worked_of}
 use Rattle.record.specs.declared.Record.{Record}
 use Rattle.record.specs.declared.Timer.{Timer}
-use Rattle.change.specs.Change.{put_of, timed, timer_after}
+use Rattle.change.specs.Change.{put_after, timed, timer_after}
 use Rattle.change.specs.declared.Edit.{Edit}
 use Rattle.journal.specs.Ways.{by_way}
 use Rattle.session.specs.Road.{Asks, refuses, tells, makes, moves, forgets, passes, opens, ticked}
@@ -85,7 +85,7 @@ gone_after gone (ticks n) = gone
 -- "The record equals what the remaining changes give, applied in order" to a starting record
 unfoldable pub applied : Record → List Edit → Record
 applied r [] = r
-applied r (e ∷ es) = (put_of (applied r es) e).after
+applied r (e ∷ es) = put_after (applied r es) e
 
 -- of the changes left, which stand newest first, the oldest ones, and the others
 abbrev pub oldest_of : ℕ → List Edit → List Edit

@@ -4,7 +4,7 @@ use Rattle.std.specs.Prelude.{ℕ, ◌+◌, true, cond, not, ◌≡◌, List, []
 use Rattle.record.specs.Record.{no_area, worked_of}
 use Rattle.record.specs.declared.Record.{Record}
 use Rattle.record.specs.declared.Timer.{Timer}
-use Rattle.change.specs.Change.{put_of, timer_after}
+use Rattle.change.specs.Change.{put_after, timer_after}
 use Rattle.packet.specs.Packet.{data_of, replied}
 use Rattle.occ.specs.declared.Judged.{Judged}
 use Rattle.occ.specs.declared.Verdict.{Verdict}
@@ -133,7 +133,7 @@ alone_by b c d j (Make change) =
       answer = 0;
       why = Nothing;
       reply = replied (get_or c 0 0) (get_or c 1 0) 0x00 [] d;
-      after = record { held = dry (put_of b.held (record { change = change; tables = j.tables })).after; next = b.next + made_of change };
+      after = record { held = dry (put_after b.held (record { change = change; tables = j.tables })); next = b.next + made_of change };
     }
 
 unfoldable pub alone_judged : Bench → List ℕ → List ℕ → Judged → Alone

@@ -1,6 +1,6 @@
 -- "A session is well formed if": document 01's sentences, one after the other, as plain conditions; the redo store's from document 02, d, the marks' from i, the
 -- timer's from h.
-use Rattle.std.specs.Prelude.{ℕ, zero, suc, ◌+◌, ◌/◌, ◌%◌, ◌^◌, ◌≤◌, ◌<◌, List, [], ◌∷◌, ◌⊎◌, ◌≡◌, length, get_or, take, drop}
+use Rattle.std.specs.Prelude.{ℕ, zero, suc, ◌+◌, ◌/◌, ◌%◌, ◌^◌, ◌≤◌, ◌<◌, List, [], ◌∷◌, ◌⊎◌, ◌≡◌, length, get_or, take, drop, Option, Some, None}
 use Rattle.wire.specs.Conditions.{◌and◌}
 use Rattle.record.specs.Record.{worked_of}
 use Rattle.record.specs.declared.Area.{Area}
@@ -16,8 +16,6 @@ use Rattle.formed.specs.Formed.{InOrder}
 use Rattle.entries.specs.Entries.{Entry, written, body_len}
 use Rattle.marks.specs.Marks.{marks_of}
 use Rattle.journal.specs.Read.{found_for, tables_in}
-use Rattle.journal.specs.declared.Found.{Found}
-use Rattle.journal.specs.declared.Found.TheVariants.{Good, Bad}
 use Rattle.journal.specs.declared.Way.{Way}
 use Rattle.journal.specs.declared.Way.TheVariants.{Before, After}
 use Rattle.session.specs.declared.Session.{Session}
@@ -103,9 +101,9 @@ ChangeHolds t (SetAreas areas) = AreaHolds areas.ffdc and AreaHolds areas.pass
 ChangeHolds t (SetTimer timer) = TimerHolds timer
 
 -- what a body of that kind says
-abbrev pub SaysWell : Tables → Found → Type 0
-SaysWell t (Good change) = ChangeHolds t change
-SaysWell t Bad = ⊥
+abbrev pub SaysWell : Tables → Option Change → Type 0
+SaysWell t (Some change) = ChangeHolds t change
+SaysWell t None = ⊥
 
 -- "a body whose length the kind fixes", and its values
 abbrev pub EntriesHold : Way → List Entry → Type 0

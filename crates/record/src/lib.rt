@@ -1,11 +1,11 @@
 // The record of a session, and what is worked out from it. Plain numbers only: every byte pattern is some record.
-#![tactic(auto)]
+#![tactic(auto, unfolding(crate::specs::Record::fresh_record, crate::specs::Record::limit_of, crate::specs::Record::clamped, crate::specs::Record::observation_ready, crate::specs::Record::active_ready, crate::specs::Record::caps_missing, crate::specs::Record::wanted_of, crate::specs::Record::flag_of, crate::specs::Record::worked_of,))]
 
 ghost use Rattle.std.specs.Prelude.{◌≡◌};
-ghost use Rattle.record.specs.Record.{fresh_record, limit_of, observation_ready, active_ready, caps_missing, wanted_of, flag_of, worked_of};
+ghost use Rattle.record.specs.Record.{fresh_record, limit_of, observation_ready, active_ready, caps_missing, wanted_of, worked_of};
 
 // A pending log; an unused place has both numbers 0.
-#[derive(Clone, Copy)]
+#[derive(Clone, Copy, PartialEq, Eq)]
 pub struct Log {
     pub id: u8,
     pub reason: u8,
@@ -76,7 +76,7 @@ pub struct Record {
 }
 
 // What is worked out from a record; the two readies are 0 or 1.
-#[derive(Clone, Copy)]
+#[derive(Clone, Copy, PartialEq, Eq)]
 pub struct Worked {
     pub limit: u16,
     pub observation: u8,
@@ -199,29 +199,13 @@ pub fn wanted(got: Received, role: u8) -> u8
     0x00
 }
 
-fn flag(on: bool) -> u8
-    ensures { result ≡ flag_of on }
-{
-    if on {
-        return 1;
-    }
-    0
-}
-
 pub fn work_out(r: Record) -> Worked
     ensures { result ≡ worked_of r }
 {
-    let got = r.received;
-    let caps = r.caps;
-    let role = r.role;
-    let limit = limit(role, got.caps, caps, r.user);
-    let observation = flag(observation_ready(got, role));
-    let active = flag(active_ready(got, role));
-    let wanted = wanted(got, role);
     Worked {
-        limit: limit,
-        observation: observation,
-        active: active,
-        wanted: wanted,
+        limit: limit(r.role, r.received.caps, r.caps, r.user),
+        observation: u8::from(observation_ready(r.received, r.role)),
+        active: u8::from(active_ready(r.received, r.role)),
+        wanted: wanted(r.received, r.role),
     }
 }

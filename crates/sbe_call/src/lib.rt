@@ -137,15 +137,7 @@ fn hear(lent: &mut [u8], h: Head, request: &[u8], reply: &mut [u8], ruling: Ruli
         return inplace::answer_with(0, bell);
     };
     let tables = change::no_tables();
-    let full = inplace::carry(
-        lent,
-        h,
-        Edit {
-            change: change,
-            tables: tables,
-        },
-    );
-    if full {
+    if inplace::carry(lent, h, Edit { change, tables }).is_err() {
         return inplace::answer_with(5, 0);
     }
     sbe::respond(reply, request, 0x00, 0x00);

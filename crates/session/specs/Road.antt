@@ -4,7 +4,7 @@ use Rattle.wire.specs.Wire.{pasted}
 use Rattle.record.specs.Record.{timer_off}
 use Rattle.record.specs.declared.Record.{Record}
 use Rattle.record.specs.declared.Timer.{Timer}
-use Rattle.change.specs.Change.{kind_of, put_of, takes_back, timer_after}
+use Rattle.change.specs.Change.{kind_of, put_after, takes_back, timer_after}
 use Rattle.change.specs.declared.Edit.{Edit}
 use Rattle.entries.specs.Entries.{Entry, written}
 use Rattle.journal.specs.Ways.{by_way, other}
@@ -137,7 +137,7 @@ unfoldable pub settled : Session → List ℕ → Asks → Said
 settled s d (refuses n) = kept n s d
 settled s d (tells bell y) = done s bell 0 y
 settled s d (makes e bell y) = carried_says (carried_of s e) s bell y d
-settled s d (moves w at e) = done (session_moved w s at e (put_of s.held e).after) 0 (kind_of e.change) d
+settled s d (moves w at e) = done (session_moved w s at e (put_after s.held e)) 0 (kind_of e.change) d
 settled s d (forgets n) = done (forgotten n s) 0 0 d
 settled s d (passes n) = done (time_passed n s) (timer_bell n s.timer) 0 d
 settled s d opens = done (watch_only s) 0 0 d

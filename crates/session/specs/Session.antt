@@ -1,12 +1,12 @@
 -- Document 01, "What the stand-in holds", with document 02's redo store (d), marks (i), timer (h) and profile (k): the session, when it is well formed, and what
 -- carrying a change out makes of it.
-use Rattle.std.specs.Prelude.{ℕ, ◌+◌, Bool, true, false, cond, not, List, [], ◌∷◌, length, take, drop, replicate, ltb, eqb}
+use Rattle.std.specs.Prelude.{ℕ, ◌+◌, Bool, true, false, cond, not, List, [], ◌∷◌, length, take, drop, replicate, ltb, eqb, Option, Some, None}
 use Rattle.wire.specs.Wire.{all_are}
 use Rattle.record.specs.Record.{fresh_record, timer_off, worked_of}
 use Rattle.record.specs.declared.Record.{Record}
 use Rattle.record.specs.declared.Timer.{Timer}
 use Rattle.record.specs.declared.Worked.{Worked}
-use Rattle.change.specs.Change.{made_by, put_of, takes_back, timer_after}
+use Rattle.change.specs.Change.{made_by, put_after, takes_back, timer_after}
 use Rattle.change.specs.declared.Change.{Change}
 use Rattle.change.specs.declared.Change.TheVariants.{Clear, Unclear, SetState, SetRole, SetCaps, SetUser, SetThermal, SetThrottles, Reset, Unreset, SetMask, SetDeadman, SetAreas, SetTimer}
 use Rattle.change.specs.declared.Edit.{Edit}
@@ -15,8 +15,6 @@ use Rattle.entries.specs.Entries.{Entry, entries_of, scan}
 use Rattle.marks.specs.Marks.{marks_of, same}
 use Rattle.journal.specs.Read.{entries_ok}
 use Rattle.journal.specs.Add.{end_of, added_to}
-use Rattle.journal.specs.declared.End.{End}
-use Rattle.journal.specs.declared.End.TheVariants.{At, Full}
 use Rattle.journal.specs.declared.Way.{Way}
 use Rattle.journal.specs.declared.Way.TheVariants.{Before, After}
 use Rattle.session.specs.declared.Session.{Session}
@@ -123,13 +121,13 @@ pub record Carried : Type 0 where
 
 -- "Each accepted command but poll adds one entry, holding what was before"; answer 5: the entry is longer than the unused journal.
 -- d: "Any accepted change empties the store"; h: a timer command sets the timer, which the entry holds as it stood before
-unfoldable pub carried_to : Session → Edit → End → Carried
-carried_to s e Full = record { full = true; session = s }
-carried_to s e (At used) =
+unfoldable pub carried_to : Session → Edit → Option ℕ → Carried
+carried_to s e None = record { full = true; session = s }
+carried_to s e (Some used) =
     record {
       full = false;
       session =
-          renewed (with_timer s (timer_after s.timer e.change)) (put_of s.held e).after (s.next + made_of e.change)
+          renewed (with_timer s (timer_after s.timer e.change)) (put_after s.held e) (s.next + made_of e.change)
           (added_to s.used (takes_back s.held s.timer e) s.journal) used (replicate 2048 0) 0;
     }
 

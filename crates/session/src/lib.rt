@@ -1,8 +1,8 @@
 // The session: one value, and the parts of the test whether it is well formed.
-#![tactic(auto)]
+#![tactic(auto, unfolding(crate::specs::Session::fresh_session, crate::specs::Session::worked_fits, crate::specs::Session::held_ok, crate::specs::Session::made_of))]
 
 ghost use Rattle.std.specs.Prelude.{◌≡◌, false, cond, length};
-ghost use Rattle.session.specs.Session.{fresh_session, worked_fits, held_ok, store_ok, entries_in, only_clears, made_of};
+ghost use Rattle.session.specs.Session.{fresh_session, held_ok, store_ok, entries_in, only_clears, made_of};
 ghost use Rattle.entries.specs.Entries.{entries_of, scan, ReadsWhole};
 ghost use Rattle.journal.specs.Read.{marks_ok};
 
@@ -30,8 +30,8 @@ pub fn fresh() -> Session
     let held = record::fresh();
     let worked = record::work_out(held);
     Session {
-        held: held,
-        worked: worked,
+        held,
+        worked,
         next: 1,
         journal: [0; 2048],
         used: 0,
@@ -48,29 +48,11 @@ pub fn fresh() -> Session
 
 // ---- well formed
 
-fn worked_fits(a: Worked, b: Worked) -> bool
-    ensures { result ≡ worked_fits a b }
-{
-    if a.limit != b.limit {
-        return false;
-    }
-    if a.observation != b.observation {
-        return false;
-    }
-    if a.active != b.active {
-        return false;
-    }
-    a.wanted == b.wanted
-}
-
 // The record, against the next id, and what is worked out from it.
 pub fn held_ok(held: Record, worked: Worked, next: u16) -> bool
     ensures { result ≡ held_ok held worked next }
 {
-    if !formed::record_ok(held, next) {
-        return false;
-    }
-    worked_fits(record::work_out(held), worked)
+    formed::record_ok(held, next) && record::work_out(held) == worked
 }
 
 // The used bytes of a store read as entries with good values, and the unused part is zero; the journal's marks m are those of its entries. It is read once.
@@ -117,7 +99,7 @@ pub fn made(change: Change) -> u16
         Change::SetUser(_) => 0,
         Change::SetThermal(_) => 0,
         Change::SetThrottles(_) => 0,
-        Change::Reset(log) => change::made_by(log) as u16,
+        Change::Reset(log) => u16::from(change::made_by(log)),
         Change::Unreset(_, _) => 0,
         Change::SetMask(_) => 0,
         Change::SetDeadman(_) => 0,

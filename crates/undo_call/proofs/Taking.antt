@@ -3,6 +3,8 @@ use Prim.Native.Nat.{ℕ, ◌+◌, ◌-◌, ◌≤◌}
 use mathlib.Core.Bool.{Bool, true, false, not}
 use mathlib.Core.Path.{◌≡◌, refl, sym, ap, subst, ◌∙◌}
 use mathlib.Core.List.{List, []}
+use Rattle.std.specs.Prelude.{Option, Some, None}
+use Rattle.std.specs.Option.{unwrap_or}
 use native.Mathlib.Omega.{arith}
 use lib.Dec.{ltb, eqb}
 use lib.ListN.{length, take, drop, replicate, length-drop, length-replicate}
@@ -14,8 +16,6 @@ use Rattle.wire.proofs.laws.Wire.{part_of_part, length_pasted}
 use Rattle.record.specs.declared.Record.{Record}
 use Rattle.record.specs.declared.Timer.{Timer}
 use Rattle.change.specs.Change.{kind_of, put_of, back_of, inverse_of, timed, takes_back, timer_after}
-use Rattle.change.specs.declared.Change.{Change}
-use Rattle.change.specs.declared.Changed.{Changed}
 use Rattle.change.specs.declared.Edit.{Edit}
 use Rattle.formed.specs.Formed.{record_ok}
 use Rattle.entries.specs.Entries.{body_len, Reading}
@@ -28,8 +28,6 @@ use Rattle.journal.specs.Add.{entry_len, cut_from}
 use Rattle.journal.proofs.laws.Says.{Whole as Entry, got_whole}
 use Rattle.journal.specs.declared.Way.{Way}
 use Rattle.journal.specs.declared.Way.TheVariants.{Before, After}
-use Rattle.journal.specs.declared.Found.TheVariants.{Good, Bad}
-use Rattle.journal.specs.declared.Got.{Got}
 use Rattle.record.specs.Record.{worked_of}
 use Rattle.session.specs.Session.{marks_for, well_formed, renewed, with_timer}
 use Rattle.session.specs.Road.{Asks, refuses, moves, store_of, used_of, lessened, grown, grown_to, session_moved, kept, done, settled}
@@ -45,7 +43,7 @@ use Rattle.inplace.specs.declared.Told.{Told}
 use Rattle.inplace.specs.InPlace.{Left, HeadStands}
 use Rattle.inplace.proofs.laws.InPlace.{stands, on_read}
 use Rattle.inplace.proofs.laws.InPlace as inplace
-use Rattle.undo_call.specs.Undo.{put_asks, edit_asks, found_asks, got_asks, entry_asks, read_asks, none_left, newest_asks, move_asks, move_call, head_moved, passed_by, moved_left, moved_by, move_on, NewestFound, Moved}
+use Rattle.undo_call.specs.Undo.{put_asks, edit_asks, got_asks, entry_asks, read_asks, none_left, newest_asks, move_asks, move_call, head_moved, passed_by, moved_left, moved_by, move_on, NewestFound, Moved}
 use Rattle.undo_call.proofs.Finding.{newest_low}
 
 abbrev Tells : Way → Session → Told → List ℕ → Asks → Type 0
@@ -221,27 +219,27 @@ module _ (w : Way) (h : Head) (b : List ℕ) (here : HeadStands h b) where
 
   -- ---- a change put into the record, or refused
 
-  module _ (at : ℕ) (e : Edit) (p : Changed) (is : p ≡ put_of h.held e) where
-    by_put : (x : Asks) → x ≡ put_asks w h.next at e p → x ≡ edit_asks w s at e
+  module _ (at : ℕ) (e : Edit) (o : Option Record) (is : o ≡ put_of h.held e) where
+    by_put : (x : Asks) (p : Option Record) → o ≡ p → x ≡ put_asks w h.next at e p → x ≡ edit_asks w s at e
     unfolding edit_asks session_in
-    by_put x q = q ∙ ap (put_asks w h.next at e) is
+    by_put x p known q = q ∙ ap (put_asks w h.next at e) (sym known ∙ is)
 
-    pub put_refused : (t : Told) → t ≡ record { answer = 7; small = 0; beside = 0 } → not p.ok ≡ true → Tells w s t b (edit_asks w s at e)
+    pub put_refused : (t : Told) → t ≡ record { answer = 7; small = 0; beside = 0 } → o ≡ None → Tells w s t b (edit_asks w s at e)
     unfolding put_asks
-    put_refused t q failed = by_number 7 t refl q (by_put _ (if_b _ _ failed refl))
+    put_refused t q none = by_number 7 t refl q (by_put _ None none refl)
 
-    module _ (fits : not p.ok ≡ false) (g : Bool) (judged : g ≡ record_ok p.after h.next) where
-      pub put_ill : (t : Told) → t ≡ record { answer = 7; small = 0; beside = 0 } → not g ≡ true → Tells w s t b (edit_asks w s at e)
+    module _ (after : Record) (some : o ≡ Some after) (g : Bool) (judged : g ≡ record_ok after h.next) where
+      pub put_ill : (t : Told) → t ≡ record { answer = 7; small = 0; beside = 0 } → g ≡ false → Tells w s t b (edit_asks w s at e)
       unfolding put_asks
-      put_ill t q ill = by_number 7 t refl q (by_put _ (else_b _ _ fits (if_b _ _ (sym (ap not judged) ∙ ill) refl)))
+      put_ill t q ill = by_number 7 t refl q (by_put _ (Some after) some (if_b _ _ (ap not (sym judged ∙ ill)) refl))
 
       -- y are the lent bytes after it
-      pub put_done : (k passed : ℕ) (y : List ℕ) → passed ≡ passed_by w s → not g ≡ false → k ≡ kind_of e.change
-          → y ≡ image_of (session_moved w s at e p.after) → Tells w s (record { answer = 0; small = passed; beside = k }) y (edit_asks w s at e)
+      pub put_done : (k passed : ℕ) (y : List ℕ) → passed ≡ passed_by w s → g ≡ true → k ≡ kind_of e.change
+          → y ≡ image_of (session_moved w s at e after) → Tells w s (record { answer = 0; small = passed; beside = k }) y (edit_asks w s at e)
       unfolding put_asks moved_by moved_left settled done session_in
       put_done k passed y pp ok kp yp =
-          tells_same w s _ y (by_put (moves w at e) (else_b _ _ fits (else_b _ _ (sym (ap not judged) ∙ ok) refl)))
-          ((λ i. record { answer = 0; small = pp i; beside = kp i }), yp ∙ ap (λ (x : Changed). image_of (session_moved w s at e x.after)) is)
+          tells_same w s _ y (by_put (moves w at e) (Some after) some (else_b _ _ (ap not (sym judged ∙ ok)) refl))
+          ((λ i. record { answer = 0; small = pp i; beside = kp i }), yp ∙ ap (λ (x : Option Record). image_of (session_moved w s at e (unwrap_or x h.held))) (sym some ∙ is))
 
   -- ---- the entry at a place of its store
 
@@ -249,7 +247,7 @@ module _ (w : Way) (h : Head) (b : List ℕ) (here : HeadStands h b) where
   used = by_way w h.used h.ahead
 
   module _ (m : ℕ) (there : m ≡ store_at w) (n : ℕ) (counted : n ≡ used) where
-    module _ (fits : n ≤ 2048) (at : ℕ) (low : at ≤ n) (g : Got) (is : g ≡ got_of w (take (m + n - (m + at)) (drop (m + at) b))) where
+    module _ (fits : n ≤ 2048) (at : ℕ) (low : at ≤ n) (g : Option Edit) (is : g ≡ got_of w (take (m + n - (m + at)) (drop (m + at) b))) where
       newest_part : take (m + n - (m + at)) (drop (m + at) b) ≡ take (used_of w s - at) (drop at (store_of w s))
       newest_part =
           let k : m + n - (m + at) ≡ n - at = omega arith in
@@ -260,22 +258,22 @@ module _ (w : Way) (h : Head) (b : List ℕ) (here : HeadStands h b) where
       got_is : g ≡ got_of w (take (used_of w s - at) (drop at (store_of w s)))
       got_is = is ∙ ap (got_of w) newest_part
 
-      pub entry_bad : (t : Told) (r : Reading) (count : ℕ) → t ≡ record { answer = 1; small = 0; beside = 0 } → g.found ≡ Bad → r ≡ Ok (record { count = count; newest = at }) → Tells w s t b (read_asks w s r)
-      unfolding read_asks entry_asks got_asks found_asks
+      pub entry_bad : (t : Told) (r : Reading) (count : ℕ) → t ≡ record { answer = 1; small = 0; beside = 0 } → g ≡ None → r ≡ Ok (record { count = count; newest = at }) → Tells w s t b (read_asks w s r)
+      unfolding read_asks entry_asks got_asks
       entry_bad t r count p bad whole =
-          by_number 1 t refl p (sym (ap (found_asks w s at g.tables) bad) ∙ ap (got_asks w s at) got_is ∙ sym (ap (read_asks w s) whole))
+          by_number 1 t refl p (ap (got_asks w s at) (sym bad ∙ got_is) ∙ sym (ap (read_asks w s) whole))
 
-      pub entry_good : (t : Told) (y : List ℕ) (r : Reading) (count : ℕ) (ch : Change) → g.found ≡ Good ch → r ≡ Ok (record { count = count; newest = at })
-          → Tells w s t y (edit_asks w s at (record { change = ch; tables = g.tables })) → Tells w s t y (read_asks w s r)
-      unfolding read_asks entry_asks got_asks found_asks
-      entry_good t y r count ch good whole q =
-          tells_same w s t y (sym (ap (found_asks w s at g.tables) good) ∙ ap (got_asks w s at) got_is ∙ sym (ap (read_asks w s) whole)) q
+      pub entry_good : (t : Told) (y : List ℕ) (r : Reading) (count : ℕ) (e : Edit) → g ≡ Some e → r ≡ Ok (record { count = count; newest = at })
+          → Tells w s t y (edit_asks w s at e) → Tells w s t y (read_asks w s r)
+      unfolding read_asks entry_asks got_asks
+      entry_good t y r count e good whole q =
+          tells_same w s t y (ap (got_asks w s at) (sym good ∙ got_is) ∙ sym (ap (read_asks w s) whole)) q
 
       -- it ends where the used bytes do
-      pub entry_ends : (ch : Change) → g.found ≡ Good ch → at + entry_len (record { change = ch; tables = g.tables }) ≡ used
-      entry_ends ch good =
+      pub entry_ends : (e : Edit) → g ≡ Some e → at + entry_len e ≡ used
+      entry_ends e good =
           let part = take (m + n - (m + at)) (drop (m + at) b) in
-          let whole = subst (Entry w part) (sym (ap (λ (x : Got). x.found) is) ∙ good) (got_whole w part) in
+          let whole = subst (Entry w part) (sym is ∙ good) (got_whole w part) in
           let long : length part ≡ n - at = length_take_le_by (m + n - (m + at)) (n - at) (drop (m + at) b) (omega arith) (simp length-drop (omega (arith, here.long, there, store_low w))) in
           omega (arith, whole.0, long, counted)
 

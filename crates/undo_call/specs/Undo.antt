@@ -5,9 +5,7 @@ use Rattle.wire.specs.Conditions.{◌and◌}
 use Rattle.record.specs.declared.Record.{Record}
 use Rattle.record.specs.declared.Timer.{Timer}
 use Rattle.change.specs.Change.{put_of}
-use Rattle.change.specs.declared.Tables.{Tables}
 use Rattle.change.specs.declared.Edit.{Edit}
-use Rattle.change.specs.declared.Changed.{Changed}
 use Rattle.formed.specs.Formed.{record_ok}
 use Rattle.entries.specs.Entries.{scan, Reading, reading_of}
 use Rattle.wire.specs.Wire.{pasted}
@@ -15,9 +13,6 @@ use Rattle.journal.specs.Ways.{by_way, other}
 use Rattle.journal.specs.Bytes.{entry_bytes}
 use Rattle.journal.specs.Add.{cut_from}
 use Rattle.journal.specs.Read.{got_of}
-use Rattle.journal.specs.declared.Found.{Found}
-use Rattle.journal.specs.declared.Found.TheVariants.{Good, Bad}
-use Rattle.journal.specs.declared.Got.{Got}
 use Rattle.journal.specs.declared.Way.{Way}
 use Rattle.journal.specs.declared.Way.TheVariants.{Before, After}
 use Rattle.marks.specs.declared.Mark.{Mark}
@@ -35,19 +30,17 @@ use Rattle.inplace.specs.InPlace.{Left, Marked, MarkedTo, MarksMore, on_image}
 -- ---- the newest entry of a way's store, put into the record
 
 -- 7: it would give an ill-formed record, or what the entry says can't be put in: "7 covers redo alike, a clear whose log isn't at its place included"
-unfoldable pub put_asks : Way → ℕ → ℕ → Edit → Changed → Asks
-put_asks w next at e p = cond (not p.ok) (refuses 7) (cond (not (record_ok p.after next)) (refuses 7) (moves w at e))
+unfoldable pub put_asks : Way → ℕ → ℕ → Edit → Option Record → Asks
+put_asks w next at e None = refuses 7
+put_asks w next at e (Some after) = cond (not (record_ok after next)) (refuses 7) (moves w at e)
 
 unfoldable pub edit_asks : Way → Session → ℕ → Edit → Asks
 edit_asks w s at e = put_asks w s.next at e (put_of s.held e)
 
 -- the entry stands from `at` to the end of its store's used bytes
-unfoldable pub found_asks : Way → Session → ℕ → Tables → Found → Asks
-found_asks w s at t (Good change) = edit_asks w s at (record { change = change; tables = t })
-found_asks w s at t Bad = refuses 1
-
-unfoldable pub got_asks : Way → Session → ℕ → Got → Asks
-got_asks w s at got = found_asks w s at got.tables got.found
+unfoldable pub got_asks : Way → Session → ℕ → Option Edit → Asks
+got_asks w s at (Some e) = edit_asks w s at e
+got_asks w s at None = refuses 1
 
 unfoldable pub entry_asks : Way → Session → ℕ → Asks
 entry_asks w s at = got_asks w s at (got_of w (take (used_of w s - at) (drop at (store_of w s))))

@@ -16,7 +16,7 @@ ghost use Rattle.undo_call.specs.Undo.{none_left, head_moved, edit_asks, newest_
 use change::Edit;
 use image::Head;
 use inplace::Told;
-use journal::{Found, Way};
+use journal::Way;
 use marks::Newest;
 use record::{Record, Timer};
 
@@ -123,12 +123,9 @@ fn take(lent: &mut [u8], h: Head, way: Way, at: usize, e: Edit, passed: u8) -> T
     ensures value { result ≡ (moved_by way (session_in h lent.old) (edit_asks way (session_in h lent.old) at e)).told }
     ensures lent_after { lent.new ≡ (moved_by way (session_in h lent.old) (edit_asks way (session_in h lent.old) at e)).image }
 {
-    let change = e.change;
-    let put = change::put(h.held, e);
-    let after = put.after;
-    if !put.ok {
+    let Some(after) = change::put(h.held, e) else {
         return inplace::answer_with(7, 0);
-    }
+    };
     if !formed::record_ok(after, h.next) {
         return inplace::answer_with(7, 0);
     }
@@ -136,7 +133,7 @@ fn take(lent: &mut [u8], h: Head, way: Way, at: usize, e: Edit, passed: u8) -> T
     Told {
         answer: 0,
         small: passed,
-        beside: change::kind(change) as u16,
+        beside: change::kind(e.change) as u16,
     }
 }
 
@@ -174,23 +171,10 @@ fn take_newest(lent: &mut [u8], h: Head, way: Way) -> Told
     let store = image::store_at(way);
     let start = store + at;
     let end = store + used;
-    let got = journal::get(way, &lent[start..end]);
-    let found = got.found;
-    let tables = got.tables;
-    let Found::Good(change) = found else {
+    let Some(e) = journal::get(way, &lent[start..end]) else {
         return inplace::answer_with(1, 0);
     };
-    take(
-        lent,
-        h,
-        way,
-        at,
-        Edit {
-            change: change,
-            tables: tables,
-        },
-        newest.passed as u8,
-    )
+    take(lent, h, way, at, e, newest.passed as u8)
 }
 
 // ---- the calls, on a session that is lent as its image's bytes; kind and number passed stand beside the answer

@@ -1,6 +1,6 @@
-use Rattle.change.proofs.Logs.{pending_first}
-use mathlib.Core.Path.{◌∙◌}
+use Rattle.std.proofs.Common.{rules}
+use Rattle.change.proofs.Logs.{pending_is}
 use Rattle.change.proofs.pending.Goals as goal
 
 pub returns : goal.returns
-returns c = c.first_with.ensures ∙ pending_first _
+returns c = cc (pending_is c.args.logs (search rules))

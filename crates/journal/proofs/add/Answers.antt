@@ -1,5 +1,5 @@
-use Rattle.journal.specs.declared.End.TheVariants.{At}
 use Rattle.journal.proofs.Parts.{add_room, less_than, at_most}
+use Rattle.std.specs.Prelude.{Some}
 use Rattle.wire.proofs.laws.Cases.{if_lt, else_lt}
 use Rattle.journal.specs.Add.{end_of, added_to}
 use mathlib.Core.Path.{refl, ap}
@@ -20,4 +20,4 @@ append-requires c = add_room _ _ _ _ c.entry_len-n.ensures.value c.if-j-used.fal
 
 pub returns : goal.returns
 unfolding end_of added_to
-returns c = let room = at_most _ _ _ c.entry_len-n.ensures.value c.if-j-used-2.false in record { value = else_lt _ _ c.if-j-used.false (else_lt _ _ room (ap (λ (k : ℕ). At (c.args.used + k)) c.entry_len-n.ensures.value)); j_after = else_lt _ _ c.if-j-used.false (else_lt _ _ room c.append.ensures); sized = c.entry_len-n.ensures.sized }
+returns c = let room = at_most _ _ _ c.entry_len-n.ensures.value c.if-j-used-2.false in record { value = else_lt _ _ c.if-j-used.false (else_lt _ _ room (ap (λ (k : ℕ). Some (c.args.used + k)) c.entry_len-n.ensures.value)); j_after = else_lt _ _ c.if-j-used.false (else_lt _ _ room c.append.ensures); sized = c.entry_len-n.ensures.sized }

@@ -1,6 +1,6 @@
 use Rattle.record.specs.declared.Caps.{Caps}
+use Rattle.std.specs.Prelude.{Some}
 use Rattle.change.specs.declared.Change.TheVariants.{SetCaps, SetUser, SetMask, SetDeadman, SetAreas, SetTimer}
-use Rattle.journal.specs.declared.Found.TheVariants.{Good}
 use Rattle.wire.proofs.laws.Cases.{else_eq}
 use Rattle.journal.proofs.Parts.{room_for, found_by}
 use Rattle.entries.specs.Entries.{body_len}
@@ -93,7 +93,7 @@ be64-requires-in-12 c = omega (arith, room_for _ 12 _ c.in-12.is c.requires)
 
 pub returns-in-1 : goal.returns-in-1
 unfolding found_for
-returns-in-1 c = found_by c.args.way c.args.kind 1 c.args.b.now _ c.in-1.is (ap Good c.cleared_as.ensures)
+returns-in-1 c = found_by c.args.way c.args.kind 1 c.args.b.now _ c.in-1.is (ap Some c.cleared_as.ensures)
 
 pub returns-in-2 : goal.returns-in-2
 unfolding found_for
@@ -105,11 +105,11 @@ returns-in-3 c = found_by c.args.way c.args.kind 3 c.args.b.now _ c.in-3.is refl
 
 pub returns-in-4 : goal.returns-in-4
 unfolding found_for
-returns-in-4 c = found_by c.args.way c.args.kind 4 c.args.b.now _ c.in-4.is (ap (λ (x : Caps). Good (SetCaps (get_or c.args.b.now 0 0) x)) c.caps_at.ensures)
+returns-in-4 c = found_by c.args.way c.args.kind 4 c.args.b.now _ c.in-4.is (ap (λ (x : Caps). Some (SetCaps (get_or c.args.b.now 0 0) x)) c.caps_at.ensures)
 
 pub returns-in-5 : goal.returns-in-5
 unfolding found_for
-returns-in-5 c = found_by c.args.way c.args.kind 5 c.args.b.now _ c.in-5.is (ap (λ (n : ℕ). Good (SetUser n)) c.be16.ensures)
+returns-in-5 c = found_by c.args.way c.args.kind 5 c.args.b.now _ c.in-5.is (ap (λ (n : ℕ). Some (SetUser n)) c.be16.ensures)
 
 pub returns-in-6 : goal.returns-in-6
 unfolding found_for
@@ -121,23 +121,23 @@ returns-in-7 c = found_by c.args.way c.args.kind 7 c.args.b.now _ c.in-7.is refl
 
 pub returns-in-8 : goal.returns-in-8
 unfolding found_for
-returns-in-8 c = found_by c.args.way c.args.kind 8 c.args.b.now _ c.in-8.is (ap Good c.reset_as.ensures)
+returns-in-8 c = found_by c.args.way c.args.kind 8 c.args.b.now _ c.in-8.is (ap Some c.reset_as.ensures)
 
 pub returns-in-9 : goal.returns-in-9
 unfolding found_for
-returns-in-9 c = found_by c.args.way c.args.kind 9 c.args.b.now _ c.in-9.is (ap (λ (n : ℕ). Good (SetMask n)) c.be32.ensures)
+returns-in-9 c = found_by c.args.way c.args.kind 9 c.args.b.now _ c.in-9.is (ap (λ (n : ℕ). Some (SetMask n)) c.be32.ensures)
 
 pub returns-in-10 : goal.returns-in-10
 unfolding found_for
-returns-in-10 c = found_by c.args.way c.args.kind 10 c.args.b.now _ c.in-10.is (ap (λ (n : ℕ). Good (SetDeadman (record { running = get_or c.args.b.now 0 0; time = n }))) c.be64.ensures)
+returns-in-10 c = found_by c.args.way c.args.kind 10 c.args.b.now _ c.in-10.is (ap (λ (n : ℕ). Some (SetDeadman (record { running = get_or c.args.b.now 0 0; time = n }))) c.be64.ensures)
 
 pub returns-in-11 : goal.returns-in-11
 unfolding found_for
-returns-in-11 c = found_by c.args.way c.args.kind 11 c.args.b.now _ c.in-11.is (λ i. Good (SetAreas (record { ffdc = c.area_at.ensures i; pass = c.area_at-in-11.ensures i })))
+returns-in-11 c = found_by c.args.way c.args.kind 11 c.args.b.now _ c.in-11.is (λ i. Some (SetAreas (record { ffdc = c.area_at.ensures i; pass = c.area_at-in-11.ensures i })))
 
 pub returns-in-12 : goal.returns-in-12
 unfolding found_for
-returns-in-12 c = found_by c.args.way c.args.kind 12 c.args.b.now _ c.in-12.is (ap (λ (n : ℕ). Good (SetTimer (record { running = get_or c.args.b.now 0 0; left = n }))) c.be64-in-12.ensures)
+returns-in-12 c = found_by c.args.way c.args.kind 12 c.args.b.now _ c.in-12.is (ap (λ (n : ℕ). Some (SetTimer (record { running = get_or c.args.b.now 0 0; left = n }))) c.be64-in-12.ensures)
 
 pub returns-in_default : goal.returns-in_default
 unfolding found_for

@@ -1,5 +1,5 @@
 -- A change as bytes, and read from them again. Assumes nothing.
-use Rattle.std.specs.Prelude.{ℕ, suc, ◌+◌, ◌^◌, ◌≤◌, ◌<◌, ◌≡◌, refl, List, ◌++◌, length, take, replicate}
+use Rattle.std.specs.Prelude.{ℕ, suc, ◌^◌, ◌≤◌, ◌<◌, ◌≡◌, refl, List, ◌++◌, length, take, replicate, Some}
 use Rattle.std.proofs.Common.{sym, ap, ◌∙◌, arith, lit<, take_at, take_all}
 use Rattle.wire.specs.Wire.{be_nat, to_be}
 use Rattle.wire.proofs.laws.Wire.{length_to_be, be_to_be}
@@ -13,7 +13,6 @@ use Rattle.change.specs.declared.Change.{Change}
 use Rattle.change.specs.declared.Change.TheVariants.{Clear, Unclear, SetState, SetRole, SetCaps, SetUser, SetThermal, SetThrottles, Reset, Unreset, SetMask, SetDeadman, SetAreas, SetTimer}
 use Rattle.change.specs.declared.Tables.{Tables}
 use Rattle.entries.specs.Entries.{body_len}
-use Rattle.journal.specs.declared.Found.TheVariants.{Good}
 use Rattle.journal.specs.Bytes.{cleared_body, caps_body, throttles_body, clock_body, area_bytes, areas_body, body_of}
 use Rattle.journal.specs.declared.Way.{Way}
 use Rattle.journal.specs.declared.Way.TheVariants.{Before, After}
@@ -116,25 +115,25 @@ areas_back_pass a b f = λ i. record {
   size = last_back 4 b.size f.size i;
 }
 
-pub found_body : (w : Way) (t : Tables) (ch : Change) → Writable w t ch → found_for w (kind_of ch) (body_of t ch) ≡ Good ch
+pub found_body : (w : Way) (t : Tables) (ch : Change) → Writable w t ch → found_for w (kind_of ch) (body_of t ch) ≡ Some ch
 unfolding found_for cleared_as reset_as kind_of body_of cleared_body caps_body throttles_body clock_body areas_body
 found_body w t (Clear place log) h = ap (λ (v : Way). found_for v 0x01 (body_of t (Clear place log))) h.0
 found_body w t (Unclear place log) h = ap (λ (v : Way). found_for v 0x01 (body_of t (Unclear place log))) h.0
 found_body w t (SetState state) h = refl
 found_body w t (SetRole got role) h = refl
-found_body w t (SetCaps got caps) h = ap (λ (c : Caps). Good (SetCaps got c)) (caps_back got caps h.0)
-found_body w t (SetUser user) h = ap (λ (n : ℕ). Good (SetUser n)) (last_back 2 user h.0)
+found_body w t (SetCaps got caps) h = ap (λ (c : Caps). Some (SetCaps got c)) (caps_back got caps h.0)
+found_body w t (SetUser user) h = ap (λ (n : ℕ). Some (SetUser n)) (last_back 2 user h.0)
 found_body w t (SetThermal got) h = refl
 found_body w t (SetThrottles got) h = refl
 found_body w t (Reset log) h = ap (λ (v : Way). found_for v 0x08 (body_of t (Reset log))) h.0
 found_body w t (Unreset state made) h = ap (λ (v : Way). found_for v 0x08 (body_of t (Unreset state made))) h.0
-found_body w t (SetMask mask) h = ap (λ (n : ℕ). Good (SetMask n)) (last_back 4 mask h.0)
+found_body w t (SetMask mask) h = ap (λ (n : ℕ). Some (SetMask n)) (last_back 4 mask h.0)
 found_body w t (SetDeadman deadman) h =
-    ap (λ (n : ℕ). Good (SetDeadman (record { running = deadman.running; time = n }))) (last_back 8 deadman.time h.0)
+    ap (λ (n : ℕ). Some (SetDeadman (record { running = deadman.running; time = n }))) (last_back 8 deadman.time h.0)
 found_body w t (SetAreas areas) h = λ i.
-    Good (SetAreas (record { ffdc = areas_back_ffdc areas.ffdc areas.pass h.0 i; pass = areas_back_pass areas.ffdc areas.pass h.1 i }))
+    Some (SetAreas (record { ffdc = areas_back_ffdc areas.ffdc areas.pass h.0 i; pass = areas_back_pass areas.ffdc areas.pass h.1 i }))
 found_body w t (SetTimer timer) h =
-    ap (λ (n : ℕ). Good (SetTimer (record { running = timer.running; left = n }))) (last_back 8 timer.left h.0)
+    ap (λ (n : ℕ). Some (SetTimer (record { running = timer.running; left = n }))) (last_back 8 timer.left h.0)
 
 throttles_back : (t : Tables) (got : ℕ) → t.throttles.present < 256 ^ 2 → length t.throttles.sets ≡ 160 → throttles_from (throttles_body got t.throttles) ≡ t.throttles
 unfolding throttles_from throttles_body to_be

@@ -1,5 +1,5 @@
 -- What demand 3 needs of a store: after one more entry the bytes read as the entries before and this one. Assumes nothing.
-use Rattle.std.specs.Prelude.{ℕ, suc, ◌+◌, ◌-◌, ◌≤◌, true, ◌≡◌, refl, take, drop}
+use Rattle.std.specs.Prelude.{ℕ, suc, ◌+◌, ◌-◌, ◌≤◌, true, ◌≡◌, refl, take, drop, Some}
 use Rattle.std.proofs.Math.Path.{sym, ap}
 use Rattle.std.proofs.Common.{◌∙◌, add-one, arith, drop-drop}
 use mathlib.Core.List.{List, ◌∷◌, ◌++◌}
@@ -12,7 +12,6 @@ use Rattle.change.specs.Change.{kind_of}
 use Rattle.entries.specs.Entries.{Entry, body_len, bytes_of, between, scan}
 use Rattle.entries.proofs.laws.Entries.{read_append}
 use Rattle.entries.specs.Entries.{Sized}
-use Rattle.journal.specs.declared.End.TheVariants.{At}
 use Rattle.journal.specs.declared.Way.{Way}
 use Rattle.journal.specs.Bytes.{entry_for, entry_bytes}
 use Rattle.journal.specs.Add.{entry_len, end_of, added_to}
@@ -36,7 +35,7 @@ module _ (way : Way) (e : Edit) (used : ℕ) (j : List ℕ) (w : Writable way e.
   long : used + length (entry_bytes e) ≤ length j
   long = omega (arith, length_entry way e w)
 
-  pub end_at : end_of (length j) used e ≡ At (used + entry_len e)
+  pub end_at : end_of (length j) used e ≡ Some (used + entry_len e)
   unfolding end_of
   end_at = sym (else_lt _ _ {m = length j} {n = used} (omega arith) (else_lt _ _ {m = length j - used} {n = entry_len e} (omega arith) refl))
 

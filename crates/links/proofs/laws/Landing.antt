@@ -1,5 +1,6 @@
 -- Where a change lands: the record after it is well formed, and what was before leads back. Assumes nothing.
-use Rattle.std.specs.Prelude.{ℕ, suc, ◌+◌, ◌≤◌, ◌<◌, not, ◌≡◌}
+use Rattle.std.specs.Prelude.{ℕ, suc, ◌+◌, ◌≤◌, ◌<◌, not, Option, Some, ◌≡◌}
+use Rattle.std.specs.Option.{unwrap_or}
 use Rattle.std.proofs.Math.Bool.{true}
 use Rattle.std.proofs.Math.Path.{refl, ap, subst}
 use Rattle.std.proofs.Common.{sym, ◌∙◌, add-zero, arith, le-leb}
@@ -11,11 +12,10 @@ use Rattle.record.specs.declared.Log.{Log}
 use Rattle.record.specs.declared.Record.{Record}
 use Rattle.change.specs.Logs.{pending_of, remove_at, insert_at, pends_at}
 use Rattle.change.specs.With.{with_state, with_role, with_caps, with_throttles, with_user, with_thermal, with_logs, with_mask, with_deadman, with_areas}
-use Rattle.change.specs.Change.{accepted, clear_of, unclear_of, reset_of, unreset_of, put_with, back_of, kind_of, tables_for, made_by, made_again}
+use Rattle.change.specs.Change.{clear_of, unclear_of, reset_of, unreset_of, put_with, back_of, kind_of, tables_for, made_by, made_again}
 use Rattle.change.specs.declared.Change.{Change}
 use Rattle.change.specs.declared.Change.TheVariants.{Clear, Unclear, SetState, SetRole, SetCaps, SetUser, SetThermal, SetThrottles, Reset, Unreset, SetMask, SetDeadman, SetAreas, SetTimer}
 use Rattle.change.specs.declared.Tables.{Tables}
-use Rattle.change.specs.declared.Changed.{Changed}
 use Rattle.formed.specs.Formed.{state_ok, next_ok, change_ok, logs_ok}
 use Rattle.formed.proofs.laws.Formed.{Sound, logs_snoc, logs_remove}
 use Rattle.session.specs.Session.{made_of}
@@ -25,23 +25,23 @@ use Rattle.links.proofs.laws.Made.{NewLog, Made}
 
 -- ---- what a clear, a reset and their ways back make of a record, where they are accepted
 
-clear_puts : (r : Record) (p : ℕ) (x : Log) → pends_at p x r.logs ≡ true → clear_of r p x ≡ accepted (with_logs r (remove_at p r.logs))
+clear_puts : (r : Record) (p : ℕ) (x : Log) → pends_at p x r.logs ≡ true → clear_of r p x ≡ Some (with_logs r (remove_at p r.logs))
 unfolding clear_of
 clear_puts r p x h = sym (else_b _ _ (ap not h) refl)
 
-unclear_puts : (r : Record) (p : ℕ) (x : Log) → p ≤ pending_of r.logs → pending_of r.logs < 4 → unclear_of r p x ≡ accepted (with_logs r (insert_at p x r.logs))
+unclear_puts : (r : Record) (p : ℕ) (x : Log) → p ≤ pending_of r.logs → pending_of r.logs < 4 → unclear_of r p x ≡ Some (with_logs r (insert_at p x r.logs))
 unfolding unclear_of
 unclear_puts r p x h g = sym (else_lt _ _ h (else_le _ _ g refl))
 
-reset_puts : (r : Record) (x : Log) → Used x → pending_of r.logs < 4 → reset_of r x ≡ accepted (with_logs (with_state r 1) (insert_at (pending_of r.logs) x r.logs))
+reset_puts : (r : Record) (x : Log) → Used x → pending_of r.logs < 4 → reset_of r x ≡ Some (with_logs (with_state r 1) (insert_at (pending_of r.logs) x r.logs))
 unfolding reset_of
 reset_puts r x u g = sym (else_eq _ _ u (else_le _ _ g refl))
 
-unreset_puts : (r : Record) (state made q : ℕ) → made ≡ 1 → pending_of r.logs ≡ suc q → unreset_of r state made ≡ accepted (with_logs (with_state r state) (remove_at q r.logs))
+unreset_puts : (r : Record) (state made q : ℕ) → made ≡ 1 → pending_of r.logs ≡ suc q → unreset_of r state made ≡ Some (with_logs (with_state r state) (remove_at q r.logs))
 unfolding unreset_of
 unreset_puts r state made q m e =
     sym (else_eq _ _ {m = made} {n = 0} (λ z. omega arith) (else_eq _ _ {m = pending_of r.logs} {n = 0} (λ z. omega arith) refl))
-    ∙ ap (λ (k : ℕ). accepted (with_logs (with_state r state) (remove_at k r.logs))) (omega arith)
+    ∙ ap (λ (k : ℕ). Some (with_logs (with_state r state) (remove_at k r.logs))) (omega arith)
 
 made_by_used : (x : Log) → Used x → made_by x ≡ 1
 unfolding made_by
@@ -53,29 +53,28 @@ next_ok_lem n low high = sym (else_lt _ _ low (sym (le-leb n 256 high)))
 
 -- ---- each change
 
--- p, the change ch put into r: accepted, well formed with the ids that it draws; what was before leads back, and what was after is the change
-pub record Landing (r : Record) (n : ℕ) (ch : Change) (p : Changed) : Type 0 where
-  pub ok : p.ok ≡ true
-  pub sound : Sound p.after (n + made_of ch)
-  pub typed : TypedRecord p.after
-  pub back : put_with p.after (tables_for (kind_of ch) r) (back_of r ch) ≡ accepted r
-  pub again : back_of p.after (back_of r ch) ≡ ch
+-- p, the change ch put into r: accepted, and the record after it well formed with the ids that it draws; what was before leads back, and what was after is the change
+pub record Landing (r : Record) (n : ℕ) (ch : Change) (p : Option Record) : Type 0 where
+  pub put : p ≡ Some (unwrap_or p r)
+  pub sound : Sound (unwrap_or p r) (n + made_of ch)
+  pub typed : TypedRecord (unwrap_or p r)
+  pub back : put_with (unwrap_or p r) (tables_for (kind_of ch) r) (back_of r ch) ≡ Some r
+  pub again : back_of (unwrap_or p r) (back_of r ch) ≡ ch
 
-landed : {r : Record} {n : ℕ} {ch : Change} (x : Record) → Sound x (n + made_of ch) → TypedRecord x → put_with x (tables_for (kind_of ch) r) (back_of r ch) ≡ accepted r
-    → back_of x (back_of r ch) ≡ ch → Landing r n ch (accepted x)
-unfolding accepted
-landed x s y b a = record { ok = refl; sound = s; typed = y; back = b; again = a }
+landed : {r : Record} {n : ℕ} {ch : Change} (x : Record) → Sound x (n + made_of ch) → TypedRecord x → put_with x (tables_for (kind_of ch) r) (back_of r ch) ≡ Some r
+    → back_of x (back_of r ch) ≡ ch → Landing r n ch (Some x)
+landed x s y b a = record { put = refl; sound = s; typed = y; back = b; again = a }
 
 still : {r : Record} {n : ℕ} → Sound r n → Sound r (n + 0)
 still {n = n} s = rw (add-zero n) s
 
 module _ (r : Record) (n : ℕ) (s : Sound r n) (y : TypedRecord r) where
   -- a cleared log goes back to its place
-  clear_back : (p : ℕ) (x : Log) → Removed p x r.logs → unclear_of (with_logs r (remove_at p r.logs)) p x ≡ accepted r
+  clear_back : (p : ℕ) (x : Log) → Removed p x r.logs → unclear_of (with_logs r (remove_at p r.logs)) p x ≡ Some r
   unfolding with_logs
   clear_back p x out =
       unclear_puts (with_logs r (remove_at p r.logs)) p x (omega arith) (omega (arith, pending_length r.logs))
-      ∙ ap (λ (l : List Log). accepted (with_logs r l)) out.insert_removed
+      ∙ ap (λ (l : List Log). Some (with_logs r l)) out.insert_removed
 
   clear_lands : (p : ℕ) (x : Log) → pends_at p x r.logs ≡ true → Landing r n (Clear p x) (clear_of r p x)
   unfolding made_of put_with back_of with_logs
@@ -107,11 +106,11 @@ module _ (r : Record) (n : ℕ) (s : Sound r n) (y : TypedRecord r) where
         ∙ logs_snoc n r.logs s.logs x.reason new.reason new.low y.logs new.room
 
     -- the log that pends last is taken out again
-    reset_back : unreset_of (with_logs (with_state r 1) more) r.state (made_by x) ≡ accepted r
+    reset_back : unreset_of (with_logs (with_state r 1) more) r.state (made_by x) ≡ Some r
     unfolding with_logs with_state
     reset_back =
         unreset_puts (with_logs (with_state r 1) more) r.state (made_by x) (pending_of r.logs) (made_by_used x used) into.pending_inserted
-        ∙ ap (λ (l : List Log). accepted (with_logs r l)) into.remove_inserted
+        ∙ ap (λ (l : List Log). Some (with_logs r l)) into.remove_inserted
 
     -- and it is the one that a redo brings back
     reset_again : Reset (made_again more (made_by x)) ≡ Reset x

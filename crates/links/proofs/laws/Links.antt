@@ -1,5 +1,5 @@
 -- Each change that a command makes is undone by its entry. Assumes nothing.
-use Rattle.std.specs.Prelude.{ℕ, ◌+◌, ◌^◌, ◌≤◌, ◌<◌, true, ◌≡◌, refl, ltb, leb}
+use Rattle.std.specs.Prelude.{ℕ, ◌+◌, ◌^◌, ◌≤◌, ◌<◌, true, Some, ◌≡◌, refl, ltb, leb}
 use Rattle.std.proofs.Common.{sym, ap, subst, ◌∙◌, ⊎_elim, arith, ltb-false}
 use Rattle.wire.proofs.laws.Cases.{else_eq}
 use Rattle.record.specs.declared.Log.{Log}
@@ -7,7 +7,8 @@ use Rattle.record.specs.Record.{timer_off}
 use Rattle.record.specs.declared.Record.{Record}
 use Rattle.record.specs.declared.Timer.{Timer}
 use Rattle.change.specs.With.{with_throttles, with_thermal}
-use Rattle.change.specs.Change.{accepted, put_with, put_of, back_of, kind_of, tables_for, inverse_of, timed_change, timer_after}
+use Rattle.std.specs.Option.{unwrap_or}
+use Rattle.change.specs.Change.{put_with, put_of, put_after, back_of, kind_of, tables_for, inverse_of, timed_change, timer_after}
 use Rattle.change.proofs.laws.Timed.{by_timer, timer_kept, timed_other, kind_of_back}
 use Rattle.change.specs.declared.Change.{Change}
 use Rattle.change.specs.declared.Change.TheVariants.{Clear, Unclear, SetState, SetRole, SetCaps, SetUser, SetThermal, SetThrottles, Reset, Unreset, SetMask, SetDeadman, SetAreas, SetTimer}
@@ -18,7 +19,6 @@ use Rattle.formed.proofs.laws.Formed.{Sound, sound, sound_ok, logs_next_up, pend
 use Rattle.journal.specs.Bytes.{entry_for, entry_bytes}
 use Rattle.journal.specs.Read.{got_of, entry_ok}
 use Rattle.journal.proofs.laws.Bodies.{Writable}
-use Rattle.journal.specs.declared.Found.TheVariants.{Good}
 use Rattle.journal.specs.declared.Way.{Way}
 use Rattle.journal.specs.declared.Way.TheVariants.{Before, After}
 use Rattle.journal.specs.Ways.{by_way, other}
@@ -133,8 +133,8 @@ holds_made w t (SetAreas areas) h = tt
 holds_made w t (SetTimer timer) h = tt
 
 -- the tables beside it are those that the record after it has
-tables_again : (r : Record) (n : ℕ) (t : Tables) (ch : Change) → Made r n t ch → tables_for (kind_of ch) (put_with r t ch).after ≡ t
-unfolding tables_for kind_of put_with accepted with_thermal with_throttles
+tables_again : (r : Record) (n : ℕ) (t : Tables) (ch : Change) → Made r n t ch → tables_for (kind_of ch) (unwrap_or (put_with r t ch) r) ≡ t
+unfolding tables_for kind_of put_with with_thermal with_throttles
 tables_again r n t (Clear place log) m = sym m.1
 tables_again r n t (Unclear place log) m = absurd m
 tables_again r n t (SetState state) m = sym m.fits
@@ -154,18 +154,18 @@ tables_again r n t (SetTimer timer) m = sym m.fits.1
 -- redo store e itself
 
 pub record Link (r : Record) (n : ℕ) (e : Edit) : Type 0 where
-  pub put_accepted : (put_of r e).ok ≡ true
-  pub put_sound : record_ok (put_of r e).after (n + made_of e.change) ≡ true
-  pub put_typed : TypedRecord (put_of r e).after
+  pub put_accepted : put_of r e ≡ Some (put_after r e)
+  pub put_sound : record_ok (put_after r e) (n + made_of e.change) ≡ true
+  pub put_typed : TypedRecord (put_after r e)
   pub back_writable : Writable Before (inverse_of r e).tables (inverse_of r e).change
   pub here_writable : Writable After e.tables e.change
-  pub put_back : put_of (put_of r e).after (inverse_of r e) ≡ accepted r
-  pub again : inverse_of (put_of r e).after (inverse_of r e) ≡ e
+  pub put_back : put_of (put_after r e) (inverse_of r e) ≡ Some r
+  pub again : inverse_of (put_after r e) (inverse_of r e) ≡ e
   pub kind_back : kind_of (inverse_of r e).change ≡ kind_of e.change
   pub entry_good : entry_ok Before (entry_for (inverse_of r e)) ≡ true
-  pub entry_reads : got_of Before (entry_bytes (inverse_of r e)) ≡ record { found = Good (inverse_of r e).change; tables = (inverse_of r e).tables }
+  pub entry_reads : got_of Before (entry_bytes (inverse_of r e)) ≡ Some (inverse_of r e)
   pub redo_good : entry_ok After (entry_for e) ≡ true
-  pub redo_reads : got_of After (entry_bytes e) ≡ record { found = Good e.change; tables = e.tables }
+  pub redo_reads : got_of After (entry_bytes e) ≡ Some e
 
 pub link : (r : Record) (n : ℕ) (e : Edit) → record_ok r n ≡ true → TypedRecord r → Made r n e.tables e.change → Link r n e
 unfolding put_of inverse_of edit_ok other by_way
@@ -179,9 +179,9 @@ link r n e ok y m =
     let ok-here : edit_ok e ≡ true = made_ok_lem r n e.tables e.change s m in
     let good : edit_ok (inverse_of r e) ≡ true = inverse_ok r n e s ok-here in
     let kind = kind_of_back r e.change in
-    let tables = ap (λ (k : ℕ). tables_for k (put_of r e).after) kind ∙ tables_again r n e.tables e.change m in
+    let tables = ap (λ (k : ℕ). tables_for k (put_after r e)) kind ∙ tables_again r n e.tables e.change m in
     record {
-      put_accepted = l.ok;
+      put_accepted = l.put;
       put_sound = sound_ok l.sound;
       put_typed = l.typed;
       back_writable = back;

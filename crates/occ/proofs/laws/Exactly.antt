@@ -1,7 +1,11 @@
 -- Document 01, "OCC packets": each command is accepted exactly when its conditions hold. d is the data. Assumes nothing.
 use Rattle.wire.proofs.laws.Cases.{cond_cases}
-use Rattle.std.specs.Prelude.{ℕ, zero, suc, ◌+◌, ◌-◌, ◌*◌, ◌<◌, ◌≤◌, Bool, true, false, cond, not, ◌≡◌, refl, List, [], ◌∷◌, ◌↔◌, ◌⊎◌, eqb, get_or, take, drop}
-use Rattle.std.proofs.Common.{sym, subst, not-suc-le-zero, le_of_suc-le-suc, eqb-true, lit<}
+use Rattle.std.specs.Prelude.{ℕ, ◌+◌, ◌-◌, ◌*◌, ◌<◌, ◌≤◌, Bool, true, false, cond, not, ◌≡◌, refl, List, Option, Some, None, ◌↔◌, ◌⊎◌, ltb, eqb, get_or, take, drop}
+use Rattle.std.specs.Option.{is_some, unwrap_or}
+use Rattle.std.specs.List.{position_or_len}
+use Rattle.std.proofs.Common.{sym, ◌∙◌, subst, eqb-true, ltb-true, ltb-false, lit<}
+use Rattle.std.proofs.lemmas.Bool.{false≢true}
+use Rattle.std.proofs.lemmas.List.Sums.{passes_at_first, fails_before_first}
 use native.Mathlib.Omega.{arith}
 use Rattle.std.proofs.lemmas.Bool.{eqb-false}
 use Rattle.std.proofs.Math.ListN.{length}
@@ -11,7 +15,7 @@ use Rattle.record.specs.declared.Log.{Log}
 use Rattle.record.specs.declared.Caps.{Caps}
 use Rattle.record.specs.declared.Record.{Record}
 use Rattle.record.specs.declared.Worked.{Worked}
-use Rattle.change.specs.Logs.{first_with, find_of}
+use Rattle.change.specs.Logs.{find_of}
 use Rattle.change.specs.declared.Change.{Change}
 use Rattle.change.specs.declared.Change.TheVariants.{Clear, SetState, SetRole, SetCaps, SetUser, Reset}
 use Rattle.change.specs.declared.Tables.{Tables}
@@ -22,7 +26,7 @@ use Rattle.occ.specs.Commands.{poll_verdict, clear_at, clear_verdict, state_fits
 use Rattle.occ.specs.Judge.{plainly, count_status, sets_status, sets_judged, throttles_for, throttles_judged, frus_judged, thermal_for, thermal_judged, format_judged, configure_judged, type_judged, judge_of}
 use Rattle.occ.specs.Open.{open_to}
 use Rattle.occ.proofs.laws.Open.{open_to_is}
-use Rattle.wire.proofs.laws.Chains.{holds, eq_holds, le_holds, eq_passes, lt_passes, le_passes, zero_passes, not_passes, unless, unless_last, if_needed, or_else, Ends, ends_unless, ends_if_needed, ends_when, ends_last, if_is, if_is_last, last_case, or_case}
+use Rattle.wire.proofs.laws.Chains.{holds, eq_holds, le_holds, eq_passes, lt_passes, le_passes, zero_passes, not_passes, unless, unless_last, if_needed, or_else, Ends, ends_unless, ends_if_needed, ends_last, if_is, if_is_last, last_case, or_case}
 use Rattle.wire.specs.Conditions.{◌and◌}
 use Rattle.sets.proofs.laws.Exactly.{sets_exactly, frus_exactly}
 use Rattle.occ.specs.Conditions.{PollOk, Pends, ClearLogOk, SetStateOk, RoleFormatOk, CapsFormatOk, SetsFormatOk, ThrottlesFormatOk, ThermalFormatOk, ConfigureOk, UserCapOk, ResetPrepOk, CommandOk, accepts, accepted}
@@ -59,56 +63,62 @@ pub poll_exactly : (d : List ℕ) → Ends accepts (poll_verdict d) (PollOk d) P
 unfolding poll_verdict PollOk
 poll_exactly d = ends_unless accepts (refuses 0x12) (not_passes (eq_holds _ _)) (ends_last accepts (refuses 0x13) (not_passes (eq_holds _ _)) polls)
 
--- the first place with an id has it
-first_there : (id : ℕ) (logs : List Log) → first_with id logs < length logs → (get_or logs (first_with id logs) no_log).id ≡ id
-unfolding first_with
-first_there id [] = λ h. absurd (not-suc-le-zero h)
-first_there id (x ∷ logs) =
-    cond_cases (λ (n : ℕ). n < suc (length logs) → (get_or (x ∷ logs) n no_log).id ≡ id) (eqb x.id id)
-    (λ t h. eqb-true x.id id t)
-    (λ t h. first_there id logs (le_of_suc-le-suc h))
-
--- and none before it
-first_before : (id place : ℕ) (logs : List Log) → place < length logs → (get_or logs place no_log).id ≡ id → first_with id logs ≤ place
-unfolding first_with
-first_before id place [] h e = absurd (not-suc-le-zero h)
-first_before id zero (x ∷ logs) h e =
-    cond_cases (λ (n : ℕ). n ≤ 0) (eqb x.id id) (λ t. omega arith) (λ t. absurd (eqb-false x.id id t e))
-first_before id (suc place) (x ∷ logs) h e =
-    cond_cases (λ (n : ℕ). n ≤ suc place) (eqb x.id id)
-    (λ t. omega arith)
-    (λ t. let k = first_before id place logs (le_of_suc-le-suc h) e in omega arith)
+-- what looking for an id comes to: its log pends at the place found, or none pends with it
+pub data Search (id : ℕ) (logs : List Log) : Option ℕ → Type 0 where
+  found : (place : ℕ) → (id ≡ 0 → ⊥) → place < 4 → (get_or logs place no_log).id ≡ id → Search id logs (Some place)
+  missed : (Pends id logs → ⊥) → Search id logs None
 
 module _ (id : ℕ) (logs : List Log) (four : length logs ≡ 4) where
-  -- what is found has the id, which isn't 0
-  pub found_there : find_of id logs < 4 → (id ≡ 0 → ⊥) and ((get_or logs (find_of id logs) no_log).id ≡ id)
-  unfolding find_of
-  found_there =
-      cond_cases (λ (n : ℕ). n < 4 → (id ≡ 0 → ⊥) and ((get_or logs n no_log).id ≡ id)) (eqb id 0)
-      (λ t h. absurd (omega arith))
-      (λ t h. let k : first_with id logs < length logs = omega arith in (eqb-false id 0 t, first_there id logs k))
+  abbrev with_id : Log → Bool
+  with_id x = eqb x.id id
 
-  -- what pends is found
-  there_found : Pends id logs → find_of id logs < 4
+  abbrev first : ℕ
+  first = position_or_len with_id logs
+
+  pub searched : Search id logs (find_of id logs)
   unfolding find_of Pends
-  there_found h =
-      cond_cases (λ (n : ℕ). n < 4) (eqb id 0)
-      (λ t. absurd (h.0 (eqb-true id 0 t)))
-      (λ t.
-      let l : h.1.0 < length logs = omega (arith, h.1.1) in
-      let k = first_before id h.1.0 logs l h.1.2 in
-      omega (arith, h.1.1))
+  searched =
+      cond_cases (Search id logs) (eqb id 0)
+      (λ t. missed (λ h. h.0 (eqb-true id 0 t)))
+      (λ t. cond_cases (Search id logs) (ltb first (length logs))
+      (λ l. let inside : first < length logs = ltb-true first (length logs) l in
+      found first (eqb-false id 0 t) (omega arith) (eqb-true _ id (passes_at_first with_id logs no_log inside)))
+      (λ l. missed (λ h. let past : h.1.0 < first = omega (arith, ltb-false first (length logs) l, h.1.1) in
+      eqb-false _ id (fails_before_first with_id logs h.1.0 no_log past) h.1.2)))
 
-  pub found_exactly : (find_of id logs < 4) ↔ Pends id logs
+  pub found_exactly : (is_some (find_of id logs) ≡ true) ↔ Pends id logs
   unfolding Pends
-  found_exactly = (λ h. let p = found_there h in (p.0, (find_of id logs, h, p.1)), there_found)
+  found_exactly = by_search (find_of id logs) searched
+    where
+      by_search : (o : Option ℕ) → Search id logs o → (is_some o ≡ true) ↔ Pends id logs
+      by_search _ (found p n l e) = (λ h. (n, (p, l, e)), λ h. refl)
+      by_search _ (missed n) = (λ h. absurd (false≢true h), λ h. absurd (n h))
+
+  -- what is found has the id
+  pub found_there : (place : ℕ) → find_of id logs ≡ Some place → (place < 4) and ((get_or logs place no_log).id ≡ id)
+  found_there place = by_search (find_of id logs) searched
+    where
+      by_search : (o : Option ℕ) → Search id logs o → o ≡ Some place → (place < 4) and ((get_or logs place no_log).id ≡ id)
+      by_search _ (found p n l q) e =
+          let k : p ≡ place = cc in
+          (subst (λ (i : ℕ). i < 4) k l, subst (λ (i : ℕ). (get_or logs i no_log).id ≡ id) k q)
+      by_search _ (missed n) e = let z : ⊥ = cc in absurd z
+
+-- the place of the log that pends with an id
+abbrev pub place_of : ℕ → List Log → ℕ
+place_of id logs = unwrap_or (find_of id logs) 0
 
 pub clear_log_exactly : (logs : List Log) (d : List ℕ) → length logs ≡ 4
-    → Ends accepts (clear_verdict logs d) (ClearLogOk logs d) (Make (Clear (find_of (get_or d 0 0) logs) (get_or logs (find_of (get_or d 0 0) logs) no_log)))
-unfolding clear_verdict clear_at ClearLogOk
+    → Ends accepts (clear_verdict logs d) (ClearLogOk logs d) (Make (Clear (place_of (get_or d 0 0) logs) (get_or logs (place_of (get_or d 0 0) logs) no_log)))
+unfolding clear_verdict clear_at ClearLogOk Pends
 clear_log_exactly logs d four =
-    ends_unless accepts (refuses 0x12) (not_passes (eq_holds _ _))
-    (ends_when accepts (found_exactly (get_or d 0 0) logs four) (ends_last accepts (refuses 0x13) (le_passes 4 _) (makes _)))
+    ends_unless accepts (refuses 0x12) (not_passes (eq_holds _ _)) (by_search (find_of (get_or d 0 0) logs) (searched (get_or d 0 0) logs four))
+  where
+    by_search : (o : Option ℕ) → Search (get_or d 0 0) logs o
+        → Ends accepts (clear_at o logs) (Pends (get_or d 0 0) logs) (Make (Clear (unwrap_or o 0) (get_or logs (unwrap_or o 0) no_log)))
+    by_search _ (found p n l e) = record { exactly = (λ h. (n, (p, l, e)), λ h. makes _); is = λ h. refl }
+    by_search _ (missed n) =
+        record { exactly = (λ h. absurd (false≢true (sym (refuses 0x13) ∙ h)), λ h. absurd (n h)); is = λ h. absurd (false≢true (sym (refuses 0x13) ∙ h)) }
 
 pub state_fits_exactly : (version state last : ℕ) → (state_fits version state last ≡ true) ↔ ((version ≡ 0) and (1 ≤ state) and (state ≤ 3) and (last ≡ 0))
 unfolding state_fits

@@ -1,6 +1,7 @@
 -- Laws of judged commands that other crates build on: what is known of a change that a command makes. Assumes nothing.
-use Rattle.std.specs.Prelude.{ℕ, ◌<◌, ◌≤◌, Bool, true, cond, not, ◌≡◌, List, ◌⊎◌, eqb, length, drop, replicate}
+use Rattle.std.specs.Prelude.{ℕ, ◌<◌, ◌≤◌, Bool, true, cond, not, ◌≡◌, List, Option, ◌⊎◌, eqb, length, drop, replicate}
 use Rattle.std.proofs.Math.Path.{refl, subst}
+use Rattle.std.specs.Option.{unwrap_or}
 use Rattle.std.proofs.Common.{sym, ◌∙◌, ⊎_elim, le-leb}
 use Rattle.std.proofs.Math.Logic.{inl, inr}
 use native.Mathlib.Omega.{arith}
@@ -30,7 +31,7 @@ use Rattle.occ.specs.Judge.{plainly, sets_status, sets_judged, throttles_for, th
 use Rattle.occ.specs.Open.{open_to}
 use Rattle.wire.proofs.laws.Chains.{holds, eq_holds, le_holds, eq_passes, lt_passes, not_passes, unless, or_else, Ends}
 use Rattle.wire.specs.Conditions.{◌and◌}
-use Rattle.occ.proofs.laws.Exactly.{reset_made, found_there, found_exactly, poll_exactly, clear_log_exactly, set_state_exactly, role_format_exactly, caps_format_exactly, user_cap_exactly, log_due_exactly, reset_prep_exactly}
+use Rattle.occ.proofs.laws.Exactly.{reset_made, Search, found, missed, searched, place_of, poll_exactly, clear_log_exactly, set_state_exactly, role_format_exactly, caps_format_exactly, user_cap_exactly, log_due_exactly, reset_prep_exactly}
 use Rattle.occ.specs.Conditions.{Pends, ClearLogOk, SetStateOk, RoleFormatOk, CapsFormatOk, ResetPrepOk, accepts}
 
 -- ---- what is known of a change that is made
@@ -108,13 +109,13 @@ module _ (r : Record) (next : ℕ) (s : Sound r next) (four : length r.logs ≡ 
       (unless holds refl (not_passes (eq_holds log.id log.id)) (eq_holds log.reason log.reason)))).1
       (k, ((λ z. h (sym e ∙ z)), (refl, refl)))
 
-  clear : (id : ℕ) → Pends id r.logs → Plain (Clear (find_of id r.logs) (get_or r.logs (find_of id r.logs) no_log))
+  clear : (id : ℕ) → Pends id r.logs → Plain (Clear (place_of id r.logs) (get_or r.logs (place_of id r.logs) no_log))
   unfolding Right Known change_ok
-  clear id c =
-      let l = (found_exactly id r.logs four).1 c in
-      let f = found_there id r.logs four l in
-      let p = there_pends id (find_of id r.logs) f.0 l f.1 in
-      (pends_cleared next r.logs s.logs _ _ p, p)
+  clear id c = by_search (find_of id r.logs) (searched id r.logs four)
+    where
+      by_search : (o : Option ℕ) → Search id r.logs o → Plain (Clear (unwrap_or o 0) (get_or r.logs (unwrap_or o 0) no_log))
+      by_search _ (found p n l e) = let q = there_pends id p n l e in (pends_cleared next r.logs s.logs _ _ q, q)
+      by_search _ (missed n) = absurd (n c)
 
   clear_right : (d : List ℕ) → Makes Plain (clear_verdict r.logs d)
   unfolding ClearLogOk

@@ -1,5 +1,5 @@
 -- The columns of the table of what is open, as conditions; and what a watch-only session lets through. Assumes nothing.
-use Rattle.std.specs.Prelude.{ℕ, Bool, true, false, not, ◌↔◌, ◌⊎◌, ◌≡◌, refl, List, leb, eqb, length, get_or}
+use Rattle.std.specs.Prelude.{ℕ, Bool, true, false, not, ◌↔◌, ◌⊎◌, ◌≡◌, refl, List, Some, None, eqb, length, get_or}
 use Rattle.std.proofs.Math.Bool.{cond}
 use Rattle.std.proofs.lemmas.Bool.{false≢true}
 use Rattle.std.proofs.Common.{inl, inr, ⊎_elim, sym, ◌∙◌, arith, eqb-true}
@@ -140,7 +140,7 @@ module _ (r : Record) (w : Worked) (next sender : ℕ) (d : List ℕ) where
   clears_at kind (inr z) =
       subst (λ (k : ℕ). Clearing (judge_of r w next sender k d)) (sym z)
       (cond_elim Clearing (not (open_to sender 0x12)) tt
-      (cond_elim Clears (not (eqb (length d) 1)) tt (cond_elim Clears (leb 4 (find_of (get_or d 0 0) r.logs)) tt refl)))
+      (cond_elim Clears (not (eqb (length d) 1)) tt (elim (find_of (get_or d 0 0) r.logs) as (λ o. Clears (clear_at o r.logs)) [ None ↦ tt | Some p ↦ refl ])))
 
   pub open_clears : (profile kind : ℕ) (ch : Change) → (profile ≡ 0 → ⊥) → by_profile profile kind (judge_of r w next sender kind d).verdict ≡ Make ch → kind_of ch ≡ 0x01
   open_clears profile kind ch full e =

@@ -1,20 +1,19 @@
 -- Document 01, "OCC packets": a command gets each status exactly when its row holds and none before it. d is the data. Assumes nothing.
-use Rattle.std.specs.Prelude.{ℕ, ◌+◌, ◌-◌, ◌*◌, ◌≤◌, Bool, true, cond, not, ◌≡◌, refl, List, ◌↔◌, ◌⊎◌, ltb, leb, eqb, length, drop}
+use Rattle.std.specs.Prelude.{ℕ, ◌+◌, ◌-◌, ◌*◌, ◌≤◌, Bool, true, cond, not, ◌≡◌, refl, List, Option, ◌↔◌, ◌⊎◌, ltb, leb, eqb, length, drop}
 use Rattle.std.proofs.Math.Bool.{true≢false}
 use Rattle.std.proofs.Common.{sym, ap, subst, ◌∙◌, arith, lit<}
 use Rattle.std.proofs.Math.Logic.{inl, inr, ⊎_elim}
-use Rattle.std.proofs.Math.Logic.Iff
 use borrow.Author.Tests.{ltb-false, ltb-true, eqb-true, eqb-false, not-true, not-false, leb-true, leb-false}
 use Rattle.std.proofs.Math.ListN.{get_or}
 use Rattle.wire.specs.Conditions.{◌and◌, is, none, row}
 use Rattle.wire.proofs.laws.Cases.{cond_cases}
-use Rattle.wire.proofs.laws.Chains.{holds, eq_holds, le_passes, not_passes, eq_passes, unless, or_case, last_case}
+use Rattle.wire.proofs.laws.Chains.{holds, eq_holds, not_passes, eq_passes, unless, or_case, last_case}
 use Rattle.wire.proofs.laws.Tables.{lt_holds, fails, differs, ByTable, by_none, by_is, hit, miss, by_rows}
 use Rattle.record.specs.declared.Log.{Log}
 use Rattle.record.specs.declared.Caps.{Caps}
 use Rattle.record.specs.declared.Record.{Record}
 use Rattle.record.specs.declared.Worked.{Worked}
-use Rattle.change.specs.Logs.{pending_of}
+use Rattle.change.specs.Logs.{pending_of, find_of}
 use Rattle.change.specs.declared.Change.{Change}
 use Rattle.change.specs.declared.Tables.{Tables}
 use Rattle.sets.specs.Conditions.{SetsOk, FrusOk}
@@ -26,8 +25,8 @@ use Rattle.occ.specs.Commands.{poll_verdict, clear_at, clear_verdict, not_ready,
 use Rattle.occ.specs.Judge.{plainly, count_status, sets_status, sets_judged, throttles_for, throttles_judged, frus_judged, thermal_for, thermal_judged, format_judged, configure_judged, type_judged, judge_of}
 use Rattle.occ.specs.Open.{open_to}
 use Rattle.occ.proofs.laws.Open.{open_to_is}
-use Rattle.occ.specs.Conditions.{accepts}
-use Rattle.occ.proofs.laws.Exactly.{found_exactly, state_fits_exactly, user_allowed_exactly, log_due_exactly, counted}
+use Rattle.occ.specs.Conditions.{Pends, accepts}
+use Rattle.occ.proofs.laws.Exactly.{Search, found, missed, searched, state_fits_exactly, user_allowed_exactly, log_due_exactly, counted}
 use Rattle.occ.specs.Statuses.{PollStatus, ClearStatus, StateStatus, RoleStatus, CapsStatus, SetsStatus, ConfigureStatus, UserStatus, ResetStatus, CommandStatus}
 
 -- ---- a verdict gives a status if it refuses with it
@@ -60,10 +59,13 @@ unfolding poll_verdict PollStatus
 poll_rows d = by_rows Refuses (differs _ _) (refuses 0x12) (by_rows Refuses (differs _ _) (refuses 0x13) polls)
 
 clear_rows : (logs : List Log) (d : List ℕ) → length logs ≡ 4 → ByTable Refuses (clear_verdict logs d) (ClearStatus logs d)
-unfolding clear_verdict clear_at ClearStatus
+unfolding clear_verdict clear_at ClearStatus Pends
 clear_rows logs d four =
-    by_rows Refuses (differs _ _) (refuses 0x12)
-    (by_rows Refuses (fails (Iff.trans (le_passes 4 _) (found_exactly (get_or d 0 0) logs four))) (refuses 0x13) (makes _))
+    by_rows Refuses (differs _ _) (refuses 0x12) (by_search (find_of (get_or d 0 0) logs) (searched (get_or d 0 0) logs four))
+  where
+    by_search : (o : Option ℕ) → Search (get_or d 0 0) logs o → ByTable Refuses (clear_at o logs) (row 0x13 (Pends (get_or d 0 0) logs → ⊥) none)
+    by_search _ (found p n l e) = miss Refuses (λ h. h (n, (p, l, e))) (makes _)
+    by_search _ (missed n) = hit Refuses n (refuses 0x13)
 
 unready_exactly : (w : Worked) (state : ℕ) → (not_ready w state ≡ true) ↔ (((state ≡ 2) and (w.observation ≡ 0)) ⊎ ((state ≡ 3) and (w.active ≡ 0)))
 unfolding not_ready

@@ -1,5 +1,6 @@
 -- Document 02, c: a fault is found exactly where the status is 0x13. d is the data. Assumes nothing.
-use Rattle.std.specs.Prelude.{ℕ, zero, suc, ◌+◌, ◌-◌, ◌*◌, ◌<◌, ◌≤◌, Bool, true, false, cond, not, ◌≡◌, refl, List, ◌↔◌, ltb, leb, eqb, length, get_or, take, drop}
+use Rattle.std.specs.Prelude.{ℕ, zero, suc, ◌+◌, ◌-◌, ◌*◌, ◌<◌, ◌≤◌, Bool, true, false, cond, not, ◌≡◌, refl, List, Some, None, ◌↔◌, ltb, leb, eqb, length, get_or, take, drop}
+use Rattle.std.specs.Option.{is_some}
 use Rattle.std.proofs.lemmas.Bool.{false≢true}
 use Rattle.std.proofs.Math.Bool.{true≢false}
 use Rattle.std.proofs.Math.Path.{sym}
@@ -86,7 +87,10 @@ poll_alike d = sized d 1 (both Alike (not (eqb (get_or d 0 0) 0x10)) (wrongs Bad
 
 clear_alike : (logs : List Log) (d : List ℕ) → Alike (clear_verdict logs d) (clear_fault logs d)
 unfolding clear_verdict clear_at clear_fault
-clear_alike logs d = sized d 1 (both Alike (leb 4 (find_of (get_or d 0 0) logs)) (wrongs NotPending 1) (made _))
+clear_alike logs d =
+    sized d 1
+    (elim (find_of (get_or d 0 0) logs) as (λ o. Alike (clear_at o logs) (cond (not (is_some o)) (wrong NotPending 1) Nothing))
+    [ None ↦ wrongs NotPending 1 | Some p ↦ made _ ])
 
 -- the four tests of set state's bytes are one to the judge of statuses
 fits_alike : (a b c e : Bool) {v : Verdict} → Alike v Nothing

@@ -1,7 +1,7 @@
 -- Document 02, c: the fault that is found is the least of all of them, by place and then by reason, and none is found only where there is
 -- none. Assumes nothing.
 use Prim.Native.Nat.{ℕ, zero, suc, ◌+◌, ◌-◌, ◌*◌, ◌<◌, ◌≤◌}
-use Rattle.std.specs.Prelude.{Bool, not, List, ◌↔◌, ◌⊎◌, ltb, eqb, length, get_or}
+use Rattle.std.specs.Prelude.{Bool, not, List, ◌↔◌, ltb, eqb, length, get_or}
 use Rattle.std.proofs.Math.Bool.{true, false, cond, true≢false}
 use Rattle.std.proofs.Math.Path.{◌≡◌, refl, sym, ap, subst}
 use Rattle.std.proofs.Common.{◌∙◌, inl, inr, ⊎_elim, arith, ltb-true, ltb-false}
@@ -10,7 +10,7 @@ use Rattle.std.proofs.Math.Nat.{not-suc-le-zero}
 use Rattle.std.proofs.lemmas.Bool.{not-true}
 use Rattle.wire.specs.Conditions.{◌and◌, none, Rows, here, later}
 use Rattle.wire.proofs.laws.Cases.{cond_cases}
-use Rattle.wire.proofs.laws.Chains.{holds, eq_holds, le_passes, not_passes, zero_passes, unless, unless_last}
+use Rattle.wire.proofs.laws.Chains.{holds, eq_holds, not_passes, zero_passes, unless, unless_last}
 use Rattle.wire.proofs.laws.Tables.{lt_holds, fails, differs}
 use Rattle.record.specs.declared.Record.{Record}
 use Rattle.formed.specs.Formed.{in_order}
@@ -160,7 +160,7 @@ reset_least d =
 clear_least : (r : Record) (d : List ℕ) → length r.logs ≡ 4 → Least (of_length (length d ≡ 1) (ClearFaults r.logs d)) (clear_fault r.logs d)
 unfolding clear_fault ClearFaults
 clear_least r d four =
-    least_sized (right_length _ _) (least_byte 1 NotPending (fails (Iff.trans (le_passes 4 _) (found_exactly (get_or d 0 0) r.logs four))) refl)
+    least_sized (right_length _ _) (least_byte 1 NotPending (fails (not_passes (found_exactly (get_or d 0 0) r.logs four))) refl)
 
 user_least : (r : Record) (d : List ℕ) → Least (of_length (length d ≡ 2) (UserFaults r.received.caps r.caps d)) (user_fault r.received.caps r.caps d)
 unfolding user_fault UserFaults

@@ -1,6 +1,5 @@
 use Rattle.plan.proofs.Orders.{named_at, place_low}
 use Rattle.plan.proofs.Trials.{known_sound, next_drawn, at_the_end, one_fails, one_succeeds}
-use mathlib.Core.Bool.{true}
 use mathlib.Core.Path.{◌∙◌, refl}
 use native.Mathlib.Omega.{arith}
 use borrow.Author.Rules.{rules}

@@ -1,5 +1,5 @@
 -- A change that a command of bytes makes is one that links can undo: its values pass, its numbers are of their widths. Assumes nothing.
-use Rattle.std.specs.Prelude.{ℕ, ◌+◌, ◌≤◌, Bool, true, cond, not, ◌⊎◌, ◌≡◌, List, ltb, leb, eqb, length, take, drop}
+use Rattle.std.specs.Prelude.{ℕ, ◌+◌, ◌≤◌, Bool, true, cond, not, ◌⊎◌, ◌≡◌, List, ltb, leb, eqb, length, take, drop, Some, None}
 use Rattle.std.proofs.Common.{inl, inr, ⊎_elim, sym, arith, ltb-false, eq-eqb}
 use Rattle.std.proofs.Math.Path.{refl, subst}
 use Rattle.std.proofs.Math.ListN.{get_or, replicate}
@@ -96,7 +96,7 @@ module _ (d : List ℕ) (bytes : Bytes d) where
 
   clear_shape : (logs : List Log) → Plain (clear_verdict logs d)
   unfolding clear_verdict clear_at
-  clear_shape logs = cond_elim Plain (longer 1) (refusal _ 0x12) (cond_elim Plain (leb 4 (find_of (get_or d 0 0) logs)) (refusal _ 0x13) (make _ _ refl))
+  clear_shape logs = cond_elim Plain (longer 1) (refusal _ 0x12) (elim (find_of (get_or d 0 0) logs) as (λ o. Plain (clear_at o logs)) [ None ↦ refusal _ 0x13 | Some place ↦ make _ _ refl ])
 
   state_shape : (w : Worked) → Plain (state_verdict w d)
   unfolding state_verdict

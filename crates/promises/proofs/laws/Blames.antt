@@ -1,5 +1,6 @@
 -- Document 02, c in two worlds that differ in ids: the same data byte is told in both. Assumes nothing.
-use Rattle.std.specs.Prelude.{ℕ, ◌≤◌, ◌<◌, not, List, [], ◌∷◌, map, ◌≡◌, eqb, leb, length, get_or}
+use Rattle.std.specs.Option.{is_some}
+use Rattle.std.specs.Prelude.{ℕ, ◌≤◌, ◌<◌, not, List, [], ◌∷◌, map, ◌≡◌, eqb, length, get_or, Option}
 use Rattle.std.proofs.Math.Bool.{cond}
 use Rattle.std.proofs.Math.Path.{refl, ap}
 use Rattle.std.proofs.Common.{sym, ◌∙◌, eqb-true}
@@ -29,13 +30,13 @@ module _ (k : ℕ) (low : 1 ≤ k) where
 
   clear_fault_lem : (i j : ℕ) (l : List Log) → find_of j (map f l) ≡ find_of i l → clear_fault (map f l) (j ∷ []) ≡ clear_fault l (i ∷ [])
   unfolding clear_fault
-  clear_fault_lem i j l e = ap (λ (p : ℕ). cond (leb 4 p) (wrong NotPending 1) Nothing) e
+  clear_fault_lem i j l e = ap (λ (o : Option ℕ). cond (not (is_some o)) (wrong NotPending 1) Nothing) e
 
   old_fault : (l : List Log) (d : List ℕ) → (length d ≡ 1 → get_or d 0 0 < k) → clear_fault (map f l) d ≡ clear_fault l d
   unfolding clear_fault
   old_fault l d old =
       by_both Same (not (eqb (length d) 1)) (λ g. refl)
-      (λ g. ap (λ (p : ℕ). cond (leb 4 p) (wrong NotPending 1) Nothing)
+      (λ g. ap (λ (o : Option ℕ). cond (not (is_some o)) (wrong NotPending 1) Nothing)
       (ap (λ (j : ℕ). find_of j (map f l)) (sym (shifted_low k (get_or d 0 0) (old (eqb-true (length d) 1 (not-false _ g))))) ∙ find_shifted k low (get_or d 0 0) l))
 
   module _ (r : Record) where

@@ -1,16 +1,16 @@
 -- A session by its history: the changes that are left, those that can be redone and the next id determine it, byte for byte, but for what no
 -- change touches. Assumes nothing.
+use Rattle.std.specs.Option.{unwrap_or}
 use Prim.Native.Nat.{ℕ, suc, ◌+◌, ◌≤◌}
-use Rattle.std.specs.Prelude.{true, ◌⊎◌, ◌≡◌, length}
+use Rattle.std.specs.Prelude.{true, ◌⊎◌, ◌≡◌, length, Option}
 use Rattle.std.proofs.Math.Logic.{inl, inr, ⊎_elim}
 use Rattle.std.proofs.Math.Path.{refl, ap}
 use Rattle.std.proofs.Common.{sym, subst, ◌∙◌, arith}
 use mathlib.Core.List.{List, [], ◌∷◌}
 use Rattle.record.specs.declared.Record.{Record}
 use Rattle.record.specs.declared.Timer.{Timer}
-use Rattle.change.specs.Change.{put_of, inverse_of, timed}
+use Rattle.change.specs.Change.{put_after, inverse_of, timed}
 use Rattle.change.proofs.laws.Timed.{kind_of_back, timed_kind, timed_puts}
-use Rattle.change.specs.declared.Changed.{Changed}
 use Rattle.change.specs.declared.Edit.{Edit}
 use Rattle.formed.specs.Formed.{record_ok}
 use Rattle.entries.specs.Entries.{Scan, entries_of, scan}
@@ -183,12 +183,12 @@ module _ (base : Record) (p : ℕ) where
   pub again_at : (c : Record) (hi : ℕ) (es fs rs : List Edit) → applied base es ≡ applied c fs → Again base p hi es rs → Again c p hi fs rs
   unfolding applied
   again_at c hi es fs [] q k = tt
-  again_at c hi es fs (r ∷ rs) q k = (step_at c hi r es fs q k.0, again_at c hi (r ∷ es) (r ∷ fs) rs (ap (λ (x : Record). (put_of x r).after) q) k.1)
+  again_at c hi es fs (r ∷ rs) q k = (step_at c hi r es fs q k.0, again_at c hi (r ∷ es) (r ∷ fs) rs (ap (λ (x : Record). put_after x r) q) k.1)
 
   module _ (t : Timer) (c : Clock t) (e : Edit) (es : List Edit) where
     pub applied_timed : applied base (timed t e ∷ es) ≡ applied base (e ∷ es)
     unfolding applied
-    applied_timed = ap (λ (x : Changed). x.after) (timed_puts t (applied base es) e)
+    applied_timed = ap (λ (x : Option Record). unwrap_or x (applied base es)) (timed_puts t (applied base es) e)
 
     pub step_timed : (hi : ℕ) → Step base p hi e es → Step base p hi (timed t e) es
     unfolding timed

@@ -1,5 +1,5 @@
 -- What each accepted command makes of the session, and the change that demand 3 counts. Assumes nothing.
-use Rattle.std.specs.Prelude.{ℕ, ◌+◌, ◌<◌, Bool, true, false, ◌↔◌, ◌⊎◌, ◌≡◌, List, [], ◌∷◌, length, get_or, replicate}
+use Rattle.std.specs.Prelude.{ℕ, ◌+◌, ◌<◌, Bool, true, false, ◌↔◌, ◌⊎◌, ◌≡◌, List, [], ◌∷◌, length, get_or, replicate, Option, Some, None}
 use Rattle.std.proofs.Math.Bool.{not}
 use Rattle.std.proofs.lemmas.Bool.{false≢true}
 use Rattle.std.proofs.Common.{true≢false, ⊎_elim, ap, ◌∙◌, add-zero, arith}
@@ -11,17 +11,15 @@ use Rattle.record.specs.declared.Log.{Log}
 use Rattle.record.specs.declared.Record.{Record}
 use Rattle.change.specs.Logs.{pending_of, remove_at, insert_at, pends_at}
 use Rattle.change.specs.With.{with_state, with_logs}
-use Rattle.change.specs.Change.{accepted, clear_of, reset_of, put_with, put_of, made_by, no_tables, back_of, kind_of, tables_for, inverse_of, timed_change, timed, takes_back, timer_after}
+use Rattle.std.specs.Option.{unwrap_or}
+use Rattle.change.specs.Change.{clear_of, reset_of, put_with, put_of, put_after, made_by, no_tables, back_of, kind_of, tables_for, inverse_of, timed_change, timed, takes_back, timer_after}
 use Rattle.change.specs.declared.Change.{Change}
-use Rattle.change.specs.declared.Changed.{Changed}
 use Rattle.change.specs.declared.Tables.{Tables}
 use Rattle.change.specs.declared.Edit.{Edit}
 use Rattle.entries.specs.Entries.{bytes_of}
 use Rattle.journal.specs.Bytes.{body_of, entry_for, entry_bytes}
 use Rattle.journal.specs.Add.{end_of}
 use Rattle.journal.proofs.laws.Ends.{length_entry, added}
-use Rattle.journal.specs.declared.End.{End}
-use Rattle.journal.specs.declared.End.TheVariants.{At, Full}
 use Rattle.journal.specs.declared.Way.TheVariants.{Before, After}
 use Rattle.journal.specs.Ways.{by_way}
 use Rattle.packet.specs.Packet.{data_of}
@@ -62,15 +60,15 @@ module _ (s : Session) (f : Formed s) (typed : TypedSession s) (e : Edit) (made 
   abbrev ticking : Session
   ticking = with_timer s (timer_after s.timer e.change)
 
-  carried_becomes : (carried_of s e).session ≡ becomes ticking (put_of s.held e).after (s.next + made_of e.change) (entry_bytes back)
+  carried_becomes : (carried_of s e).session ≡ becomes ticking (put_after s.held e) (s.next + made_of e.change) (entry_bytes back)
   unfolding with_timer
   carried_becomes =
       let w = back_writable s f typed e made fits in
       let j = added Before back s.used s.journal w (room s f typed e made fits) in
       session_is s f typed e made fits
-      ∙ (λ i. renewed ticking (put_of s.held e).after (s.next + made_of e.change) (j i) (s.used + sym (length_entry Before back w) i) (replicate 2048 0) 0)
+      ∙ (λ i. renewed ticking (put_after s.held e) (s.next + made_of e.change) (j i) (s.used + sym (length_entry Before back w) i) (replicate 2048 0) 0)
 
-  becomes_row : (t : Session) (held : Record) (next : ℕ) (entry : List ℕ) → ticking ≡ t → (put_of s.held e).after ≡ held → s.next + made_of e.change ≡ next → entry_bytes back ≡ entry
+  becomes_row : (t : Session) (held : Record) (next : ℕ) (entry : List ℕ) → ticking ≡ t → put_after s.held e ≡ held → s.next + made_of e.change ≡ next → entry_bytes back ≡ entry
       → (carried_of s e).session ≡ becomes t held next entry
   becomes_row t held next entry o p q r = carried_becomes ∙ (λ i. becomes (o i) (p i) (q i) (r i))
 
@@ -84,12 +82,12 @@ module _ (s : Session) (f : Formed s) (typed : TypedSession s) where
   some_next z = omega (arith, z, next_some s.held s.next f.record_ok_lem)
 
   -- a cleared log that pends leaves; a reset with a log that has room makes it, and draws one id
-  cleared : (place : ℕ) (log : Log) → pends_at place log r.logs ≡ true → clear_of r place log ≡ accepted (with_logs r (remove_at place r.logs))
+  cleared : (place : ℕ) (log : Log) → pends_at place log r.logs ≡ true → clear_of r place log ≡ Some (with_logs r (remove_at place r.logs))
   unfolding clear_of
   cleared place log h = sym (else_b _ _ (ap not h) refl)
 
   logged : (reason : ℕ) → pending_of r.logs < 4
-      → reset_of r (record { id = s.next; reason = reason }) ≡ accepted (with_logs (with_state r 1) (insert_at (pending_of r.logs) (record { id = s.next; reason = reason }) r.logs))
+      → reset_of r (record { id = s.next; reason = reason }) ≡ Some (with_logs (with_state r 1) (insert_at (pending_of r.logs) (record { id = s.next; reason = reason }) r.logs))
   unfolding reset_of
   logged reason h = sym (else_eq _ _ some_next (else_le _ _ h refl))
 
@@ -105,17 +103,17 @@ module _ (s : Session) (f : Formed s) (typed : TypedSession s) where
       abbrev edit : Edit
       edit = record { change = ch; tables = t }
 
-      by_row : (held : Record) (next : ℕ) (entry : List ℕ) → timer_after s.timer ch ≡ s.timer → (put_with r t ch).after ≡ held → s.next + made_of ch ≡ next
+      by_row : (held : Record) (next : ℕ) (entry : List ℕ) → timer_after s.timer ch ≡ s.timer → unwrap_or (put_with r t ch) r ≡ held → s.next + made_of ch ≡ next
           → entry_bytes (takes_back r s.timer edit) ≡ entry → Effect (becomes s held next entry) → Effect (carried_of s edit).session
       unfolding put_of with_timer
       by_row held next entry o p q x e = subst Effect (sym (becomes_row s f typed edit made fits s held next entry (ap (with_timer s) o) p q x)) e
 
     effect : (ch : Change) (t : Tables) → occ-asks.CommandAsks r s.next type d (Make ch) t → Made r s.next t ch
         → (fits : (carried_of s (record { change = ch; tables = t })).full ≡ false) → Effect (carried_of s (record { change = ch; tables = t })).session
-    unfolding put_with accepted made_of timer_after entry_bytes entry_for bytes_of body_of takes_back timed timed_change inverse_of back_of tables_for kind_of reset_of made_by
-    effect ch t (occ-asks.clears e low) made fits =
-        by_row ch t made fits _ _ _ refl (ap (λ (x : Changed). x.after) (cleared _ _ made.0)) (add-zero _) refl
-        (clear_log _ e low (found_there (get_or d 0 0) r.logs typed.held.logs low).1)
+    unfolding put_with made_of timer_after entry_bytes entry_for bytes_of body_of takes_back timed timed_change inverse_of back_of tables_for kind_of reset_of made_by
+    effect ch t (occ-asks.clears e place is) made fits =
+        by_row ch t made fits _ _ _ refl (ap (λ (x : Option Record). unwrap_or x r) (cleared _ _ made.0)) (add-zero _) refl
+        (let there = found_there (get_or d 0 0) r.logs typed.held.logs place is in clear_log _ e there.0 there.1)
     effect ch t (occ-asks.sets_state e) made fits = by_row ch t made fits _ _ _ refl refl (add-zero _) refl (set_state e)
     effect ch t (occ-asks.sets_role e g) made fits = by_row ch t made fits _ _ _ refl refl (add-zero _) refl (set_role e g)
     effect ch t (occ-asks.sets_caps e g) made fits = by_row ch t made fits _ _ _ refl refl (add-zero _) refl (set_caps e g)
@@ -124,7 +122,7 @@ module _ (s : Session) (f : Formed s) (typed : TypedSession s) where
     effect ch t (occ-asks.sets_user e) made fits = by_row ch t made fits _ _ _ refl refl (add-zero _) refl (set_user e)
     effect ch t (occ-asks.resets e none) made fits = by_row ch t made fits _ _ _ refl refl (add-zero _) refl (reset e none)
     effect ch t (occ-asks.resets_logged e due low) made fits =
-        by_row ch t made fits _ _ _ refl (ap (λ (x : Changed). x.after) (logged _ low)) (ap (λ (n : ℕ). s.next + n) (drawn (get_or d 1 0))) (ap (λ (n : ℕ). 0x08 ∷ r.state ∷ n ∷ []) (drawn (get_or d 1 0)))
+        by_row ch t made fits _ _ _ refl (ap (λ (x : Option Record). unwrap_or x r) (logged _ low)) (ap (λ (n : ℕ). s.next + n) (drawn (get_or d 1 0))) (ap (λ (n : ℕ). 0x08 ∷ r.state ∷ n ∷ []) (drawn (get_or d 1 0)))
         (reset_logged e due)
 
 -- two deeds that differ
@@ -177,13 +175,13 @@ ticked_not n p = false≢true (sym (ap is_moved p))
 same_edit : (a b : Edit) → adds a ≡ adds b → a ≡ b
 same_edit a b p = cc
 
-carried_held : (s : Session) (e : Edit) → (carried_of s e).full ≡ false → (carried_of s e).session.held ≡ (put_of s.held e).after
+carried_held : (s : Session) (e : Edit) → (carried_of s e).full ≡ false → (carried_of s e).session.held ≡ put_after s.held e
 unfolding carried_of carried_to renewed
 carried_held s e fits = go (end_of (length s.journal) s.used (takes_back s.held s.timer e)) fits
   where
-    go : (x : End) → (carried_to s e x).full ≡ false → (carried_to s e x).session.held ≡ (put_of s.held e).after
-    go (At used) h = refl
-    go Full h = absurd (true≢false h)
+    go : (x : Option ℕ) → (carried_to s e x).full ≡ false → (carried_to s e x).session.held ≡ put_after s.held e
+    go (Some used) h = refl
+    go None h = absurd (true≢false h)
 
 module _ (s : Session) (typed : TypedSession s) (sender : ℕ) (c d : List ℕ) where
   abbrev OccLeft : Session → Type 0
@@ -249,14 +247,14 @@ module _ (s : Session) (typed : TypedSession s) (sender : ℕ) (c d : List ℕ) 
 
 module _ (s : Session) (typed : TypedSession s) (r d m x : List ℕ) where
   module _ (f : Formed s) (ch : Change) (made : Made s.held s.next no_tables ch) (fits : (carried_of s (sbe-demands.edit ch)).full ≡ false) where
-    by_request : (t : Session) (held : Record) (entry : List ℕ) → with_timer s (timer_after s.timer ch) ≡ t → (put_with s.held no_tables ch).after ≡ held → s.next + made_of ch ≡ s.next
+    by_request : (t : Session) (held : Record) (entry : List ℕ) → with_timer s (timer_after s.timer ch) ≡ t → unwrap_or (put_with s.held no_tables ch) s.held ≡ held → s.next + made_of ch ≡ s.next
         → entry_bytes (takes_back s.held s.timer (sbe-demands.edit ch)) ≡ entry → SbeEffect s r (becomes t held s.next entry) → SbeEffect s r (carried_of s (sbe-demands.edit ch)).session
     unfolding put_of
     by_request t held entry o p q z e = subst (SbeEffect s r) (sym (becomes_row s f typed (sbe-demands.edit ch) made fits t held s.next entry o p q z)) e
 
   request_effect : (f : Formed s) (ch : Change) → sbe-demands.RequestAsks r ch → Made s.held s.next no_tables ch
       → (fits : (carried_of s (sbe-demands.edit ch)).full ≡ false) → SbeEffect s r (carried_of s (sbe-demands.edit ch)).session
-  unfolding put_with accepted made_of with_timer timer_after entry_bytes entry_for bytes_of body_of takes_back timed timed_change inverse_of back_of tables_for kind_of
+  unfolding put_with made_of with_timer timer_after entry_bytes entry_for bytes_of body_of takes_back timed timed_change inverse_of back_of tables_for kind_of
   request_effect f ch (sbe-demands.starts n e) made fits = by_request f ch made fits _ _ _ refl refl (add-zero _) refl (start_deadman n e)
   request_effect f ch (sbe-demands.stops n e) made fits = by_request f ch made fits _ _ _ refl refl (add-zero _) refl (stop_deadman n e)
   request_effect f ch (sbe-demands.masks n) made fits = by_request f ch made fits _ _ _ refl refl (add-zero _) refl (set_mask n)
@@ -310,12 +308,12 @@ module _ (s : Session) (typed : TypedSession s) (r d m x : List ℕ) where
 
 module _ (s : Session) (x : Edit) where
   abbrev Shown : Session → Type 0
-  Shown t = (t.held ≡ (put_of s.held x).after) × (t.timer ≡ timer_after s.timer x.change)
+  Shown t = (t.held ≡ put_after s.held x) × (t.timer ≡ timer_after s.timer x.change)
 
   counted : (e : Edit) → adds e ≡ adds x → (carried_of s e).full ≡ false → Shown (carried_of s e).session
   counted e p fits =
       let same = same_edit e x p in
-      (carried_held s e fits ∙ ap (λ (y : Edit). (put_of s.held y).after) same, carried_timer s e fits ∙ ap (λ (y : Edit). timer_after s.timer y.change) same)
+      (carried_held s e fits ∙ ap (λ (y : Edit). put_after s.held y) same, carried_timer s e fits ∙ ap (λ (y : Edit). timer_after s.timer y.change) same)
 
   abbrev Showing : Said → Deed → Type 0
   Showing q e = e ≡ adds x → Shown q.session

@@ -10,7 +10,7 @@ use Rattle.std.proofs.lemmas.List.{replicate-append-replicate, drop-append-le}
 use Rattle.std.proofs.Math.Seq.{drop-append_seam}
 use Rattle.wire.proofs.laws.Cases.{else_b}
 use Rattle.record.specs.declared.Record.{Record}
-use Rattle.change.specs.Change.{put_of, inverse_of}
+use Rattle.change.specs.Change.{put_after, inverse_of}
 use Rattle.change.specs.declared.Edit.{Edit}
 use Rattle.formed.specs.Formed.{record_ok}
 use Rattle.entries.specs.Entries.{Entry, written, Scan, between, entries_of, scan}
@@ -77,7 +77,7 @@ newest_kept g (y ∷ l) e x low h =
 pub applied_append : (r : Record) (xs ys : List Edit) → applied r (xs ++ ys) ≡ applied (applied r ys) xs
 unfolding applied
 applied_append r [] ys = refl
-applied_append r (e ∷ xs) ys = ap (λ (x : Record). (put_of x e).after) (applied_append r xs ys)
+applied_append r (e ∷ xs) ys = ap (λ (x : Record). put_after x e) (applied_append r xs ys)
 
 pub whole_record : (r : Record) (g : ℕ) (es : List Edit) → applied (applied r (oldest_of g es)) (newer_than g es) ≡ applied r es
 whole_record r g es = sym (applied_append r (newer_than g es) (oldest_of g es)) ∙ ap (applied r) (two_parts g es)

@@ -1,5 +1,6 @@
 -- Document 02, g: what each side hears is what it would hear alone. Assumes nothing.
-use Rattle.std.specs.Prelude.{ℕ, ◌+◌, Bool, cond, not, ◌≡◌, ltb, leb, length, get_or}
+use Rattle.std.specs.Option.{unwrap_or}
+use Rattle.std.specs.Prelude.{ℕ, ◌+◌, Bool, cond, not, ◌≡◌, ltb, leb, length, get_or, Option, Some, None}
 use Rattle.std.proofs.Math.Bool.{true, false}
 use Rattle.std.proofs.Common.{true≢false, ◌∙◌, eqb-true}
 use Rattle.std.proofs.Math.Logic.{⊎_elim}
@@ -13,20 +14,17 @@ use Rattle.record.specs.Record.{fresh_record, worked_of}
 use Rattle.record.specs.declared.Record.{Record}
 use Rattle.record.specs.declared.Timer.{Timer}
 use Rattle.record.specs.declared.Worked.{Worked}
-use Rattle.change.specs.Change.{no_tables, accepted, refused, clear_of, unclear_of, reset_of, unreset_of, put_with, put_of, takes_back}
+use Rattle.change.specs.Change.{no_tables, clear_of, unclear_of, reset_of, unreset_of, put_with, put_of, put_after, takes_back}
 use Rattle.change.specs.Logs.{pending_of, pends_at}
 use Rattle.change.specs.With.{with_state, with_role, with_caps, with_throttles, with_user, with_thermal, with_logs, with_mask, with_deadman, with_areas}
 use Rattle.change.specs.declared.Change.{Change}
 use Rattle.change.specs.declared.Change.TheVariants.{Clear, Unclear, SetState, SetRole, SetCaps, SetUser, SetThermal, SetThrottles, Reset, Unreset, SetMask, SetDeadman, SetAreas, SetTimer}
-use Rattle.change.specs.declared.Changed.{Changed}
 use Rattle.change.specs.declared.Edit.{Edit}
 use Rattle.change.specs.declared.Tables.{Tables}
 use Rattle.change.proofs.laws.Timed.{NoTimer, timer_kept}
 use Rattle.packet.specs.Packet.{data_of, replied}
 use Rattle.poll.specs.Poll.{poll_data}
 use Rattle.journal.specs.Add.{end_of}
-use Rattle.journal.specs.declared.End.{End}
-use Rattle.journal.specs.declared.End.TheVariants.{At, Full}
 use Rattle.occ.specs.Judge.{type_judged, judge_of}
 use Rattle.occ.specs.Open.{open_in, by_profile}
 use Rattle.occ.proofs.laws.Open.{made_open}
@@ -85,21 +83,21 @@ fault_dry (Refuse status) r kind d = refl
 fault_dry Poll r kind d = refl
 fault_dry (Make ch) r kind d = refl
 
-abbrev Dries : Changed → Changed → Type 0
-Dries x y = dry x.after ≡ dry y.after
+abbrev Dries : Record → Option Record → Option Record → Type 0
+Dries r x y = dry (unwrap_or x r) ≡ dry (unwrap_or y (dry r))
 
-put_dry : (r : Record) (t : Tables) (ch : Change) → Dries (put_with r t ch) (put_with (dry r) t ch)
-unfolding put_with clear_of unclear_of reset_of unreset_of accepted refused dry with_state with_role with_caps with_throttles with_user with_thermal with_logs with_mask with_deadman with_areas
-put_dry r t (Clear place log) = by_both Dries (not (pends_at place log r.logs)) (λ f. refl) (λ f. refl)
-put_dry r t (Unclear place log) = by_both Dries (ltb (pending_of r.logs) place) (λ f. refl) (λ f. by_both Dries (leb 4 (pending_of r.logs)) (λ g. refl) (λ g. refl))
+put_dry : (r : Record) (t : Tables) (ch : Change) → Dries r (put_with r t ch) (put_with (dry r) t ch)
+unfolding put_with clear_of unclear_of reset_of unreset_of dry with_state with_role with_caps with_throttles with_user with_thermal with_logs with_mask with_deadman with_areas
+put_dry r t (Clear place log) = by_both (Dries r) (not (pends_at place log r.logs)) (λ f. refl) (λ f. refl)
+put_dry r t (Unclear place log) = by_both (Dries r) (ltb (pending_of r.logs) place) (λ f. refl) (λ f. by_both (Dries r) (leb 4 (pending_of r.logs)) (λ g. refl) (λ g. refl))
 put_dry r t (SetState state) = refl
 put_dry r t (SetRole got role) = refl
 put_dry r t (SetCaps got caps) = refl
 put_dry r t (SetUser user) = refl
 put_dry r t (SetThermal got) = refl
 put_dry r t (SetThrottles got) = refl
-put_dry r t (Reset log) = by_both Dries (eqb log.id 0) (λ f. refl) (λ f. by_both Dries (leb 4 (pending_of r.logs)) (λ g. refl) (λ g. refl))
-put_dry r t (Unreset state made) = by_both Dries (eqb made 0) (λ f. refl) (λ f. by_both Dries (eqb (pending_of r.logs) 0) (λ g. refl) (λ g. refl))
+put_dry r t (Reset log) = by_both (Dries r) (eqb log.id 0) (λ f. refl) (λ f. by_both (Dries r) (leb 4 (pending_of r.logs)) (λ g. refl) (λ g. refl))
+put_dry r t (Unreset state made) = by_both (Dries r) (eqb made 0) (λ f. refl) (λ f. by_both (Dries r) (eqb (pending_of r.logs) 0) (λ g. refl) (λ g. refl))
 put_dry r t (SetMask mask) = refl
 put_dry r t (SetDeadman deadman) = refl
 put_dry r t (SetAreas areas) = refl
@@ -128,9 +126,9 @@ module _ (s : Session) (ok : well_formed s ≡ true) (full : s.profile ≡ 0) (s
       ∙ sym (asked_dry s.held (worked_of (dry s.held)) s.next sender c)
 
   abbrev after_it : Edit → Bench
-  after_it e = record { held = dry (put_of b.held e).after; next = b.next + made_of e.change }
+  after_it e = record { held = dry (put_after b.held e); next = b.next + made_of e.change }
 
-  carried_at : (e : Edit) (used : ℕ) → bench_of (carried_to s e (At used)).session ≡ after_it e
+  carried_at : (e : Edit) (used : ℕ) → bench_of (carried_to s e (Some used)).session ≡ after_it e
   unfolding carried_to renewed with_timer bench_of put_of
   carried_at e used = ap (λ (r : Record). record { held = r; next = s.next + made_of e.change }) (put_dry s.held e.tables e.change)
 
@@ -138,9 +136,9 @@ module _ (s : Session) (ok : well_formed s ≡ true) (full : s.profile ≡ 0) (s
   unfolding carried_of carried_to
   carried_bench e f = go (end_of (length s.journal) s.used (takes_back s.held s.timer e)) f
     where
-      go : (x : End) → (carried_to s e x).full ≡ false → bench_of (carried_to s e x).session ≡ after_it e
-      go (At used) f = carried_at e used
-      go Full f = absurd (true≢false f)
+      go : (x : Option ℕ) → (carried_to s e x).full ≡ false → bench_of (carried_to s e x).session ≡ after_it e
+      go (Some used) f = carried_at e used
+      go None f = absurd (true≢false f)
 
   abbrev why_by : Verdict → Blame
   why_by v = occs.fault_for v s.held (get_or c 1 0) (data_of c)

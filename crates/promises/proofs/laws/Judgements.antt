@@ -1,5 +1,5 @@
 -- A command judged in both worlds: the same verdict but for ids, or the ids ended in the second. Assumes nothing.
-use Rattle.std.specs.Prelude.{ℕ, suc, ◌≤◌, ◌<◌, Bool, true, false, not, ◌⊎◌, ◌≡◌, List, [], ◌∷◌, map, ltb, eqb, length, take, drop}
+use Rattle.std.specs.Prelude.{ℕ, suc, ◌≤◌, ◌<◌, Bool, true, false, not, ◌⊎◌, ◌≡◌, List, [], ◌∷◌, map, ltb, eqb, length, take, drop, Option, Some, None}
 use Rattle.std.proofs.Math.Bool.{cond}
 use Rattle.std.proofs.Math.Logic.{inl, inr}
 use Rattle.std.proofs.Math.Path.{refl, sym, ap, subst}
@@ -26,7 +26,7 @@ use Rattle.occ.specs.Open.{open_to}
 use Rattle.occ.specs.declared.Verdict.{Verdict}
 use Rattle.occ.specs.declared.Verdict.TheVariants.{Refuse, Poll, Make}
 use Rattle.occ.specs.declared.Judged.{Judged}
-use Rattle.promises.proofs.laws.Shifted.{shifted_change, shifted_low, shifted_high, choose, no_log_lem, pending_shifted, find_shifted, get_shifted}
+use Rattle.promises.proofs.laws.Shifted.{shifted_change, shifted_low, shifted_high, no_log_lem, pending_shifted, find_shifted, get_shifted}
 use Rattle.promises.specs.Shifted.{shifted, shifted_log, shifted_record}
 use Rattle.packet.specs.Packet.{packet_status, data_of}
 use Rattle.occ_call.specs.Occ.{asked_for, asked_of}
@@ -141,12 +141,13 @@ module _ (k : ℕ) (low : 1 ≤ k) where
   abbrev f : Log → Log
   f = shifted_log k
 
-  at_shifted : (p : ℕ) (l : List Log) → clear_at p (map f l) ≡ shifted_verdict k (clear_at p l)
+  at_shifted : (o : Option ℕ) (l : List Log) → clear_at o (map f l) ≡ shifted_verdict k (clear_at o l)
   unfolding clear_at shifted_verdict shifted_change
-  at_shifted p l = choose (shifted_verdict k) {b = leb 4 p} {x = Refuse 0x13} {y = Make (Clear p (get_or l p no_log))} refl refl (ap (λ (x : Log). Make (Clear p x)) (get_shifted k low l p))
+  at_shifted None l = refl
+  at_shifted (Some p) l = ap (λ (x : Log). Make (Clear p x)) (get_shifted k low l p)
 
   clear_shifted : (i : ℕ) (l : List Log) → clear_at (find_of (shifted k i) (map f l)) (map f l) ≡ shifted_verdict k (clear_at (find_of i l) l)
-  clear_shifted i l = ap (λ (p : ℕ). clear_at p (map f l)) (find_shifted k low i l) ∙ at_shifted (find_of i l) l
+  clear_shifted i l = ap (λ (o : Option ℕ). clear_at o (map f l)) (find_shifted k low i l) ∙ at_shifted (find_of i l) l
 
   -- an id below k is the same in both
   clear_same : (l : List Log) (d : List ℕ) → (length d ≡ 1 → get_or d 0 0 < k) → clear_verdict (map f l) d ≡ shifted_verdict k (clear_verdict l d)

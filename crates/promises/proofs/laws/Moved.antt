@@ -1,5 +1,5 @@
 -- The bytes that undo and redo put into the other store, row by row. Assumes nothing.
-use Rattle.std.specs.Prelude.{ℕ, ◌≤◌, Bool, true, false, List, [], ◌∷◌, ◌≡◌, eqb, take, drop}
+use Rattle.std.specs.Prelude.{ℕ, ◌≤◌, Bool, true, false, List, [], ◌∷◌, ◌≡◌, eqb, take, drop, Option, Some, None}
 use Rattle.std.proofs.Common.{⊎_elim, subst, ◌∙◌, arith}
 use Rattle.std.proofs.Math.Path.{refl, sym}
 use borrow.Author.Tests.{eqb-true, eqb-false}
@@ -19,8 +19,6 @@ use Rattle.change.specs.declared.Edit.{Edit}
 use Rattle.entries.specs.Entries.{bytes_of}
 use Rattle.journal.specs.Bytes.{cleared_body, body_of, entry_for}
 use Rattle.journal.specs.Read.{cleared_as, reset_as, found_for}
-use Rattle.journal.specs.declared.Found.{Found}
-use Rattle.journal.specs.declared.Found.TheVariants.{Good, Bad}
 use Rattle.journal.specs.declared.Way.{Way}
 use Rattle.journal.specs.declared.Way.TheVariants.{Before, After}
 use Rattle.promises.specs.Demand2.{GoesIn}
@@ -32,11 +30,11 @@ module _ (r : Record) (t : Timer) where
   back_bytes tables ch = bytes_of (entry_for (takes_back r t (record { change = ch; tables = tables })))
 
   -- what is found says, of a change that goes in, which row holds
-  abbrev Row : Way → ℕ → List ℕ → Found → Type 0
-  Row w k b (Good ch) = (tables : Tables) → GoesIn r ch → EntryMoved r t w k b (back_bytes tables ch)
-  Row w k b Bad = Unit {0}
+  abbrev Row : Way → ℕ → List ℕ → Option Change → Type 0
+  Row w k b (Some ch) = (tables : Tables) → GoesIn r ch → EntryMoved r t w k b (back_bytes tables ch)
+  Row w k b None = Unit {0}
 
-  clear_row : (w : Way) (b : List ℕ) → Row w 0x01 b (Good (cleared_as w (get_or b 0 0) (record { id = get_or b 1 0; reason = get_or b 2 0 })))
+  clear_row : (w : Way) (b : List ℕ) → Row w 0x01 b (Some (cleared_as w (get_or b 0 0) (record { id = get_or b 1 0; reason = get_or b 2 0 })))
   unfolding cleared_as entry_for bytes_of takes_back timed timed_change inverse_of back_of kind_of body_of cleared_body
   clear_row Before b tables g = clear_over Before b
   clear_row After b tables g = clear_over After b
@@ -73,7 +71,7 @@ module _ (r : Record) (t : Timer) where
       cond_cases (λ (n : ℕ). EntryMoved r t After 0x08 b (0x08 ∷ r.state ∷ n ∷ [])) (eqb log.id 0)
       (λ e. reset_redone b (sym same ∙ eqb-true log.id 0 e)) (λ e. logged_redone b (λ z. eqb-false log.id 0 e (same ∙ z)))
 
-  reset_row : (w : Way) (b : List ℕ) → Row w 0x08 b (Good (reset_as w (get_or b 0 0) (get_or b 1 0)))
+  reset_row : (w : Way) (b : List ℕ) → Row w 0x08 b (Some (reset_as w (get_or b 0 0) (get_or b 1 0)))
   unfolding reset_as entry_for bytes_of takes_back timed timed_change inverse_of back_of kind_of body_of
   reset_row Before b tables g = undone_row b g
   reset_row After b tables g = redone_row b (record { id = get_or b 0 0; reason = get_or b 1 0 }) refl
@@ -82,13 +80,13 @@ module _ (r : Record) (t : Timer) where
   over : (w : Way) (n k : ℕ) (b y : List ℕ) → k ≡ n → (n ≡ 0x01 → ⊥) → (n ≡ 0x08 → ⊥) → (n ≡ 0x0C → ⊥) → y ≡ n ∷ values_of r n → EntryMoved r t w k b y
   over w n k b y e p q x h = subst (λ (m : ℕ). EntryMoved r t w m b y) (sym e) (subst (EntryMoved r t w n b) (sym h) (values_over w n b p q x))
 
-  at_kind : (w : Way) (k n : ℕ) (b : List ℕ) (ch : Change) → k ≡ n → Row w n b (Good ch) → Row w k b (Good ch)
+  at_kind : (w : Way) (k n : ℕ) (b : List ℕ) (ch : Change) → k ≡ n → Row w n b (Some ch) → Row w k b (Some ch)
   at_kind w k n b ch e h = λ tables g. subst (λ (m : ℕ). EntryMoved r t w m b (back_bytes tables ch)) (sym e) (h tables g)
 
   found_moved : (w : Way) (k : ℕ) (b : List ℕ) → Row w k b (found_for w k b)
   unfolding found_for entry_for bytes_of takes_back timed timed_change inverse_of back_of tables_for kind_of body_of values_of
   found_moved w k b =
-      let P : Found → Type 0 = Row w k b in
+      let P : Option Change → Type 0 = Row w k b in
       cond_cases P (eqb k 0x01) (λ e. at_kind w k 0x01 b (cleared_as w (get_or b 0 0) (record { id = get_or b 1 0; reason = get_or b 2 0 })) (eqb-true k 0x01 e) (clear_row w b))
       (λ _. cond_cases P (eqb k 0x02) (λ e tables g. over w 0x02 k b _ (eqb-true k 0x02 e) (λ z. omega (arith, z)) (λ z. omega (arith, z)) (λ z. omega (arith, z)) refl)
       (λ _. cond_cases P (eqb k 0x03) (λ e tables g. over w 0x03 k b _ (eqb-true k 0x03 e) (λ z. omega (arith, z)) (λ z. omega (arith, z)) (λ z. omega (arith, z)) refl)
@@ -103,5 +101,5 @@ module _ (r : Record) (t : Timer) where
       (λ _. cond_cases P (eqb k 0x0C) (λ e. at_kind w k 0x0C b (SetTimer (record { running = get_or b 0 0; left = be_nat (take 8 (drop 1 b)) })) (eqb-true k 0x0C e) (λ tables g. timer_over w b))
       (λ _. tt))))))))))))
 
-  pub entry_moved : (w : Way) (k : ℕ) (b : List ℕ) (e : Edit) → found_for w k b ≡ Good e.change → GoesIn r e.change → EntryMoved r t w k b (bytes_of (entry_for (takes_back r t e)))
+  pub entry_moved : (w : Way) (k : ℕ) (b : List ℕ) (e : Edit) → found_for w k b ≡ Some e.change → GoesIn r e.change → EntryMoved r t w k b (bytes_of (entry_for (takes_back r t e)))
   entry_moved w k b e found g = subst (Row w k b) found (found_moved w k b) e.tables g

@@ -1,12 +1,12 @@
 -- What an accepted undo or redo does: the newest entry leaves its store, and what takes it back has room in the other one. Assumes nothing.
-use Rattle.std.specs.Prelude.{ℕ, ◌+◌, ◌≤◌, true, ◌≡◌, [], ◌∷◌, length, take}
+use Rattle.std.specs.Prelude.{ℕ, ◌+◌, ◌≤◌, true, ◌≡◌, [], ◌∷◌, length, take, Option}
 use Rattle.std.proofs.Math.Path.{refl, sym}
 use Rattle.std.proofs.Common.{ap, subst, ◌∙◌, arith}
 use Rattle.wire.specs.Conditions.{◌and◌}
 use Rattle.wire.specs.Wire.{pasted}
 use Rattle.record.specs.declared.Record.{Record}
 use Rattle.record.specs.declared.Timer.{Timer}
-use Rattle.change.specs.Change.{kind_of, put_of, back_of, inverse_of, timed, takes_back, timer_after}
+use Rattle.change.specs.Change.{kind_of, put_after, back_of, inverse_of, timed, takes_back, timer_after}
 use Rattle.change.specs.declared.Change.{Change}
 use Rattle.change.specs.declared.Change.TheVariants.{SetTimer}
 use Rattle.change.specs.declared.Edit.{Edit}
@@ -18,7 +18,6 @@ use Rattle.journal.specs.Bytes.{entry_for, entry_bytes}
 use Rattle.journal.specs.Read.{values_ok, entry_ok}
 use Rattle.journal.specs.Add.{entry_len}
 use Rattle.journal.specs.Ways.{by_way, other}
-use Rattle.journal.specs.declared.Found.{Found}
 use Rattle.journal.specs.declared.Way.{Way}
 use Rattle.journal.specs.declared.Way.TheVariants.{Before, After}
 use Rattle.journal.proofs.laws.Bodies.{Writable}
@@ -111,7 +110,7 @@ module _ (w : Way) (s : Session) (f : Formed s) (e : Edit) (n : Newest w s e) wh
 
   -- what the entry says is of its kind, and one of the changes that its store holds
   says : (kind_of e.change ≡ n.entry.kind) × Holds w e.change
-  says = subst (λ (x : Found). Says w n.entry.kind x) n.change (found_says w n.entry.kind n.entry.body)
+  says = subst (λ (x : Option Change). Says w n.entry.kind x) n.change (found_says w n.entry.kind n.entry.body)
 
   same_kind : kind_of back.change ≡ n.entry.kind
   unfolding takes_back timed inverse_of
@@ -170,7 +169,7 @@ module _ (w : Way) (s : Session) (f : Formed s) (e : Edit) (n : Newest w s e) wh
         (omega (arith, room, long_store s typed (other w)))
 
     -- k: the entry that comes has the kind of the one that goes
-    both_clear : only_clears (entries_in s.used s.journal) ≡ true → only_clears (entries_in s.ahead s.redo) ≡ true → BothClear s at e (put_of s.held e).after w
+    both_clear : only_clears (entries_in s.used s.journal) ≡ true → only_clears (entries_in s.ahead s.redo) ≡ true → BothClear s at e (put_after s.held e) w
     unfolding lessened grown grown_to entry_for
     both_clear j r =
         let from = less_clears w (store_of w s) (used_of w s) store n.entry n.older n.read (clear_of_lem s w j r) in (
@@ -179,9 +178,9 @@ module _ (w : Way) (s : Session) (f : Formed s) (e : Edit) (n : Newest w s e) wh
               (omega (arith, room, long_store s typed (other w))) (same_kind ∙ from.0) (clear_of_lem s (other w) j r),
         )
 
-    pub moved_formed : record_ok (put_of s.held e).after s.next ≡ true → well_formed (settled s [] (moves w at e)).session ≡ true
+    pub moved_formed : record_ok (put_after s.held e) s.next ≡ true → well_formed (settled s [] (moves w at e)).session ≡ true
     unfolding settled done
-    moved_formed ok = stores_formed s at e (put_of s.held e).after w ok timer_passes (omega (arith, sum_stays, both_used s f w)) less more f.profile_is both_clear
+    moved_formed ok = stores_formed s at e (put_after s.held e) w ok timer_passes (omega (arith, sum_stays, both_used s f w)) less more f.profile_is both_clear
 
     moved_effect : GoesIn s.held e.change → MoveEffect w s (settled s [] (moves w at e))
     unfolding settled done lessened grown_to
@@ -194,7 +193,7 @@ module _ (w : Way) (s : Session) (f : Formed s) (e : Edit) (n : Newest w s e) wh
           moved = bytes_of (entry_back s e);
           moved_is = entry_moved s.held s.timer w n.entry.kind n.entry.body e n.change goes_in;
           same_length = back_bytes_lem ∙ back_long;
-          session_is = stores_moved s at e (put_of s.held e).after w (cut_zeroed (store_of w s) at (used_of w s) low store.fits) (ap (λ (m : ℕ). used_of (other w) s + m) (sym back_bytes_lem));
+          session_is = stores_moved s at e (put_after s.held e) w (cut_zeroed (store_of w s) at (used_of w s) low store.fits) (ap (λ (m : ℕ). used_of (other w) s + m) (sym back_bytes_lem));
         }
 
     bytes_fit : used_of (other w) s + length (bytes_of (entry_back s e)) ≤ 2048
@@ -222,7 +221,7 @@ module _ (w : Way) (s : Session) (typed : TypedSession s) where
   used_stay a (ill_formed h) = refl
   used_stay a (empty x h) = refl
   used_stay a (barred x e n bar) = refl
-  used_stay a (goes x e n u) = stores_used s (length (written n.older)) e (put_of s.held e).after w (sum_stays w s (formed s x) e n)
+  used_stay a (goes x e n u) = stores_used s (length (written n.older)) e (put_after s.held e) w (sum_stays w s (formed s x) e n)
 
   pub room_left : well_formed s ≡ true → (e : Edit) → Newest w s e
       → (used_of (other w) s + length (bytes_of (entry_back s e)) ≤ 2048) and ((move_call w s).session.used + (move_call w s).session.ahead ≡ s.used + s.ahead)

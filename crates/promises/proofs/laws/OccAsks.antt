@@ -1,5 +1,5 @@
 -- What each OCC command asks for, with what is known of it where it is accepted. Assumes nothing.
-use Rattle.std.specs.Prelude.{ℕ, ◌*◌, ◌<◌, ◌≤◌, false, not, ◌≡◌, List, eqb, ltb, leb, length, take, drop, replicate}
+use Rattle.std.specs.Prelude.{ℕ, ◌*◌, ◌<◌, ◌≤◌, false, not, ◌≡◌, List, eqb, ltb, leb, length, take, drop, replicate, Option, Some, None}
 use Rattle.std.proofs.Math.Bool.{true≢false}
 use Rattle.std.proofs.Math.Path.{refl}
 use Rattle.std.proofs.Common.{sym, ap, ◌∙◌, arith, length-drop}
@@ -31,13 +31,10 @@ use Rattle.promises.specs.Demand2.{kind_for}
 use Rattle.promises.specs.Effects.{LogDue}
 
 module _ (r : Record) (next type : ℕ) (d : List ℕ) where
-  abbrev pub place : ℕ
-  place = find_of (get_or d 0 0) r.logs
-
   pub data CommandAsks : Verdict → Tables → Type 0 where
     refuses : (n : ℕ) → CommandAsks (Refuse n) no_tables
     polls : type ≡ 0x00 → CommandAsks Poll no_tables
-    clears : type ≡ 0x12 → place < 4 → CommandAsks (Make (Clear place (get_or r.logs place no_log))) no_tables
+    clears : type ≡ 0x12 → (place : ℕ) → find_of (get_or d 0 0) r.logs ≡ Some place → CommandAsks (Make (Clear place (get_or r.logs place no_log))) no_tables
     sets_state : type ≡ 0x20 → CommandAsks (Make (SetState (get_or d 1 0))) no_tables
     sets_role : type ≡ 0x21 → get_or d 0 0 ≡ 0x03 → CommandAsks (Make (SetRole 1 (get_or d 1 0))) no_tables
     sets_caps : type ≡ 0x21 → get_or d 0 0 ≡ 0x07 → CommandAsks (Make (SetCaps 1 (sent_caps d))) no_tables
@@ -63,7 +60,11 @@ module _ (r : Record) (next type : ℕ) (d : List ℕ) where
   unfolding clear_verdict clear_at
   clear_asks e =
       cond_elim Plainly (not (eqb (length d) 1)) (refuses 0x12)
-      (cond_cases Plainly (leb 4 place) (λ f. refuses 0x13) (λ f. clears e (leb-false 4 place f)))
+      (by_place (find_of (get_or d 0 0) r.logs) refl)
+    where
+      by_place : (o : Option ℕ) → find_of (get_or d 0 0) r.logs ≡ o → Plainly (clear_at o r.logs)
+      by_place None q = refuses 0x13
+      by_place (Some place) q = clears e place q
 
   state_asks : (w : Worked) → type ≡ 0x20 → Plainly (state_verdict w d)
   unfolding state_verdict
@@ -175,7 +176,7 @@ module _ (r : Record) (next type : ℕ) (d : List ℕ) where
 
   pub made_kind : (ch : Change) (t : Tables) → CommandAsks (Make ch) t → Kind ch
   unfolding kind_for kind_of
-  made_kind ch t (clears e l) = by_type 0x12 0x01 e (λ z. omega arith) refl
+  made_kind ch t (clears e place is) = by_type 0x12 0x01 e (λ z. omega arith) refl
   made_kind ch t (sets_state e) = by_type 0x20 0x02 e (λ z. omega arith) refl
   made_kind ch t (sets_role e f) = by_format 0x03 0x03 e f refl
   made_kind ch t (sets_caps e f) = by_format 0x07 0x04 e f refl

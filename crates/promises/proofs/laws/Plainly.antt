@@ -1,5 +1,5 @@
 -- Well formed in plain conditions is what the calls test. Assumes nothing.
-use Rattle.std.specs.Prelude.{ℕ, zero, suc, ◌+◌, ◌/◌, ◌%◌, ◌^◌, ◌≤◌, ◌<◌, Bool, true, false, cond, not, ◌↔◌, ◌≡◌, refl, take, drop}
+use Rattle.std.specs.Prelude.{ℕ, zero, suc, ◌+◌, ◌/◌, ◌%◌, ◌^◌, ◌≤◌, ◌<◌, Bool, true, false, cond, not, ◌↔◌, ◌≡◌, refl, take, drop, Option, Some, None}
 use Rattle.std.proofs.lemmas.Bool.{false≢true}
 use mathlib.Core.List.{List, [], ◌∷◌}
 use Rattle.std.proofs.Common.{inl, inr, ⊎_elim, sym, subst, ◌∙◌}
@@ -24,8 +24,6 @@ use Rattle.entries.specs.Entries.{Entry, between, written, scan_from, scan_by, e
 use Rattle.marks.specs.Marks.{marks_of}
 use Rattle.entries.proofs.laws.Entries.{Proper, read_append, scan_written, scan_proper}
 use Rattle.journal.specs.Read.{found_for, tables_in, values_ok, entry_ok, all_ok, scan_ok, entries_ok}
-use Rattle.journal.specs.declared.Found.{Found}
-use Rattle.journal.specs.declared.Found.TheVariants.{Good, Bad}
 use Rattle.journal.specs.declared.Way.{Way}
 use Rattle.journal.specs.declared.Way.TheVariants.{Before, After}
 use Rattle.session.specs.Session.{entries_in, only_clears, well_formed}
@@ -168,10 +166,10 @@ change_exactly t (SetDeadman deadman) = deadman_exactly deadman
 change_exactly t (SetAreas areas) = areas_exactly areas
 change_exactly t (SetTimer timer) = timer_exactly timer
 
-says_exactly : (t : Tables) (x : Found) → Holds (values_ok t x) (SaysWell t x)
+says_exactly : (t : Tables) (x : Option Change) → Holds (values_ok t x) (SaysWell t x)
 unfolding values_ok
-says_exactly t (Good ch) = change_exactly t ch
-says_exactly t Bad = (λ h. false≢true h, λ h. absurd h)
+says_exactly t (Some ch) = change_exactly t ch
+says_exactly t None = (λ h. false≢true h, λ h. absurd h)
 
 -- ---- a store
 

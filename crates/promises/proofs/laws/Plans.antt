@@ -1,5 +1,5 @@
 -- Document 02, l: the check accepts exactly the orders that lead to the wanted state, and the search finds the least of them. Assumes nothing.
-use Rattle.std.specs.Prelude.{ℕ, ◌+◌, ◌-◌, ◌*◌, ◌≤◌, Bool, cond, ◌↔◌, ◌≡◌, ltb, eqb, length, get_or, drop}
+use Rattle.std.specs.Prelude.{ℕ, ◌+◌, ◌-◌, ◌*◌, ◌≤◌, Bool, cond, ◌↔◌, ◌≡◌, ltb, eqb, length, get_or, drop, Option, Some, None}
 use Rattle.std.proofs.Math.Bool.{true, false, not, true≢false}
 use Rattle.std.proofs.lemmas.Bool.{false≢true}
 use Rattle.std.proofs.Math.Logic.{inl}
@@ -17,12 +17,10 @@ use Rattle.wire.proofs.laws.Wire.{bytes_take, bytes_drop}
 use Rattle.record.specs.Record.{worked_of}
 use Rattle.record.specs.declared.Record.{Record}
 use Rattle.record.specs.declared.Worked.{Worked}
-use Rattle.change.specs.Change.{kind_of, put_of, takes_back}
+use Rattle.change.specs.Change.{kind_of, put_after, takes_back}
 use Rattle.change.specs.declared.Edit.{Edit}
 use Rattle.marks.proofs.laws.Marks.{length_marks}
 use Rattle.journal.specs.Add.{entry_len, end_of}
-use Rattle.journal.specs.declared.End.{End}
-use Rattle.journal.specs.declared.End.TheVariants.{At, Full}
 use Rattle.journal.specs.declared.Way.TheVariants.{Before, After}
 use Rattle.journal.proofs.Parts.{body_short}
 use Rattle.packet.specs.Packet.{packet_status, data_of}
@@ -100,20 +98,20 @@ end_short : (s : Session) (e b : Edit) (n : ℕ) → (carried_to s e (end_of n s
 unfolding end_of carried_to renewed with_timer
 end_short s e b n = go (ltb n s.used) (ltb (n - s.used) (entry_len b))
   where
-    go : (x y : Bool) → (carried_to s e (cond x Full (cond y Full (At (s.used + entry_len b))))).session.used ≤ s.used + 164
+    go : (x y : Bool) → (carried_to s e (cond x None (cond y None (Some (s.used + entry_len b))))).session.used ≤ s.used + 164
     go true y = omega arith
     go false true = omega arith
     go false false = omega (arith, body_short (kind_of b.change))
 
 module _ (s : Session) (e : Edit) where
   abbrev made : Trial
-  made = record { ok = true; held = (put_of s.held e).after; next = s.next + made_of e.change }
+  made = record { ok = true; held = put_after s.held e; next = s.next + made_of e.change }
 
   carried_short : (carried_of s e).session.used ≤ s.used + 164
   unfolding carried_of
   carried_short = end_short s e (takes_back s.held s.timer e) (length s.journal)
 
-  carried_at : (used : ℕ) → start_of (carried_to s e (At used)).session ≡ made
+  carried_at : (used : ℕ) → start_of (carried_to s e (Some used)).session ≡ made
   unfolding start_of carried_to renewed with_timer
   carried_at used = refl
 
@@ -121,9 +119,9 @@ module _ (s : Session) (e : Edit) where
   unfolding carried_of carried_to
   carried_start f = go (end_of (length s.journal) s.used (takes_back s.held s.timer e)) f
     where
-      go : (x : End) → (carried_to s e x).full ≡ false → start_of (carried_to s e x).session ≡ made
-      go (At used) f = carried_at used
-      go Full f = absurd (true≢false f)
+      go : (x : Option ℕ) → (carried_to s e x).full ≡ false → start_of (carried_to s e x).session ≡ made
+      go (Some used) f = carried_at used
+      go None f = absurd (true≢false f)
 
 -- ---- one packet, on a well-formed full session with room for an entry, and tried on its record and next id
 

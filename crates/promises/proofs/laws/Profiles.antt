@@ -1,5 +1,5 @@
 -- Document 02, k: "The profile is fixed at opening and no undo alters it": no call but an opening does. Assumes nothing.
-use Rattle.std.specs.Prelude.{ℕ, not, ◌≡◌, List, [], ◌∷◌, ltb, length}
+use Rattle.std.specs.Prelude.{ℕ, not, ◌≡◌, List, [], ◌∷◌, ltb, length, Option, Some, None}
 use Rattle.std.proofs.Math.Path.{refl}
 use Rattle.std.proofs.Common.{◌∙◌, arith}
 use Rattle.wire.proofs.laws.Cases.{cond_elim}
@@ -8,8 +8,6 @@ use Rattle.change.specs.declared.Change.{Change}
 use Rattle.change.specs.declared.Change.TheVariants.{Clear, Unclear, SetState, SetRole, SetCaps, SetUser, SetThermal, SetThrottles, Reset, Unreset, SetMask, SetDeadman, SetAreas, SetTimer}
 use Rattle.change.specs.declared.Edit.{Edit}
 use Rattle.journal.specs.Add.{end_of}
-use Rattle.journal.specs.declared.End.{End}
-use Rattle.journal.specs.declared.End.TheVariants.{At, Full}
 use Rattle.journal.specs.declared.Way.{Way}
 use Rattle.journal.specs.declared.Way.TheVariants.{Before, After}
 use Rattle.session.specs.Session.{well_formed, made_of, renewed, with_timer, carried_to, carried_of}
@@ -42,9 +40,9 @@ module _ (s : Session) where
   unfolding carried_of carried_to renewed with_timer
   carried_profile e = go (end_of (length s.journal) s.used (takes_back s.held s.timer e))
     where
-      go : (x : End) → (carried_to s e x).session.profile ≡ s.profile
-      go (At used) = refl
-      go Full = refl
+      go : (x : Option ℕ) → (carried_to s e x).session.profile ≡ s.profile
+      go (Some used) = refl
+      go None = refl
 
   abbrev Kept : Said → Type 0
   Kept q = q.session.profile ≡ s.profile

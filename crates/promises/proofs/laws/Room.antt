@@ -1,5 +1,5 @@
 -- The room that an entry has: what answer 5's test shows of it. Assumes nothing.
-use Rattle.std.specs.Prelude.{ℕ, ◌+◌, ◌-◌, ◌≤◌, ◌<◌, Bool, true, false, cond, ◌≡◌, refl, ltb, length}
+use Rattle.std.specs.Prelude.{ℕ, ◌+◌, ◌-◌, ◌≤◌, ◌<◌, Bool, true, false, cond, ◌≡◌, refl, ltb, length, Some, None}
 use Rattle.std.proofs.lemmas.Bool.{false≢true}
 use Rattle.std.proofs.Common.{true≢false, ◌∙◌, arith, ltb-true, ltb-false}
 use Rattle.std.proofs.Math.Path.{ap}
@@ -7,7 +7,6 @@ use Rattle.change.specs.Change.{kind_of, back_of, inverse_of, timed, takes_back}
 use Rattle.change.specs.declared.Edit.{Edit}
 use Rattle.entries.specs.Entries.{body_len}
 use Rattle.journal.specs.Add.{entry_len, end_of}
-use Rattle.journal.specs.declared.End.TheVariants.{At, Full}
 use Rattle.session.specs.Session.{renewed, with_timer, carried_to, carried_of}
 use Rattle.session.specs.declared.Session.{Session}
 use Rattle.change.proofs.laws.Timed.{kind_of_back, timed_kind}
@@ -19,7 +18,7 @@ pub end_room : (s : Session) (e b : Edit) (n used : ℕ) → (carried_to s e (en
 unfolding end_of carried_to
 end_room s e b n used f = go (ltb n used) (ltb (n - used) (entry_len b)) refl refl f
   where
-    go : (x y : Bool) → ltb n used ≡ x → ltb (n - used) (entry_len b) ≡ y → (carried_to s e (cond x Full (cond y Full (At (used + entry_len b))))).full ≡ false → used + entry_len b ≤ n
+    go : (x y : Bool) → ltb n used ≡ x → ltb (n - used) (entry_len b) ≡ y → (carried_to s e (cond x None (cond y None (Some (used + entry_len b))))).full ≡ false → used + entry_len b ≤ n
     go true y p q f = absurd (true≢false f)
     go false true p q f = absurd (true≢false f)
     go false false p q f = omega (arith, ltb-false n used p, ltb-false (n - used) (entry_len b) q)
@@ -29,7 +28,7 @@ end_full : (s : Session) (e b : Edit) (n used : ℕ) → (carried_to s e (end_of
 unfolding end_of carried_to
 end_full s e b n used f = go (ltb n used) (ltb (n - used) (entry_len b)) refl refl f
   where
-    go : (x y : Bool) → ltb n used ≡ x → ltb (n - used) (entry_len b) ≡ y → (carried_to s e (cond x Full (cond y Full (At (used + entry_len b))))).full ≡ true → n < used + entry_len b
+    go : (x y : Bool) → ltb n used ≡ x → ltb (n - used) (entry_len b) ≡ y → (carried_to s e (cond x None (cond y None (Some (used + entry_len b))))).full ≡ true → n < used + entry_len b
     go true y p q f = omega (arith, ltb-true n used p)
     go false true p q f = omega (arith, ltb-true (n - used) (entry_len b) q)
     go false false p q f = absurd (false≢true f)
@@ -39,8 +38,8 @@ end_longer : (s : Session) (e b : Edit) (n : ℕ) → (carried_to s e (end_of n 
 unfolding end_of carried_to renewed with_timer
 end_longer s e b n f = go (ltb n s.used) (ltb (n - s.used) (entry_len b)) f
   where
-    go : (x y : Bool) → (carried_to s e (cond x Full (cond y Full (At (s.used + entry_len b))))).full ≡ false
-        → s.used < (carried_to s e (cond x Full (cond y Full (At (s.used + entry_len b))))).session.used
+    go : (x y : Bool) → (carried_to s e (cond x None (cond y None (Some (s.used + entry_len b))))).full ≡ false
+        → s.used < (carried_to s e (cond x None (cond y None (Some (s.used + entry_len b))))).session.used
     go true y f = absurd (true≢false f)
     go false true f = absurd (true≢false f)
     go false false f = omega arith

@@ -1,5 +1,5 @@
 -- What comes of a call on two sessions that have the same room for a change: the same is said where the same is asked. Assumes nothing.
-use Rattle.std.specs.Prelude.{ℕ, ◌+◌, ◌-◌, Bool, true, false, ◌≡◌, List, ltb, length}
+use Rattle.std.specs.Prelude.{ℕ, ◌+◌, ◌-◌, Bool, true, false, ◌≡◌, List, ltb, length, Some, None}
 use Rattle.std.proofs.Math.Bool.{cond}
 use Rattle.std.proofs.Math.Path.{refl, ap}
 use Rattle.std.proofs.Common.{◌∙◌}
@@ -8,7 +8,6 @@ use Rattle.change.specs.Change.{kind_of, back_of, inverse_of, timed, takes_back}
 use Rattle.change.specs.declared.Edit.{Edit}
 use Rattle.entries.specs.Entries.{body_len}
 use Rattle.journal.specs.Add.{entry_len, end_of}
-use Rattle.journal.specs.declared.End.TheVariants.{At, Full}
 use Rattle.session.specs.Session.{carried_to, carried_of}
 use Rattle.session.specs.Road.{Asks, refuses, tells, makes, moves, forgets, passes, opens, timer_bell, Said, kept, done, carried_says, settled}
 use Rattle.session.specs.declared.Session.{Session}
@@ -25,7 +24,7 @@ full_by_end : (s : Session) (e b : Edit) (n used : ℕ) → (carried_to s e (end
 unfolding end_of carried_to no_room
 full_by_end s e b n used = go (ltb n used) (ltb (n - used) (entry_len b))
   where
-    go : (x y : Bool) → (carried_to s e (cond x Full (cond y Full (At (used + entry_len b))))).full ≡ cond x true (cond y true false)
+    go : (x y : Bool) → (carried_to s e (cond x None (cond y None (Some (used + entry_len b))))).full ≡ cond x true (cond y true false)
     go true y = refl
     go false true = refl
     go false false = refl

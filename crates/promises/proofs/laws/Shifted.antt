@@ -1,6 +1,8 @@
 -- Two worlds that differ in log ids only: ids from k on are one higher in the second. What logs, records and changes come to there. Assumes nothing.
+use Rattle.std.proofs.lemmas.List.{length-map}
+use Rattle.std.specs.List.{position_or_len}
 use Prim.Native.Nat.{ℕ, zero, suc, ◌-◌, ◌≤◌, ◌<◌}
-use Rattle.std.specs.Prelude.{Bool, true, ◌≡◌, leb}
+use Rattle.std.specs.Prelude.{Bool, true, ◌≡◌, leb, Option, Some, None, ◌+◌}
 use Rattle.std.proofs.Math.Bool.{false, cond, not}
 use Rattle.std.proofs.Math.Path.{refl, sym, ap, ap₂}
 use Rattle.std.proofs.Common.{◌∙◌, arith}
@@ -13,13 +15,13 @@ use Rattle.record.specs.Record.{no_log}
 use Rattle.record.specs.declared.Log.{Log}
 use Rattle.record.specs.declared.Record.{Record}
 use Rattle.record.specs.declared.Timer.{Timer}
-use Rattle.change.specs.Logs.{pending_of, first_with, find_of, remove_at, insert_at, pends_at}
+use Rattle.change.specs.Logs.{pending_of, find_of, remove_at, insert_at, pends_at}
 use Rattle.change.specs.With.{with_state, with_role, with_caps, with_throttles, with_user, with_thermal, with_logs, with_mask, with_deadman, with_areas}
-use Rattle.change.specs.Change.{accepted, refused, clear_of, unclear_of, reset_of, unreset_of, put_with, put_of, made_by, kind_of, timed_change, timed, timer_after}
+use Rattle.std.specs.Option.{unwrap_or}
+use Rattle.change.specs.Change.{clear_of, unclear_of, reset_of, unreset_of, put_with, put_of, made_by, kind_of, timed_change, timed, timer_after}
 use Rattle.change.proofs.laws.Timed.{by_timer, timer_kept, timed_cases, timed_other}
 use Rattle.change.specs.declared.Change.{Change}
 use Rattle.change.specs.declared.Change.TheVariants.{Clear, Unclear, SetState, SetRole, SetCaps, SetUser, SetThermal, SetThrottles, Reset, Unreset, SetMask, SetDeadman, SetAreas, SetTimer}
-use Rattle.change.specs.declared.Changed.{Changed}
 use Rattle.change.specs.declared.Edit.{Edit}
 use Rattle.change.specs.declared.Tables.{Tables}
 use Rattle.session.specs.Session.{made_of}
@@ -47,8 +49,9 @@ shifted_change k (SetTimer timer) = SetTimer timer
 unfoldable pub shifted_edit : ℕ → Edit → Edit
 shifted_edit k e = record { change = shifted_change k e.change; tables = e.tables }
 
-unfoldable shifted_put : ℕ → Changed → Changed
-shifted_put k p = record { ok = p.ok; after = shifted_record k p.after }
+unfoldable shifted_put : ℕ → Option Record → Option Record
+shifted_put k None = None
+shifted_put k (Some after) = Some (shifted_record k after)
 
 -- ---- ids
 
@@ -137,14 +140,15 @@ module _ (k : ℕ) (low : 1 ≤ k) where
   pending_shifted [] = refl
   pending_shifted (x ∷ l) = ap₂ (λ (b : Bool) (n : ℕ). cond b 0 (suc n)) (used_test x.id) (pending_shifted l)
 
-  first_shifted : (i : ℕ) (l : List Log) → first_with (shifted k i) (map f l) ≡ first_with i l
-  unfolding first_with shifted_log
+  first_shifted : (i : ℕ) (l : List Log) → position_or_len (λ (x : Log). eqb x.id (shifted k i)) (map f l) ≡ position_or_len (λ (x : Log). eqb x.id i) l
+  unfolding shifted_log
   first_shifted i [] = refl
-  first_shifted i (x ∷ l) = ap₂ (λ (b : Bool) (n : ℕ). cond b 0 (suc n)) (id_test x.id i) (first_shifted i l)
+  first_shifted i (x ∷ l) = ap₂ (λ (b : Bool) (n : ℕ). cond (not b) (1 + n) 0) (id_test x.id i) (first_shifted i l)
 
   pub find_shifted : (i : ℕ) (l : List Log) → find_of (shifted k i) (map f l) ≡ find_of i l
   unfolding find_of
-  find_shifted i l = ap₂ (λ (b : Bool) (n : ℕ). cond b 4 n) (used_test i) (first_shifted i l)
+  find_shifted i l =
+      λ j. cond (used_test i j) None (cond (ltb (first_shifted i l j) (length-map l f j)) (Some (first_shifted i l j)) None)
 
   pub get_shifted : (l : List Log) (p : ℕ) → get_or (map f l) p no_log ≡ f (get_or l p no_log)
   get_shifted l p = ap (get_or (map f l) p) (sym no_log_lem) ∙ get_or-map f l p no_log
@@ -195,30 +199,30 @@ module _ (k : ℕ) (low : 1 ≤ k) where
   abbrev R : Record → Record
   R = shifted_record k
 
-  abbrev there : Changed → Changed
+  abbrev there : Option Record → Option Record
   there = shifted_put k
 
-  kept : (r : Record) → refused (R r) ≡ there (refused r)
-  unfolding refused shifted_put
-  kept r = refl
+  kept : None ≡ there None
+  unfolding shifted_put
+  kept = refl
 
   -- a record with other logs
-  with_logs_lem : (r : Record) (m l : List Log) → m ≡ map f l → accepted (with_logs (R r) m) ≡ there (accepted (with_logs r l))
-  unfolding accepted with_logs shifted_record shifted_put
-  with_logs_lem r m l e = ap (λ (t : List Log). accepted (with_logs r t)) e
+  with_logs_lem : (r : Record) (m l : List Log) → m ≡ map f l → Some (with_logs (R r) m) ≡ there (Some (with_logs r l))
+  unfolding with_logs shifted_record shifted_put
+  with_logs_lem r m l e = ap (λ (t : List Log). Some (with_logs r t)) e
 
   clear_shifted : (r : Record) (p : ℕ) (x : Log) → clear_of (R r) p (f x) ≡ there (clear_of r p x)
   unfolding clear_of shifted_record with_logs
-  clear_shifted r p x = choose there (ap not (pends_shifted p x r.logs)) (kept r) (with_logs_lem r _ _ (remove_shifted p r.logs))
+  clear_shifted r p x = choose there (ap not (pends_shifted p x r.logs)) kept (with_logs_lem r _ _ (remove_shifted p r.logs))
 
   unclear_shifted : (r : Record) (p : ℕ) (x : Log) → unclear_of (R r) p (f x) ≡ there (unclear_of r p x)
   unfolding unclear_of shifted_record with_logs
   unclear_shifted r p x =
-      choose there (ap (λ (n : ℕ). ltb n p) (pending_shifted r.logs)) (kept r)
-      (choose there (ap (leb 4) (pending_shifted r.logs)) (kept r) (with_logs_lem r _ _ (insert_shifted p x r.logs)))
+      choose there (ap (λ (n : ℕ). ltb n p) (pending_shifted r.logs)) kept
+      (choose there (ap (leb 4) (pending_shifted r.logs)) kept (with_logs_lem r _ _ (insert_shifted p x r.logs)))
 
-  with_state_lem : (r : Record) (state : ℕ) → accepted (with_state (R r) state) ≡ there (accepted (with_state r state))
-  unfolding accepted with_state with_logs shifted_record shifted_put
+  with_state_lem : (r : Record) (state : ℕ) → Some (with_state (R r) state) ≡ there (Some (with_state r state))
+  unfolding with_state with_logs shifted_record shifted_put
   with_state_lem r state = refl
 
   reset_shifted : (r : Record) (x : Log) → reset_of (R r) (f x) ≡ there (reset_of r x)
@@ -228,7 +232,7 @@ module _ (k : ℕ) (low : 1 ≤ k) where
       let last : insert_at (pending_of (map f r.logs)) (f x) (map f r.logs) ≡ map f (insert_at n x r.logs) =
       ap (λ (m : ℕ). insert_at m (f x) (map f r.logs)) (pending_shifted r.logs) ∙ insert_shifted n x r.logs in
       choose there (used_test x.id) (with_state_lem r 1)
-      (choose there (ap (leb 4) (pending_shifted r.logs)) (kept r) (with_logs_lem (with_state r 1) _ (insert_at n x r.logs) last))
+      (choose there (ap (leb 4) (pending_shifted r.logs)) kept (with_logs_lem (with_state r 1) _ (insert_at n x r.logs) last))
 
   unreset_shifted : (r : Record) (state made : ℕ) → unreset_of (R r) state made ≡ there (unreset_of r state made)
   unfolding unreset_of shifted_record with_logs with_state
@@ -237,10 +241,10 @@ module _ (k : ℕ) (low : 1 ≤ k) where
       let last : remove_at (pending_of (map f r.logs) - 1) (map f r.logs) ≡ map f (remove_at n r.logs) =
       ap (λ (m : ℕ). remove_at (m - 1) (map f r.logs)) (pending_shifted r.logs) ∙ remove_shifted n r.logs in
       choose there {b = eqb made 0} refl (with_state_lem r state)
-      (choose there (ap (λ (m : ℕ). eqb m 0) (pending_shifted r.logs)) (kept r) (with_logs_lem (with_state r state) _ (remove_at n r.logs) last))
+      (choose there (ap (λ (m : ℕ). eqb m 0) (pending_shifted r.logs)) kept (with_logs_lem (with_state r state) _ (remove_at n r.logs) last))
 
   put_with_lem : (r : Record) (t : Tables) (ch : Change) → put_with (R r) t (shifted_change k ch) ≡ there (put_with r t ch)
-  unfolding put_with shifted_change shifted_record shifted_put accepted with_state with_role with_caps with_throttles with_user with_thermal with_logs with_mask with_deadman with_areas
+  unfolding put_with shifted_change shifted_record shifted_put with_state with_role with_caps with_throttles with_user with_thermal with_logs with_mask with_deadman with_areas
   put_with_lem r t (Clear place log) = clear_shifted r place log
   put_with_lem r t (Unclear place log) = unclear_shifted r place log
   put_with_lem r t (SetState state) = refl
@@ -260,8 +264,13 @@ module _ (k : ℕ) (low : 1 ≤ k) where
   unfolding applied put_of shifted_edit shifted_put
   applied_shifted base b [] = sym b
   applied_shifted base b (e ∷ es) =
-      ap (λ (r : Record). (put_with r e.tables (shifted_change k e.change)).after) (applied_shifted base b es)
-      ∙ ap (λ (p : Changed). p.after) (put_with_lem (applied base es) e.tables e.change)
+      ap (λ (r : Record). unwrap_or (put_with r e.tables (shifted_change k e.change)) r) (applied_shifted base b es)
+      ∙ ap (λ (p : Option Record). unwrap_or p (R (applied base es))) (put_with_lem (applied base es) e.tables e.change)
+      ∙ whole (put_with (applied base es) e.tables e.change)
+    where
+      whole : (p : Option Record) → unwrap_or (there p) (R (applied base es)) ≡ R (unwrap_or p (applied base es))
+      whole None = refl
+      whole (Some after) = refl
 
   made_shifted : (x : Log) → made_by (f x) ≡ made_by x
   unfolding made_by shifted_log

@@ -1,5 +1,6 @@
 -- One change more, the newest one taken back, and the one last taken back put in again, on the session of a history. Assumes nothing.
-use Rattle.std.specs.Prelude.{ℕ, ◌+◌, ◌-◌, ◌≤◌, false, ◌≡◌, refl, List, [], ◌∷◌, ltb, take, drop, Ok}
+use Rattle.std.specs.Option.{unwrap_or}
+use Rattle.std.specs.Prelude.{ℕ, ◌+◌, ◌-◌, ◌≤◌, false, ◌≡◌, refl, List, [], ◌∷◌, ltb, take, drop, Option, Some, Ok}
 use Rattle.std.proofs.Math.Bool.{true, not}
 use Rattle.std.proofs.Math.Logic.{inl, inr, ⊎_elim}
 use Rattle.std.proofs.Math.Path.{sym, ap, subst}
@@ -10,9 +11,8 @@ use Rattle.wire.proofs.laws.Chains.{passed}
 use Rattle.wire.proofs.laws.Cases.{if_eq, else_b, else_eq}
 use Rattle.wire.specs.Wire.{pasted}
 use Rattle.record.specs.declared.Record.{Record}
-use Rattle.change.specs.Change.{accepted, kind_of, put_of, inverse_of, timed, takes_back, timer_after}
+use Rattle.change.specs.Change.{kind_of, put_of, put_after, inverse_of, timed, takes_back, timer_after}
 use Rattle.change.proofs.laws.Timed.{kind_of_back, timed_puts, timed_kind, timed_inverse}
-use Rattle.change.specs.declared.Changed.{Changed}
 use Rattle.change.specs.declared.Edit.{Edit}
 use Rattle.formed.specs.Formed.{record_ok, next_ok}
 use Rattle.formed.proofs.laws.Formed.{sound}
@@ -22,16 +22,13 @@ use Rattle.journal.specs.Read.{got_of}
 use Rattle.journal.specs.Add.{entry_len, end_of, added_to, cut_from}
 use Rattle.journal.specs.Ways.{by_way, other}
 use Rattle.journal.proofs.laws.Ends.{length_entry, end_at, added}
-use Rattle.journal.specs.declared.End.{End}
-use Rattle.journal.specs.declared.End.TheVariants.{At}
-use Rattle.journal.specs.declared.Found.TheVariants.{Good}
 use Rattle.journal.specs.declared.Way.{Way}
 use Rattle.journal.specs.declared.Way.TheVariants.{Before, After}
 use Rattle.session.specs.Session.{well_formed, renewed, with_timer, made_of, carried_to, carried_of}
 use Rattle.session.specs.Road.{refuses, moves, store_of, used_of, lessened, grown, grown_to, session_moved, done, settled}
 use Rattle.session.proofs.laws.Timer.{Clock}
 use Rattle.session.specs.declared.Session.{Session}
-use Rattle.undo_call.specs.Undo.{put_asks, edit_asks, found_asks, got_asks, entry_asks, read_asks, none_left, newest_asks, move_asks, move_call}
+use Rattle.undo_call.specs.Undo.{put_asks, edit_asks, got_asks, entry_asks, read_asks, none_left, newest_asks, move_asks, move_call}
 use Rattle.links.proofs.laws.Made.{Made}
 use Rattle.links.proofs.laws.Links.{Link, link, next_up}
 use Rattle.promises.specs.History.{applied}
@@ -97,13 +94,13 @@ module _ (base : Record) (s : Session) (clock : Clock s.timer) (e : Edit) (es : 
   unfolding backs flat
   used_is = sym (length-append old (entry_bytes entry) ∙ ap (λ (k : ℕ). length old + k) long)
 
-  end_is : end_of (length (padded old)) (length old) (takes_back here s.timer e) ≡ At (length old + entry_len entry)
+  end_is : end_of (length (padded old)) (length old) (takes_back here s.timer e) ≡ Some (length old + entry_len entry)
   end_is = ap (end_of (length (padded old)) (length old)) entry_kept ∙ end_at Before entry (length old) (padded old) l.back_writable store_room
 
   -- the same record, and as many logs
-  record_is : (put_of here e).after ≡ applied base (x ∷ es)
+  record_is : put_after here e ≡ applied base (x ∷ es)
   unfolding applied
-  record_is = ap (λ (p : Changed). p.after) (sym (timed_puts s.timer here e))
+  record_is = ap (λ (p : Option Record). unwrap_or p here) (sym (timed_puts s.timer here e))
 
   logs_are : made_of x.change ≡ made_of e.change
   unfolding timed
@@ -113,7 +110,7 @@ module _ (base : Record) (s : Session) (clock : Clock s.timer) (e : Edit) (es : 
       ≡ by_history base (with_timer s (timer_after s.timer e.change)) (x ∷ es) (next + made_of e.change) []
   unfolding carried_of carried_to by_history standing by_way renewed with_timer flat padded
   carried_history =
-      ap (λ (k : End). (carried_to (by_history base s es next rs) e k).session) end_is
+      ap (λ (k : Option ℕ). (carried_to (by_history base s es next rs) e k).session) end_is
       ∙ (λ i. renewed (with_timer s (timer_after s.timer e.change)) (record_is i) (next + made_of e.change) (journal_is i) (used_is i) (padded []) 0)
 
   lets_now : Lets s.profile x.change
@@ -123,8 +120,8 @@ module _ (base : Record) (s : Session) (clock : Clock s.timer) (e : Edit) (es : 
   pub carried_sane : Sane base s.profile (x ∷ es) (next + made_of e.change) []
   unfolding applied flat
   carried_sane =
-      let sound : record_ok (put_of here x).after (next + made_of e.change) ≡ true = subst (λ (k : ℕ). record_ok (put_of here x).after (next + k) ≡ true) logs_are l.put_sound in
-      let small = next_small (put_of here x).after (next + made_of e.change) sound in
+      let sound : record_ok (put_after here x) (next + made_of e.change) ≡ true = subst (λ (k : ℕ). record_ok (put_after here x) (next + k) ≡ true) logs_are l.put_sound in
+      let small = next_small (put_after here x) (next + made_of e.change) sound in
       let up : next ≤ next + made_of e.change = omega arith in
       record {
         small = small;
@@ -182,7 +179,7 @@ unfolding move_asks newest_asks flat
 none_standing w own r next to formed = sym (else_b _ _ (ap not formed) (if_eq _ _ (used_there w own r next [] to) refl))
 
 module _ (w : Way) (own : Session) (r : Record) (next : ℕ) (b : Edit) (bs cs : List Edit) (formed : well_formed (standing w own r next (b ∷ bs) cs) ≡ true) (a : AllStored w (b ∷ bs))
-    (fits : length (flat (b ∷ bs)) + length (flat cs) ≤ 2048) (after : Record) (put : put_of r b ≡ accepted after) (ok : record_ok after next ≡ true)
+    (fits : length (flat (b ∷ bs)) + length (flat cs) ≤ 2048) (after : Record) (put : put_of r b ≡ Some after) (ok : record_ok after next ≡ true)
     (c : Edit) (back : takes_back r own.timer b ≡ c) (long : length (entry_bytes c) ≡ entry_len c) (same : entry_len c ≡ entry_len b) where
   abbrev s : Session
   s = standing w own r next (b ∷ bs) cs
@@ -199,17 +196,17 @@ module _ (w : Way) (own : Session) (r : Record) (next : ℕ) (b : Edit) (bs cs :
   reads : reading_of (scan (take (used_of w s) (store_of w s))) ≡ Ok (record { count = length (pile (b ∷ bs)); newest = at })
   reads = (λ i. reading_of (scan (take (used_now i) (store_now i)))) ∙ newest_reads w b bs a
 
-  got_is : got_of w (take (used_of w s - at) (drop at (store_of w s))) ≡ record { found = Good b.change; tables = b.tables }
+  got_is : got_of w (take (used_of w s - at) (drop at (store_of w s))) ≡ Some b
   got_is = (λ i. got_of w (take (used_now i - at) (drop at (store_now i)))) ∙ ap (got_of w) (newest_part w b bs a) ∙ a.0.reads
 
   -- ---- what is asked
 
-  put_is : put_asks w next at b (accepted after) ≡ moves w at b
-  unfolding put_asks accepted
+  put_is : put_asks w next at b (Some after) ≡ moves w at b
+  unfolding put_asks
   put_is = sym (else_b _ _ (ap not ok) refl)
 
   entry_is : entry_asks w s at ≡ moves w at b
-  unfolding entry_asks got_asks found_asks edit_asks standing renewed
+  unfolding entry_asks got_asks edit_asks standing renewed
   entry_is = ap (got_asks w s at) got_is ∙ ap (put_asks w next at b) put ∙ put_is
 
   read_is : read_asks w s (reading_of (scan (take (used_of w s) (store_of w s)))) ≡ moves w at b
@@ -240,10 +237,10 @@ module _ (w : Way) (own : Session) (r : Record) (next : ℕ) (b : Edit) (bs cs :
   abbrev given : Session
   given = with_timer own (timer_after own.timer b.change)
 
-  session_is : session_moved w s at b (put_of s.held b).after ≡ standing w given after next bs (c ∷ cs)
-  unfolding session_moved standing renewed with_timer accepted
+  session_is : session_moved w s at b (put_after s.held b) ≡ standing w given after next bs (c ∷ cs)
+  unfolding session_moved standing renewed with_timer
   session_is = λ i.
-      renewed given (put i).after next (by_way w (less_is i) (more_is i)) (by_way w at (end_is' i)) (by_way w (more_is i) (less_is i)) (by_way w (end_is' i) at)
+      renewed given (unwrap_or (put i) r) next (by_way w (less_is i) (more_is i)) (by_way w at (end_is' i)) (by_way w (more_is i) (less_is i)) (by_way w (end_is' i) at)
 
   pub moved_standing : move_call w s ≡ done (standing w given after next bs (c ∷ cs)) 0 (kind_of b.change) []
   unfolding move_call settled
@@ -254,10 +251,6 @@ module _ (w : Way) (own : Session) (r : Record) (next : ℕ) (b : Edit) (bs cs :
 flip : (own : Session) (r : Record) (next : ℕ) (from to : List Edit) → standing Before own r next from to ≡ standing After own r next to from
 unfolding standing by_way
 flip own r next from to = refl
-
-put_whole : (p : Changed) → p.ok ≡ true → p ≡ accepted p.after
-unfolding accepted
-put_whole p ok = λ i. record { ok = ok i; after = p.after }
 
 module _ (base : Record) (s : Session) (clock : Clock s.timer) (e : Edit) (es : List Edit) (next : ℕ) (rs : List Edit) where
   -- the change as it holds the timer that stands now
@@ -352,11 +345,11 @@ module _ (base : Record) (s : Session) (clock : Clock s.timer) (e : Edit) (es : 
     abbrev r : Record
     r = applied base es
 
-    after_ok : record_ok (put_of r now).after next ≡ true
-    after_ok = next_up (put_of r now).after (anew.known + made_of now.change) next anew.links.put_sound anew.below g.small
+    after_ok : record_ok (put_after r now) next ≡ true
+    after_ok = next_up (put_after r now) (anew.known + made_of now.change) next anew.links.put_sound anew.below g.small
 
-    puts_now : put_of r e ≡ accepted (put_of r now).after
-    puts_now = sym (timed_puts s.timer r e) ∙ put_whole (put_of r now) anew.links.put_accepted
+    puts_now : put_of r e ≡ Some (put_after r now)
+    puts_now = sym (timed_puts s.timer r e) ∙ anew.links.put_accepted
 
     in_again : takes_back r s.timer e ≡ inverse_of r now
     unfolding takes_back
@@ -371,7 +364,7 @@ module _ (base : Record) (s : Session) (clock : Clock s.timer) (e : Edit) (es : 
     redo_asks =
         ap (move_asks After) (flip s r next (backs base es) (e ∷ rs))
         ∙ asks_standing After s r next e rs (backs base es) formed_after (again_stored base s.profile next es (e ∷ rs) g.again) (omega (arith, g.fits))
-        (put_of r now).after puts_now after_ok (inverse_of r now) in_again (length_entry Before (inverse_of r now) anew.links.back_writable) now_back
+        (put_after r now) puts_now after_ok (inverse_of r now) in_again (length_entry Before (inverse_of r now) anew.links.back_writable) now_back
 
     abbrev pub redone : Session
     redone = with_timer s (timer_after s.timer e.change)
@@ -381,8 +374,8 @@ module _ (base : Record) (s : Session) (clock : Clock s.timer) (e : Edit) (es : 
     redo_history =
         ap (move_call After) (flip s r next (backs base es) (e ∷ rs))
         ∙ moved_standing After s r next e rs (backs base es) formed_after (again_stored base s.profile next es (e ∷ rs) g.again) (omega (arith, g.fits))
-        (put_of r now).after puts_now after_ok (inverse_of r now) in_again (length_entry Before (inverse_of r now) anew.links.back_writable) now_back
-        ∙ ap (λ (t : Session). done t 0 (kind_of e.change) []) (sym (flip redone (put_of r now).after next (inverse_of r now ∷ backs base es) rs))
+        (put_after r now) puts_now after_ok (inverse_of r now) in_again (length_entry Before (inverse_of r now) anew.links.back_writable) now_back
+        ∙ ap (λ (t : Session). done t 0 (kind_of e.change) []) (sym (flip redone (put_after r now) next (inverse_of r now ∷ backs base es) rs))
 
     pub redone_sane : Sane base s.profile (now ∷ es) next rs
     unfolding applied backs

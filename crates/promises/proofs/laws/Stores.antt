@@ -1,6 +1,6 @@
 -- A store of the entries of changes, the newest last: its bytes, how it reads, and that it is well formed. Assumes nothing.
 use Prim.Native.Nat.{ℕ, ◌+◌, ◌-◌, ◌≤◌}
-use Rattle.std.specs.Prelude.{true, ◌≡◌, refl, drop, Ok}
+use Rattle.std.specs.Prelude.{true, ◌≡◌, refl, drop, Some, Ok}
 use Rattle.std.proofs.Math.Path.{sym, ap}
 use Rattle.std.proofs.Common.{◌∙◌, arith, drop_at}
 use mathlib.Core.List.{List, [], ◌∷◌, ◌++◌, append_assoc}
@@ -18,7 +18,6 @@ use Rattle.journal.specs.Read.{got_of, entry_ok, all_ok, scan_ok, entries_ok}
 use Rattle.journal.specs.Add.{entry_len, cut_from}
 use Rattle.journal.proofs.laws.Bodies.{Writable, length_body, some_body}
 use Rattle.journal.proofs.laws.Ends.{length_entry}
-use Rattle.journal.specs.declared.Found.TheVariants.{Good}
 use Rattle.journal.specs.declared.Way.{Way}
 use Rattle.session.proofs.laws.Session.{Store}
 unfoldable pub use Rattle.saving.specs.Forms.{padded}
@@ -72,7 +71,7 @@ flat (b ∷ bs) = flat bs ++ entry_bytes b
 pub record Stored (w : Way) (b : Edit) : Type 0 where
   pub writable : Writable w b.tables b.change
   pub good : entry_ok w (entry_for b) ≡ true
-  pub reads : got_of w (entry_bytes b) ≡ record { found = Good b.change; tables = b.tables }
+  pub reads : got_of w (entry_bytes b) ≡ Some b
 
 abbrev pub AllStored : Way → List Edit → Type 0
 AllStored w [] = Unit {0}

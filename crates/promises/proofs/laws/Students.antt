@@ -1,5 +1,5 @@
 -- Document 02, k: a watch-only session that nobody can break: whatever it is sent, right or damaged. Assumes nothing.
-use Rattle.std.specs.Prelude.{ℕ, ◌+◌, true, not, ◌≡◌, ltb, leb, eqb, length, get_or}
+use Rattle.std.specs.Prelude.{ℕ, ◌+◌, true, not, ◌≡◌, ltb, leb, eqb, length, get_or, Option, Some, None}
 use Rattle.std.proofs.Common.{⊎_elim, sym, subst, ◌∙◌, arith}
 use Rattle.std.proofs.Math.Path.{refl, ap}
 use mathlib.Core.List.{List, [], ◌∷◌}
@@ -8,19 +8,16 @@ use borrow.Author.Tests.{not-false, eqb-true}
 use Rattle.wire.proofs.laws.Cases.{cond_elim, cond_cases}
 use Rattle.record.specs.Record.{worked_of}
 use Rattle.record.specs.declared.Record.{Record}
-use Rattle.change.specs.Change.{kind_of, accepted, refused, clear_of, unclear_of, put_with, put_of, takes_back}
+use Rattle.std.specs.Option.{unwrap_or}
+use Rattle.change.specs.Change.{kind_of, clear_of, unclear_of, put_with, put_of, takes_back}
 use Rattle.change.specs.Logs.{pending_of, pends_at}
 use Rattle.change.specs.With.{with_logs}
 use Rattle.change.specs.declared.Change.{Change}
 use Rattle.change.specs.declared.Change.TheVariants.{Clear, Unclear, SetState, SetRole, SetCaps, SetUser, SetThermal, SetThrottles, Reset, Unreset, SetMask, SetDeadman, SetAreas, SetTimer}
-use Rattle.change.specs.declared.Changed.{Changed}
 use Rattle.change.specs.declared.Tables.{Tables}
 use Rattle.change.specs.declared.Edit.{Edit}
 use Rattle.packet.specs.Packet.{data_of}
 use Rattle.journal.specs.Add.{end_of}
-use Rattle.journal.specs.declared.End.{End}
-use Rattle.journal.specs.declared.End.TheVariants.{At, Full}
-use Rattle.journal.specs.declared.Found.{Found}
 use Rattle.journal.specs.declared.Way.{Way}
 use Rattle.journal.specs.declared.Way.TheVariants.{Before, After}
 use Rattle.journal.proofs.laws.Says.{Says, found_says}
@@ -52,11 +49,11 @@ use Rattle.promises.proofs.laws.UndoDemands.{Called, ill_formed, empty, barred, 
 
 -- ---- clears move pending logs alone
 
-abbrev Logs : Record → Changed → Type 0
-Logs r c = c.after ≡ with_logs r c.after.logs
+abbrev Logs : Record → Option Record → Type 0
+Logs r c = unwrap_or c r ≡ with_logs r (unwrap_or c r).logs
 
 put_logs : (r : Record) (t : Tables) (ch : Change) → kind_of ch ≡ 0x01 → Logs r (put_with r t ch)
-unfolding put_with clear_of unclear_of accepted refused with_logs kind_of
+unfolding put_with clear_of unclear_of with_logs kind_of
 put_logs r t (Clear place log) k = cond_elim (Logs r) (not (pends_at place log r.logs)) refl refl
 put_logs r t (Unclear place log) k = cond_elim (Logs r) (ltb (pending_of r.logs) place) refl (cond_elim (Logs r) (leb 4 (pending_of r.logs)) refl refl)
 put_logs r t (SetState state) k = absurd (omega (arith, k))
@@ -117,7 +114,7 @@ module _ (s : Session) (on : s.profile ≡ 1) where
   module _ (w : Way) where
     newest_clears : well_formed s ≡ true → (e : Edit) (n : Newest w s e) → kind_of e.change ≡ 0x01
     newest_clears ok e n =
-        let says : kind_of e.change ≡ n.entry.kind = (subst (λ (x : Found). Says w n.entry.kind x) n.change (found_says w n.entry.kind n.entry.body)).0 in
+        let says : kind_of e.change ≡ n.entry.kind = (subst (λ (x : Option Change). Says w n.entry.kind x) n.change (found_says w n.entry.kind n.entry.body)).0 in
         ⊎_elim (λ z. absurd (not_full z))
         (λ h.
         let all = clear_of_lem s w h.1 h.2 in
@@ -175,19 +172,19 @@ module _ (s : Session) (on : s.profile ≡ 1) where
   pub as_it_was : Unbroken s s
   as_it_was = unbroken s (same_logs s.held) refl refl on
 
-  carried_at : (e : Edit) → kind_of e.change ≡ 0x01 → well_formed s ≡ true → (used : ℕ) → Unbroken s (carried_to s e (At used)).session
+  carried_at : (e : Edit) → kind_of e.change ≡ 0x01 → well_formed s ≡ true → (used : ℕ) → Unbroken s (carried_to s e (Some used)).session
   unfolding carried_to renewed with_timer put_of
   carried_at e k ok used =
       let logs = put_logs s.held e.tables e.change k in
-      unbroken _ logs (worked_again ok (put_with s.held e.tables e.change).after logs) (ap (λ (n : ℕ). s.next + n) (clear_makes_none e.change k) ∙ add-zero s.next) on
+      unbroken _ logs (worked_again ok (unwrap_or (put_with s.held e.tables e.change) s.held) logs) (ap (λ (n : ℕ). s.next + n) (clear_makes_none e.change k) ∙ add-zero s.next) on
 
   carried_unbroken : (e : Edit) → kind_of e.change ≡ 0x01 → well_formed s ≡ true → Unbroken s (carried_of s e).session
   unfolding carried_of carried_to
   carried_unbroken e k ok = go (end_of (length s.journal) s.used (takes_back s.held s.timer e))
     where
-      go : (x : End) → Unbroken s (carried_to s e x).session
-      go (At used) = carried_at e k ok used
-      go Full = as_it_was
+      go : (x : Option ℕ) → Unbroken s (carried_to s e x).session
+      go (Some used) = carried_at e k ok used
+      go None = as_it_was
 
   abbrev Safe : Said → Type 0
   Safe q = Unbroken s q.session
@@ -199,7 +196,7 @@ module _ (s : Session) (on : s.profile ≡ 1) where
   settled_unbroken d (makes e bell y) h = cond_elim Safe (carried_of s e).full as_it_was (carried_unbroken e h.0 h.1)
   settled_unbroken d (moves w at e) h =
       let logs = put_logs s.held e.tables e.change h.0 in
-      unbroken _ logs (worked_again h.1 (put_with s.held e.tables e.change).after logs) refl on
+      unbroken _ logs (worked_again h.1 (unwrap_or (put_with s.held e.tables e.change) s.held) logs) refl on
   settled_unbroken d (forgets n) h = unbroken _ (same_logs s.held) (worked_again h s.held (same_logs s.held)) refl on
   settled_unbroken d (passes n) h = unbroken _ (same_logs s.held) refl refl on
   settled_unbroken d opens h = unbroken _ (same_logs s.held) (worked_again h s.held (same_logs s.held)) refl refl

@@ -4,7 +4,7 @@ use Rattle.std.proofs.Math.Path.{sym}
 use Rattle.std.proofs.Common.{ap, subst, ◌∙◌, add-zero}
 use Rattle.record.specs.declared.Record.{Record}
 use Rattle.record.specs.declared.Timer.{Timer}
-use Rattle.change.specs.Change.{put_of, put_with, accepted, back_of, kind_of, inverse_of, timed_change, timed, timer_after}
+use Rattle.change.specs.Change.{put_of, put_with, back_of, kind_of, inverse_of, timed_change, timed, timer_after}
 use Rattle.change.proofs.laws.Timed.{by_timer, timer_kept, timed_cases, timed_other, kind_of_back}
 use Rattle.change.specs.declared.Change.{Change}
 use Rattle.change.specs.declared.Change.TheVariants.{SetTimer}
@@ -41,7 +41,7 @@ module _ (t : Timer) where
 
     -- so it links as that did
     pub link_timed : (r : Record) (n : ℕ) (e : Edit) → TypedRecord r → Made r n e.tables e.change → Link r n e → Link r n (timed t e)
-    unfolding timed put_of put_with accepted made_of change_ok
+    unfolding timed put_of put_with made_of change_ok
     link_timed r n e y =
         timed_cases t (λ (a b : Change). Made r n e.tables a → Link r n (record { change = a; tables = e.tables }) → Link r n (record { change = b; tables = e.tables }))
         (λ x m l. link r n (record { change = SetTimer t; tables = e.tables }) (subst (λ (k : ℕ). record_ok r k ≡ true) (add-zero n) l.put_sound) y (record { ok = c.ok; fits = (c.fits, m.fits.1) }))

@@ -1,5 +1,6 @@
 -- The ways of the calls `undo` and `redo`, and demands 1 and 2 read off them, for both at once. Assumes nothing.
-use Rattle.std.specs.Prelude.{ℕ, suc, ◌+◌, ◌-◌, ◌≤◌, Bool, true, not, ◌↔◌, ◌≡◌, eqb, take, drop}
+use Rattle.std.specs.Option.{is_some, unwrap_or}
+use Rattle.std.specs.Prelude.{ℕ, suc, ◌+◌, ◌-◌, ◌≤◌, Bool, true, not, ◌↔◌, ◌≡◌, eqb, take, drop, Option, Some, None}
 use Rattle.std.proofs.lemmas.Bool.{false≢true}
 use Rattle.std.proofs.Math.Bool.{true≢false}
 use Rattle.std.proofs.Math.Path.{refl, sym, ap, subst}
@@ -13,26 +14,23 @@ use Rattle.wire.proofs.laws.Chains.{eq_holds, lt_passes, le_passes, zero_passes,
 use Rattle.wire.proofs.laws.Tables.{ByTable, by_is, hit, miss}
 use Rattle.wire.proofs.laws.Wire.{tail_part, part_of_part}
 use Rattle.record.specs.declared.Record.{Record}
-use Rattle.change.specs.Change.{accepted, refused, clear_of, unclear_of, reset_of, unreset_of, put_with, put_of}
+use Rattle.change.specs.Change.{clear_of, unclear_of, reset_of, unreset_of, put_with, put_of}
 use Rattle.change.specs.declared.Change.{Change}
 use Rattle.change.specs.declared.Change.TheVariants.{Clear, Unclear, SetState, SetRole, SetCaps, SetUser, SetThermal, SetThrottles, Reset, Unreset, SetMask, SetDeadman, SetAreas, SetTimer}
-use Rattle.change.specs.declared.Changed.{Changed}
 use Rattle.change.specs.declared.Tables.{Tables}
 use Rattle.change.specs.declared.Edit.{Edit}
 use Rattle.formed.specs.Formed.{record_ok}
 use Rattle.entries.specs.Entries.{Entry, body_len, bytes_of, written, Scan, between, scan, newest_at, reading_of}
 use Rattle.entries.proofs.laws.Entries.{scan_written, scan_proper, drop_newest, length_written, newest_written}
-use Rattle.journal.specs.Read.{found_for, tables_in, bad_got, got_for, got_of, values_ok, entry_ok, all_ok}
+use Rattle.journal.specs.Read.{found_for, tables_in, edit_by, got_for, got_of, values_ok, entry_ok, all_ok}
 use Rattle.journal.specs.Ways.{by_way}
-use Rattle.journal.specs.declared.Found.{Found}
-use Rattle.journal.specs.declared.Found.TheVariants.{Good, Bad}
 use Rattle.journal.specs.declared.Way.{Way}
 use Rattle.journal.specs.declared.Way.TheVariants.{Before, After}
 use Rattle.session.specs.Session.{well_formed}
 use Rattle.session.proofs.laws.Session.{formed}
 use Rattle.session.specs.declared.Session.{Session}
 use Rattle.session.specs.Road.{Asks, refuses, moves, store_of, used_of, kept, done, settled}
-use Rattle.undo_call.specs.Undo.{put_asks, edit_asks, found_asks, got_asks, entry_asks, read_asks, none_left, newest_asks, move_asks, move_call, undo_call, redo_call}
+use Rattle.undo_call.specs.Undo.{put_asks, edit_asks, got_asks, entry_asks, read_asks, none_left, newest_asks, move_asks, move_call, undo_call, redo_call}
 use Rattle.undo_call.proofs.laws.NoneLeft.{none_zero}
 use Rattle.promises.specs.Demand1.{MoveAnswer, UndoAnswer, RedoAnswer}
 use Rattle.promises.specs.Demand2.{Newest, GoesIn, Movable, MoveAccepted, UndoAccepted, RedoAccepted}
@@ -41,19 +39,19 @@ use Rattle.session.proofs.laws.Reads.{reads}
 
 -- ---- what can be put in
 
-abbrev ok_of : Changed → Bool
-ok_of x = x.ok
+abbrev goes_in : Option Record → Bool
+goes_in = is_some
 
 module _ (r : Record) (t : Tables) where
   abbrev Exactly : Change → Type 0
-  Exactly ch = ((put_with r t ch).ok ≡ true) ↔ GoesIn r ch
+  Exactly ch = (is_some (put_with r t ch) ≡ true) ↔ GoesIn r ch
 
   goes_exactly : (ch : Change) → Exactly ch
-  unfolding put_with clear_of unclear_of reset_of unreset_of accepted refused
-  goes_exactly (Unclear place log) = unless ok_of refl (lt_passes _ _) (unless_last ok_of refl (le_passes 4 _) refl)
-  goes_exactly (Unreset state made) = or_else ok_of refl (eq_holds made 0) (unless_last ok_of refl (zero_passes _) refl)
-  goes_exactly (Clear place log) = unless_last ok_of refl (not_passes ((λ h. h), (λ h. h))) refl
-  goes_exactly (Reset log) = or_else ok_of refl (eq_holds log.id 0) (unless_last ok_of refl (le_passes 4 _) refl)
+  unfolding put_with clear_of unclear_of reset_of unreset_of
+  goes_exactly (Unclear place log) = unless goes_in refl (lt_passes _ _) (unless_last goes_in refl (le_passes 4 _) refl)
+  goes_exactly (Unreset state made) = or_else goes_in refl (eq_holds made 0) (unless_last goes_in refl (zero_passes _) refl)
+  goes_exactly (Clear place log) = unless_last goes_in refl (not_passes ((λ h. h), (λ h. h))) refl
+  goes_exactly (Reset log) = or_else goes_in refl (eq_holds log.id 0) (unless_last goes_in refl (le_passes 4 _) refl)
   goes_exactly (SetState state) = ((λ h. tt), (λ h. refl))
   goes_exactly (SetRole got role) = ((λ h. tt), (λ h. refl))
   goes_exactly (SetCaps got caps) = ((λ h. tt), (λ h. refl))
@@ -68,19 +66,19 @@ module _ (r : Record) (t : Tables) where
 -- ---- the newest entry
 
 -- an entry's bytes are read as what its kind and body say
-entry_got : (w : Way) (e : Entry) → body_len e.kind ≡ length e.body → got_of w (bytes_of e) ≡ record { found = found_for w e.kind e.body; tables = tables_in e.kind e.body }
+entry_got : (w : Way) (e : Entry) → body_len e.kind ≡ length e.body → got_of w (bytes_of e) ≡ edit_by (tables_in e.kind e.body) (found_for w e.kind e.body)
 unfolding got_of got_for bytes_of
 entry_got w e sized =
     let n : ℕ = length e.body in
     let some : suc n ≡ 0 → ⊥ = λ z. omega arith in
     let fits : suc n - 1 ≡ body_len e.kind = omega arith in
-    sym (else_eq bad_got _ {m = suc n} {n = 0} some (else_ne bad_got _ {m = suc n - 1} {n = body_len e.kind} fits refl))
+    sym (else_eq None _ {m = suc n} {n = 0} some (else_ne None _ {m = suc n - 1} {n = body_len e.kind} fits refl))
 
 -- values that pass are a change's
-good_found : (t : Tables) (x : Found) → values_ok t x ≡ true → (ch : Change) × (x ≡ Good ch)
+good_found : (t : Tables) (x : Option Change) → values_ok t x ≡ true → (ch : Change) × (x ≡ Some ch)
 unfolding values_ok
-good_found t (Good ch) h = (ch, refl)
-good_found t Bad h = absurd (false≢true h)
+good_found t (Some ch) h = (ch, refl)
+good_found t None h = absurd (false≢true h)
 
 module _ (w : Way) (s : Session) where
   abbrev used_part : List ℕ
@@ -96,7 +94,7 @@ module _ (w : Way) (s : Session) where
   same_entry : (a b : Entry) (xs ys : List Entry) → between (a ∷ xs) ≡ between (b ∷ ys) → a ≡ b
   same_entry a b xs ys e = cc
 
-  same_change : (a b : Change) → Good a ≡ Good b → a ≡ b
+  same_change : (a b : Change) → Some a ≡ Some b → a ≡ b
   same_change a b e = cc
 
   -- it says one thing only
@@ -119,11 +117,17 @@ module _ (w : Way) (s : Session) where
     called_with : (e : Edit) (n : Newest w s e) → Called (edit_asks w s (length (written n.older)) e)
     unfolding edit_asks put_asks put_of
     called_with e n =
-        let exactly = goes_exactly s.held e.tables e.change in
-        let fine = record_ok (put_of s.held e).after s.next in
-        cond_cases Called (not (put_of s.held e).ok) (λ h. barred x e n (λ u. true≢false (sym (exactly.1 u.0) ∙ not-true _ h)))
-        (λ h. cond_cases Called (not fine) (λ g. barred x e n (λ u. true≢false (sym u.1 ∙ not-true _ g)))
-        (λ g. goes x e n (exactly.0 (not-false _ h), not-false _ g)))
+        by_put (put_of s.held e) refl
+      where
+        exactly : Exactly s.held e.tables e.change
+        exactly = goes_exactly s.held e.tables e.change
+
+        by_put : (o : Option Record) → put_of s.held e ≡ o → Called (put_asks w s.next (length (written n.older)) e o)
+        by_put None q = barred x e n (λ u. true≢false (sym (exactly.1 u.0) ∙ ap goes_in q))
+        by_put (Some after) q =
+            let fine = ap (λ (o : Option Record). record_ok (unwrap_or o s.held) s.next) q in
+            cond_cases Called (not (record_ok after s.next)) (λ g. barred x e n (λ u. true≢false (sym u.1 ∙ fine ∙ not-true _ g)))
+            (λ g. goes x e n (exactly.0 (ap goes_in q), fine ∙ not-false _ g))
 
     whole : length used_part ≡ used_of w s
     whole = length-take-le (used_of w s) (store_of w s) (store_of_lem s (formed s x) w).fits
@@ -143,10 +147,10 @@ module _ (w : Way) (s : Session) where
           ∙ tail_part used_part at
           ∙ drop_newest used_part y es read
 
-      says : got_of w (take (used_of w s - at) (drop at (store_of w s))) ≡ record { found = found_for w y.kind y.body; tables = tables_in y.kind y.body }
+      says : got_of w (take (used_of w s - at) (drop at (store_of w s))) ≡ edit_by (tables_in y.kind y.body) (found_for w y.kind y.body)
       says = ap (got_of w) newest_part ∙ entry_got w y (scan_proper used_part (y ∷ es) read).0.0
 
-      change_there : (ch : Change) × (found_for w y.kind y.body ≡ Good ch)
+      change_there : (ch : Change) × (found_for w y.kind y.body ≡ Some ch)
       unfolding entry_ok
       change_there = good_found (tables_in y.kind y.body) (found_for w y.kind y.body) (all_parts w y es good).0
 
@@ -154,8 +158,8 @@ module _ (w : Way) (s : Session) where
       newest = record { change = change_there.0; tables = tables_in y.kind y.body }
 
       at_is : entry_asks w s at ≡ edit_asks w s at newest
-      unfolding entry_asks got_asks found_asks
-      at_is = ap (got_asks w s at) says ∙ ap (found_asks w s at (tables_in y.kind y.body)) change_there.1
+      unfolding entry_asks got_asks edit_by
+      at_is = ap (got_asks w s at) (says ∙ ap (edit_by (tables_in y.kind y.body)) change_there.1)
 
       called_newest : Called (read_asks w s (reading_of (scan used_part)))
       unfolding read_asks reading_of newest_at

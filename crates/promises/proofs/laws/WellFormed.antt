@@ -1,12 +1,12 @@
 -- Well-formed in, well-formed out: for every call, on every well-formed session, reached from a fresh one or not. Assumes nothing.
-use Rattle.std.specs.Prelude.{ℕ, ◌+◌, ◌^◌, ◌≤◌, ◌<◌, true, false, not, ◌≡◌, refl, length, replicate}
+use Rattle.std.specs.Prelude.{ℕ, ◌+◌, ◌^◌, ◌≤◌, ◌<◌, true, false, not, ◌≡◌, refl, length, replicate, Option}
 use Rattle.std.proofs.Common.{inl, ⊎_elim, sym, ◌∙◌, arith}
 use Rattle.std.proofs.Math.Path.{ap, subst}
 use mathlib.Core.List.{List, []}
 use Rattle.wire.specs.Wire.{Bytes}
 use Rattle.wire.proofs.laws.Cases.{cond_cases}
 use Rattle.record.specs.declared.Timer.{Timer}
-use Rattle.change.specs.Change.{kind_of, put_of, back_of, inverse_of, timed_change, timed, takes_back, timer_after}
+use Rattle.change.specs.Change.{kind_of, put_after, back_of, inverse_of, timed_change, timed, takes_back, timer_after}
 use Rattle.change.proofs.laws.Timed.{timed_cases, timed_kind, kind_of_back}
 use Rattle.change.specs.declared.Change.{Change}
 use Rattle.change.specs.declared.Change.TheVariants.{SetTimer}
@@ -18,7 +18,6 @@ use Rattle.journal.specs.Read.{entry_ok}
 use Rattle.journal.proofs.laws.Bodies.{Writable}
 use Rattle.journal.specs.Add.{entry_len, added_to}
 use Rattle.journal.proofs.laws.Ends.{end_at}
-use Rattle.journal.specs.declared.End.{End}
 use Rattle.journal.specs.declared.Way.{Way}
 use Rattle.journal.specs.declared.Way.TheVariants.{Before, After}
 use Rattle.session.specs.Session.{entries_in, well_formed, renewed, with_timer, made_of, carried_to, carried_of}
@@ -76,11 +75,11 @@ module _ (s : Session) (f : Formed s) (typed : TypedSession s) (e : Edit) (m : M
   room = end_room s e b (length s.journal) s.used fits
 
   abbrev after : Session
-  after = renewed (with_timer s (timer_after s.timer e.change)) (put_of s.held e).after (s.next + made_of e.change) (added_to s.used b s.journal) (s.used + entry_len b) (replicate 2048 0) 0
+  after = renewed (with_timer s (timer_after s.timer e.change)) (put_after s.held e) (s.next + made_of e.change) (added_to s.used b s.journal) (s.used + entry_len b) (replicate 2048 0) 0
 
   pub session_is : (carried_of s e).session ≡ after
   unfolding carried_of carried_to
-  session_is = ap (λ (x : End). (carried_to s e x).session) (end_at Before b s.used s.journal back_writable room)
+  session_is = ap (λ (x : Option ℕ). (carried_to s e x).session) (end_at Before b s.used s.journal back_writable room)
 
   timer_passes : timer_ok (timer_after s.timer e.change) ≡ true
   unfolding change_ok
@@ -130,7 +129,7 @@ module _ (s : Session) (typed : TypedSession s) (whole : well_formed s ≡ true)
   asked_formed opens h = watch_formed s whole
   asked_formed (makes e bell y) h = cond_cases Whole (carried_of s e).full (λ f. whole) (λ f. carried_formed s (formed s whole) typed e h.0 f h.1)
   asked_formed (moves w at e) h =
-      subst (λ (k : ℕ). well_formed (session_moved w s k e (put_of s.held e).after) ≡ true) (sym h.1) (moved_formed w s (formed s whole) e h.0 typed h.2.1)
+      subst (λ (k : ℕ). well_formed (session_moved w s k e (put_after s.held e)) ≡ true) (sym h.1) (moved_formed w s (formed s whole) e h.0 typed h.2.1)
 
 -- ---- each call
 

@@ -1,5 +1,5 @@
 -- A well-formed session by its parts. Assumes nothing.
-use Rattle.std.specs.Prelude.{ℕ, ◌+◌, ◌≤◌, Bool, true, false, cond, not, ◌≡◌, refl, ◌⊎◌, List, ltb, eqb, length, take, drop}
+use Rattle.std.specs.Prelude.{ℕ, ◌+◌, ◌≤◌, Bool, true, false, cond, not, ◌≡◌, refl, ◌⊎◌, List, ltb, eqb, length, take, drop, Option, Some, None}
 use Rattle.std.proofs.lemmas.Bool.{false≢true}
 use Rattle.std.proofs.Common.{true≢false, sym, ap, ◌∙◌, inl, inr, arith, ltb-false, leb-true, eqb-true, eq-eqb}
 use Rattle.wire.specs.Wire.{all_are}
@@ -16,8 +16,6 @@ use Rattle.session.specs.declared.Session.{Session}
 use Rattle.change.specs.Change.{takes_back}
 use Rattle.change.specs.declared.Edit.{Edit}
 use Rattle.journal.specs.Add.{end_of}
-use Rattle.journal.specs.declared.End.{End}
-use Rattle.journal.specs.declared.End.TheVariants.{At, Full}
 use Rattle.journal.specs.declared.Way.{Way}
 use Rattle.journal.specs.declared.Way.TheVariants.{Before, After}
 use Rattle.session.specs.Session.{worked_fits, held_ok, store_ok, stores_ok, entries_in, marks_for, only_clears, profile_ok, well_formed, renewed, carried_to, carried_of}
@@ -150,6 +148,6 @@ pub carried_worked : (s : Session) (e : Edit) → (carried_of s e).full ≡ fals
 unfolding carried_of carried_to renewed
 carried_worked s e f = go (end_of (length s.journal) s.used (takes_back s.held s.timer e)) f
   where
-    go : (x : End) → (carried_to s e x).full ≡ false → (carried_to s e x).session.worked ≡ worked_of (carried_to s e x).session.held
-    go (At used) f = refl
-    go Full f = absurd (true≢false f)
+    go : (x : Option ℕ) → (carried_to s e x).full ≡ false → (carried_to s e x).session.worked ≡ worked_of (carried_to s e x).session.held
+    go (Some used) f = refl
+    go None f = absurd (true≢false f)

@@ -1,5 +1,5 @@
 -- Document 02, h: a session with another timer, and after time has passed, is well formed if it was. Assumes nothing.
-use Rattle.std.specs.Prelude.{ℕ, ◌-◌, ◌^◌, ◌<◌, true, false, ◌≡◌, refl, eqb, length}
+use Rattle.std.specs.Prelude.{ℕ, ◌-◌, ◌^◌, ◌<◌, true, false, ◌≡◌, refl, eqb, length, Option, Some, None}
 use Rattle.std.proofs.Common.{true≢false, sym, arith}
 use Rattle.std.proofs.lemmas.Bool.{eqb-false}
 use Rattle.wire.proofs.laws.Cases.{cond_cases, if_ne}
@@ -7,8 +7,6 @@ use Rattle.record.specs.declared.Timer.{Timer}
 use Rattle.change.specs.Change.{takes_back, timer_after}
 use Rattle.change.specs.declared.Edit.{Edit}
 use Rattle.journal.specs.Add.{end_of}
-use Rattle.journal.specs.declared.End.{End}
-use Rattle.journal.specs.declared.End.TheVariants.{At, Full}
 use Rattle.formed.specs.Formed.{flag_ok, clock_ok, timer_ok}
 use Rattle.formed.proofs.laws.Formed.{both_hold, hold_both}
 use Rattle.session.specs.Session.{well_formed, renewed, with_timer, carried_to, carried_of}
@@ -53,6 +51,6 @@ pub carried_timer : (s : Session) (e : Edit) → (carried_of s e).full ≡ false
 unfolding carried_of carried_to renewed with_timer
 carried_timer s e f = go (end_of (length s.journal) s.used (takes_back s.held s.timer e)) f
   where
-    go : (x : End) → (carried_to s e x).full ≡ false → (carried_to s e x).session.timer ≡ timer_after s.timer e.change
-    go (At used) f = refl
-    go Full f = absurd (true≢false f)
+    go : (x : Option ℕ) → (carried_to s e x).full ≡ false → (carried_to s e x).session.timer ≡ timer_after s.timer e.change
+    go (Some used) f = refl
+    go None f = absurd (true≢false f)

@@ -5,11 +5,12 @@ use Rattle.undo_call.specs.Undo.{NewestFound}
 use Rattle.undo_call.proofs.Taking.{none_held, sum_fits, count_fits, by_newest, at_low, entry_bad, entry_good, entry_ends}
 use Rattle.undo_call.proofs.Finding.{marks_before}
 use Rattle.undo_call.proofs.Marking.{passed_low}
-use Rattle.wire.proofs.laws.Pairs.{first_of_two, second_of_two}
 use Rattle.undo_call.proofs.take_newest.Goals as goal
 
 pub returns-then-used-eq0 : goal.returns-then-used-eq0
-returns-then-used-eq0 c = record { value = first_of_two (none_held c.args.way _ c.args.lent.now c.requires.0 c.requires.1 _ c.by_way-used.ensures.value _ _ c.none_left.ensures c.answer_with.ensures c.if-used-eq0.true); lent_after = second_of_two (none_held c.args.way _ c.args.lent.now c.requires.0 c.requires.1 _ c.by_way-used.ensures.value _ _ c.none_left.ensures c.answer_with.ensures c.if-used-eq0.true) }
+returns-then-used-eq0 c =
+    let a = none_held c.args.way _ c.args.lent.now c.requires.0 c.requires.1 _ c.by_way-used.ensures.value _ _ c.none_left.ensures c.answer_with.ensures c.if-used-eq0.true in
+    record { value = a.0; lent_after = a.1 }
 
 pub newest_of-requires : goal.newest_of-requires
 newest_of-requires c = (c.requires.0, c.requires.1, c.by_way-used.ensures.value, c.if-used-eq0.false)
@@ -32,14 +33,18 @@ slice_bounds-get-start c = omega (arith, at_low c.args.way _ c.args.lent.now c.r
 pub slice_bounds-get-end : goal.slice_bounds-get-end
 slice_bounds-get-end c = omega (arith, count_fits c.args.way _ c.args.lent.now c.requires.0 c.requires.1 _ c.by_way-used.ensures.value, c.requires.0.long, c.store_at-store.ensures, store_low c.args.way)
 
-pub returns-in_default-found : goal.returns-in_default-found
-returns-in_default-found c = record { value = first_of_two (by_newest c.args.way _ c.args.lent.now c.requires.0 c.requires.1 _ c.by_way-used.ensures.value c.if-used-eq0.false _ (subst (NewestFound c.args.way _) c.in-Some.is c.newest_of.ensures) _ _ (entry_bad c.args.way _ c.args.lent.now c.requires.0 _ c.store_at-store.ensures _ c.by_way-used.ensures.value (count_fits c.args.way _ c.args.lent.now c.requires.0 c.requires.1 _ c.by_way-used.ensures.value) _ (at_low c.args.way _ c.args.lent.now c.requires.0 c.requires.1 _ c.by_way-used.ensures.value c.if-used-eq0.false _ (subst (NewestFound c.args.way _) c.in-Some.is c.newest_of.ensures)) _ c.get-got.ensures _ _ _ c.answer_with-in_default-found.ensures c.in_default-found.is refl)); lent_after = second_of_two (by_newest c.args.way _ c.args.lent.now c.requires.0 c.requires.1 _ c.by_way-used.ensures.value c.if-used-eq0.false _ (subst (NewestFound c.args.way _) c.in-Some.is c.newest_of.ensures) _ _ (entry_bad c.args.way _ c.args.lent.now c.requires.0 _ c.store_at-store.ensures _ c.by_way-used.ensures.value (count_fits c.args.way _ c.args.lent.now c.requires.0 c.requires.1 _ c.by_way-used.ensures.value) _ (at_low c.args.way _ c.args.lent.now c.requires.0 c.requires.1 _ c.by_way-used.ensures.value c.if-used-eq0.false _ (subst (NewestFound c.args.way _) c.in-Some.is c.newest_of.ensures)) _ c.get-got.ensures _ _ _ c.answer_with-in_default-found.ensures c.in_default-found.is refl)) }
+pub returns-in_default-get : goal.returns-in_default-get
+returns-in_default-get c =
+    let a = by_newest c.args.way _ c.args.lent.now c.requires.0 c.requires.1 _ c.by_way-used.ensures.value c.if-used-eq0.false _ (subst (NewestFound c.args.way _) c.in-Some.is c.newest_of.ensures) _ _ (entry_bad c.args.way _ c.args.lent.now c.requires.0 _ c.store_at-store.ensures _ c.by_way-used.ensures.value (count_fits c.args.way _ c.args.lent.now c.requires.0 c.requires.1 _ c.by_way-used.ensures.value) _ (at_low c.args.way _ c.args.lent.now c.requires.0 c.requires.1 _ c.by_way-used.ensures.value c.if-used-eq0.false _ (subst (NewestFound c.args.way _) c.in-Some.is c.newest_of.ensures)) _ c.get.ensures _ _ _ c.answer_with-in_default-get.ensures c.in_default-get.is refl) in
+    record { value = a.0; lent_after = a.1 }
 
 pub overflow_cast-newest : goal.overflow_cast-newest
 overflow_cast-newest c = omega (arith, passed_low c.args.way _ _ ((subst (NewestFound c.args.way _) c.in-Some.is c.newest_of.ensures)).2)
 
 pub take-requires : goal.take-requires
-take-requires c = (c.requires.0, entry_ends c.args.way _ c.args.lent.now c.requires.0 _ c.store_at-store.ensures _ c.by_way-used.ensures.value (count_fits c.args.way _ c.args.lent.now c.requires.0 c.requires.1 _ c.by_way-used.ensures.value) _ (at_low c.args.way _ c.args.lent.now c.requires.0 c.requires.1 _ c.by_way-used.ensures.value c.if-used-eq0.false _ (subst (NewestFound c.args.way _) c.in-Some.is c.newest_of.ensures)) _ c.get-got.ensures _ c.in-Good.is, sum_fits c.args.way _ c.args.lent.now c.requires.0 c.requires.1, marks_before c.args.way _ c.args.lent.now c.requires.0 c.requires.1 _ c.by_way-used.ensures.value c.if-used-eq0.false _ (subst (NewestFound c.args.way _) c.in-Some.is c.newest_of.ensures), ((subst (NewestFound c.args.way _) c.in-Some.is c.newest_of.ensures)).2)
+take-requires c = (c.requires.0, entry_ends c.args.way _ c.args.lent.now c.requires.0 _ c.store_at-store.ensures _ c.by_way-used.ensures.value (count_fits c.args.way _ c.args.lent.now c.requires.0 c.requires.1 _ c.by_way-used.ensures.value) _ (at_low c.args.way _ c.args.lent.now c.requires.0 c.requires.1 _ c.by_way-used.ensures.value c.if-used-eq0.false _ (subst (NewestFound c.args.way _) c.in-Some.is c.newest_of.ensures)) _ c.get.ensures _ c.in-Some-get.is, sum_fits c.args.way _ c.args.lent.now c.requires.0 c.requires.1, marks_before c.args.way _ c.args.lent.now c.requires.0 c.requires.1 _ c.by_way-used.ensures.value c.if-used-eq0.false _ (subst (NewestFound c.args.way _) c.in-Some.is c.newest_of.ensures), ((subst (NewestFound c.args.way _) c.in-Some.is c.newest_of.ensures)).2)
 
 pub returns : goal.returns
-returns c = record { value = first_of_two (by_newest c.args.way _ c.args.lent.now c.requires.0 c.requires.1 _ c.by_way-used.ensures.value c.if-used-eq0.false _ (subst (NewestFound c.args.way _) c.in-Some.is c.newest_of.ensures) _ _ (entry_good c.args.way _ c.args.lent.now c.requires.0 _ c.store_at-store.ensures _ c.by_way-used.ensures.value (count_fits c.args.way _ c.args.lent.now c.requires.0 c.requires.1 _ c.by_way-used.ensures.value) _ (at_low c.args.way _ c.args.lent.now c.requires.0 c.requires.1 _ c.by_way-used.ensures.value c.if-used-eq0.false _ (subst (NewestFound c.args.way _) c.in-Some.is c.newest_of.ensures)) _ c.get-got.ensures _ _ _ _ _ c.in-Good.is refl (c.take.ensures.value, c.take.ensures.lent_after))); lent_after = second_of_two (by_newest c.args.way _ c.args.lent.now c.requires.0 c.requires.1 _ c.by_way-used.ensures.value c.if-used-eq0.false _ (subst (NewestFound c.args.way _) c.in-Some.is c.newest_of.ensures) _ _ (entry_good c.args.way _ c.args.lent.now c.requires.0 _ c.store_at-store.ensures _ c.by_way-used.ensures.value (count_fits c.args.way _ c.args.lent.now c.requires.0 c.requires.1 _ c.by_way-used.ensures.value) _ (at_low c.args.way _ c.args.lent.now c.requires.0 c.requires.1 _ c.by_way-used.ensures.value c.if-used-eq0.false _ (subst (NewestFound c.args.way _) c.in-Some.is c.newest_of.ensures)) _ c.get-got.ensures _ _ _ _ _ c.in-Good.is refl (c.take.ensures.value, c.take.ensures.lent_after))) }
+returns c =
+    let a = by_newest c.args.way _ c.args.lent.now c.requires.0 c.requires.1 _ c.by_way-used.ensures.value c.if-used-eq0.false _ (subst (NewestFound c.args.way _) c.in-Some.is c.newest_of.ensures) _ _ (entry_good c.args.way _ c.args.lent.now c.requires.0 _ c.store_at-store.ensures _ c.by_way-used.ensures.value (count_fits c.args.way _ c.args.lent.now c.requires.0 c.requires.1 _ c.by_way-used.ensures.value) _ (at_low c.args.way _ c.args.lent.now c.requires.0 c.requires.1 _ c.by_way-used.ensures.value c.if-used-eq0.false _ (subst (NewestFound c.args.way _) c.in-Some.is c.newest_of.ensures)) _ c.get.ensures _ _ _ _ _ c.in-Some-get.is refl (c.take.ensures.value, c.take.ensures.lent_after)) in
+    record { value = a.0; lent_after = a.1 }

@@ -1,18 +1,17 @@
 -- Document 01, "OCC packets": a whole packet judged. After 0x12 and 0x14 of the packet come 0x11, 0x12, 0x13, 0x16, 0x15.
-use Rattle.std.specs.Prelude.{ℕ, ◌-◌, ◌*◌, cond, not, List, length, get_or, drop, replicate, ltb, eqb}
+use Rattle.std.specs.Prelude.{ℕ, ◌-◌, ◌*◌, cond, not, Option, Some, None, List, length, get_or, drop, replicate, ltb, eqb}
 use Rattle.record.specs.Record.{no_throttles}
 use Rattle.record.specs.declared.Record.{Record}
+use Rattle.record.specs.declared.Throttles.{Throttles}
 use Rattle.record.specs.declared.Worked.{Worked}
 use Rattle.change.specs.Change.{no_tables}
 use Rattle.change.specs.declared.Change.TheVariants.{SetThermal, SetThrottles}
 use Rattle.occ.specs.declared.Verdict.{Verdict}
 use Rattle.occ.specs.declared.Verdict.TheVariants.{Refuse, Make}
 use Rattle.occ.specs.declared.Judged.{Judged}
-use Rattle.sets.specs.declared.Sets.{Sets}
-use Rattle.sets.specs.declared.Frus.{Frus}
 use Rattle.occ.specs.Open.{open_to}
 use Rattle.occ.specs.Commands.{poll_verdict, clear_verdict, state_verdict, role_verdict, caps_verdict, user_verdict, reset_verdict}
-use Rattle.sets.specs.Sets.{empty_sets, sets_of, empty_frus, frus_of}
+use Rattle.sets.specs.Sets.{throttles_of, thermal_of}
 
 -- a verdict with no tables beside it
 unfoldable pub plainly : Verdict → Judged
@@ -28,28 +27,29 @@ count_status width n d =
 unfoldable pub sets_status : ℕ → List ℕ → ℕ
 sets_status width d = cond (ltb (length d) 3) 0x12 (count_status width (get_or d 2 0) d)
 
+-- the sets were read, or one of them was wrong
+unfoldable pub read_judged : {A : Type 0} → (A → Judged) → Option A → Judged
+read_judged made None = plainly (Refuse 0x13)
+read_judged made (Some t) = made t
+
 -- "0x21, 0x12": the sets replace the whole table
-unfoldable pub sets_judged : Sets → Judged
-sets_judged t =
-    cond (not t.ok) (plainly (Refuse 0x13))
-    (record { verdict = Make (SetThrottles 1); tables = record { thermal = replicate 9 0; throttles = t.table } })
+abbrev pub throttles_made : Throttles → Judged
+throttles_made t = record { verdict = Make (SetThrottles 1); tables = record { thermal = replicate 9 0; throttles = t } }
 
 unfoldable pub throttles_for : ℕ → List ℕ → Judged
 throttles_for status d =
-    cond (not (eqb status 0)) (plainly (Refuse status)) (sets_judged (sets_of (get_or d 2 0) empty_sets (drop 3 d)))
+    cond (not (eqb status 0)) (plainly (Refuse status)) (read_judged throttles_made (throttles_of (get_or d 2 0) (drop 3 d)))
 
 unfoldable pub throttles_judged : List ℕ → Judged
 throttles_judged d = throttles_for (sets_status 12 d) d
 
 -- "0x21, 0x13": FRU types not sent become 0xFF, 0xFF, 0xFF
-unfoldable pub frus_judged : Frus → Judged
-frus_judged t =
-    cond (not t.ok) (plainly (Refuse 0x13))
-    (record { verdict = Make (SetThermal 1); tables = record { thermal = t.bytes; throttles = no_throttles } })
+abbrev pub thermal_made : List ℕ → Judged
+thermal_made t = record { verdict = Make (SetThermal 1); tables = record { thermal = t; throttles = no_throttles } }
 
 unfoldable pub thermal_for : ℕ → List ℕ → Judged
 thermal_for status d =
-    cond (not (eqb status 0)) (plainly (Refuse status)) (frus_judged (frus_of (get_or d 2 0) empty_frus (drop 3 d)))
+    cond (not (eqb status 0)) (plainly (Refuse status)) (read_judged thermal_made (thermal_of (get_or d 2 0) (drop 3 d)))
 
 unfoldable pub thermal_judged : List ℕ → Judged
 thermal_judged d = thermal_for (sets_status 4 d) d

@@ -278,18 +278,13 @@ fn throttles_format(d: &[u8]) -> Judged
     if status != 0 {
         return plain(Verdict::Refuse(status));
     }
-    let n = d[2] as usize;
-    let read = sets::read_sets(&d[3..], n);
-    let table = read.table;
-    if !read.ok {
+    let Some(throttles) = sets::read_sets(&d[3..]) else {
         return plain(Verdict::Refuse(0x13));
-    }
+    };
+    let thermal = [0; 9];
     Judged {
         verdict: Verdict::Make(Change::SetThrottles(1)),
-        tables: Tables {
-            thermal: [0; 9],
-            throttles: table,
-        },
+        tables: Tables { thermal, throttles },
     }
 }
 
@@ -300,21 +295,16 @@ fn thermal_format(d: &[u8]) -> Judged
     if status != 0 {
         return plain(Verdict::Refuse(status));
     }
-    let n = d[2] as usize;
-    let read = sets::read_frus(&d[3..], n);
-    let bytes = read.bytes;
-    if !read.ok {
+    let Some(thermal) = sets::read_frus(&d[3..]) else {
         return plain(Verdict::Refuse(0x13));
-    }
+    };
+    let throttles = Throttles {
+        present: 0,
+        sets: [0; 160],
+    };
     Judged {
         verdict: Verdict::Make(Change::SetThermal(1)),
-        tables: Tables {
-            thermal: bytes,
-            throttles: Throttles {
-                present: 0,
-                sets: [0; 160],
-            },
-        },
+        tables: Tables { thermal, throttles },
     }
 }
 

@@ -1,4 +1,8 @@
 -- Document 01, "OCC packets": each command is accepted exactly when its conditions hold. d is the data. Assumes nothing.
+use Rattle.std.specs.Prelude.{Option, Some, None}
+use Rattle.std.specs.Option.{is_some}
+use Rattle.std.proofs.lemmas.Bool.{false≢true}
+use Rattle.std.proofs.Common.{◌∙◌}
 use Rattle.wire.proofs.laws.Cases.{cond_cases}
 use Rattle.std.specs.Prelude.{ℕ, zero, suc, ◌+◌, ◌-◌, ◌*◌, ◌<◌, ◌≤◌, Bool, true, false, cond, not, ◌≡◌, refl, List, [], ◌∷◌, ◌↔◌, ◌⊎◌, eqb, get_or, take, drop}
 use Rattle.std.proofs.Common.{sym, subst, not-suc-le-zero, le_of_suc-le-suc, eqb-true, lit<}
@@ -19,7 +23,7 @@ use Rattle.occ.specs.declared.Verdict.{Verdict}
 use Rattle.occ.specs.declared.Verdict.TheVariants.{Refuse, Poll, Make}
 use Rattle.occ.specs.declared.Judged.{Judged}
 use Rattle.occ.specs.Commands.{poll_verdict, clear_at, clear_verdict, state_fits, not_ready, state_verdict, role_verdict, caps_for, sent_caps, caps_verdict, user_allowed, user_for, user_verdict, log_due, reset_for, reset_verdict}
-use Rattle.occ.specs.Judge.{plainly, count_status, sets_status, sets_judged, throttles_for, throttles_judged, frus_judged, thermal_for, thermal_judged, format_judged, configure_judged, type_judged, judge_of}
+use Rattle.occ.specs.Judge.{plainly, count_status, sets_status, read_judged, throttles_made, throttles_for, throttles_judged, thermal_made, thermal_for, thermal_judged, format_judged, configure_judged, type_judged, judge_of}
 use Rattle.occ.specs.Open.{open_to}
 use Rattle.occ.proofs.laws.Open.{open_to_is}
 use Rattle.wire.proofs.laws.Chains.{holds, eq_holds, le_holds, eq_passes, lt_passes, le_passes, zero_passes, not_passes, unless, unless_last, if_needed, or_else, Ends, ends_unless, ends_if_needed, ends_when, ends_last, if_is, if_is_last, last_case, or_case}
@@ -208,17 +212,19 @@ sets_format_exactly width d j p =
     counted_first (counted (length d) (get_or d 2 0 * width)) (unless accepted (plain_refuses (sets_status width d)) (not_passes (sets_status_exactly width d)) p)
 
 -- the sets were read without fault
-read_exactly : {ok : Bool} (j : Judged) {rule : Type 0} → (ok ≡ true) ↔ rule
-    → accepted j ≡ true → (accepted (cond (not ok) (plainly (Refuse 0x13)) j) ≡ true) ↔ rule
-read_exactly j p h = unless_last accepted (plain_refuses 0x13) (not_passes p) h
+read_exactly : {A : Type 0} (made : A → Judged) (v : Option A) {rule : Type 0} → ((t : A) → accepted (made t) ≡ true) → (is_some v ≡ true) ↔ rule
+    → (accepted (read_judged made v) ≡ true) ↔ rule
+unfolding read_judged
+read_exactly made None h p = (λ e. absurd (false≢true (sym (plain_refuses 0x13) ∙ e)), λ r. absurd (false≢true (p.1 r)))
+read_exactly made (Some t) h p = (λ e. p.0 refl, λ r. h t)
 
 pub throttles_format_exactly : (d : List ℕ) → (accepted (throttles_judged d) ≡ true) ↔ ThrottlesFormatOk d
-unfolding throttles_judged throttles_for sets_judged ThrottlesFormatOk
-throttles_format_exactly d = sets_format_exactly 12 d _ (read_exactly _ (sets_exactly (get_or d 2 0) (drop 3 d)) (made _ _))
+unfolding throttles_judged throttles_for ThrottlesFormatOk
+throttles_format_exactly d = sets_format_exactly 12 d _ (read_exactly throttles_made _ (λ t. made _ _) (sets_exactly (get_or d 2 0) (drop 3 d)))
 
 pub thermal_format_exactly : (d : List ℕ) → (accepted (thermal_judged d) ≡ true) ↔ ThermalFormatOk d
-unfolding thermal_judged thermal_for frus_judged ThermalFormatOk
-thermal_format_exactly d = sets_format_exactly 4 d _ (read_exactly _ (frus_exactly (get_or d 2 0) (drop 3 d)) (made _ _))
+unfolding thermal_judged thermal_for ThermalFormatOk
+thermal_format_exactly d = sets_format_exactly 4 d _ (read_exactly thermal_made _ (λ t. made _ _) (frus_exactly (get_or d 2 0) (drop 3 d)))
 
 -- ---- configuration, and every command
 

@@ -1,4 +1,7 @@
 -- Laws of judged commands that other crates build on: what is known of a change that a command makes. Assumes nothing.
+use Rattle.std.specs.Prelude.{Option, Some, None}
+use Rattle.std.specs.Option.{IfSome}
+use Rattle.std.proofs.lemmas.Option.{IfSome_then}
 use Rattle.std.specs.Prelude.{ℕ, ◌<◌, ◌≤◌, Bool, true, cond, not, ◌≡◌, List, ◌⊎◌, eqb, length, drop, replicate}
 use Rattle.std.proofs.Math.Path.{refl, subst}
 use Rattle.std.proofs.Common.{sym, ◌∙◌, ⊎_elim, le-leb}
@@ -20,13 +23,13 @@ use Rattle.change.specs.declared.Change.{Change}
 use Rattle.change.specs.declared.Change.TheVariants.{Clear, Unclear, SetState, SetRole, SetCaps, SetUser, SetThermal, SetThrottles, Reset, Unreset, SetMask, SetDeadman, SetAreas, SetTimer}
 use Rattle.formed.specs.Formed.{state_ok, flag_ok, role_ok, caps_ok, thermal_ok, thermal_rule, throttles_ok, absent_zero, next_ok, reason_ok, record_ok, made_ok, change_ok}
 use Rattle.formed.proofs.laws.Formed.{Sound, sound, pends_cleared}
-use Rattle.sets.specs.Sets.{empty_sets, sets_of, empty_frus, frus_of}
+use Rattle.sets.specs.Sets.{throttles_of, thermal_of}
 use Rattle.sets.proofs.laws.Sets.{sets_formed, frus_formed}
 use Rattle.occ.specs.declared.Verdict.{Verdict}
 use Rattle.occ.specs.declared.Verdict.TheVariants.{Refuse, Poll, Make}
 use Rattle.occ.specs.declared.Judged.{Judged}
 use Rattle.occ.specs.Commands.{poll_verdict, clear_verdict, state_verdict, role_verdict, caps_verdict, user_verdict, log_due, reset_verdict}
-use Rattle.occ.specs.Judge.{plainly, sets_status, sets_judged, throttles_for, throttles_judged, frus_judged, thermal_for, thermal_judged, format_judged, configure_judged, type_judged, judge_of}
+use Rattle.occ.specs.Judge.{plainly, sets_status, read_judged, throttles_made, throttles_for, throttles_judged, thermal_made, thermal_for, thermal_judged, format_judged, configure_judged, type_judged, judge_of}
 use Rattle.occ.specs.Open.{open_to}
 use Rattle.wire.proofs.laws.Chains.{holds, eq_holds, le_holds, eq_passes, lt_passes, not_passes, unless, or_else, Ends}
 use Rattle.wire.specs.Conditions.{◌and◌}
@@ -198,17 +201,22 @@ module _ (r : Record) (next : ℕ) (s : Sound r next) (four : length r.logs ≡ 
   unfolding Rightly Makes Right Known change_ok thermal_ok flag_ok
   set_thermal t h = (h, tt)
 
-  sets_right : (status : ℕ) (ok : Bool) (j : Judged) → Rightly j
-      → Rightly (cond (not (eqb status 0)) (plainly (Refuse status)) (cond (not ok) (plainly (Refuse 0x13)) j))
-  sets_right status ok j h = cond_elim Rightly (not (eqb status 0)) (refused_right status) (cond_elim Rightly (not ok) (refused_right 0x13) h)
+  read_right : {A : Type 0} (made : A → Judged) (v : Option A) → IfSome v (λ t. Rightly (made t)) → Rightly (read_judged made v)
+  unfolding read_judged
+  read_right made None h = refused_right 0x13
+  read_right made (Some t) h = h
+
+  sets_right : {A : Type 0} (status : ℕ) (made : A → Judged) (v : Option A) → IfSome v (λ t. Rightly (made t))
+      → Rightly (cond (not (eqb status 0)) (plainly (Refuse status)) (read_judged made v))
+  sets_right status made v h = cond_elim Rightly (not (eqb status 0)) (refused_right status) (read_right made v h)
 
   throttles_right : (d : List ℕ) → Rightly (throttles_judged d)
-  unfolding throttles_judged throttles_for sets_judged
-  throttles_right d = sets_right (sets_status 12 d) (sets_of (get_or d 2 0) empty_sets (drop 3 d)).ok _ (set_throttles _ (sets_formed (get_or d 2 0) (drop 3 d)).absent)
+  unfolding throttles_judged throttles_for
+  throttles_right d = sets_right (sets_status 12 d) throttles_made _ (IfSome_then _ (sets_formed (get_or d 2 0) (drop 3 d)) (λ t f. set_throttles t f.absent))
 
   thermal_right : (d : List ℕ) → Rightly (thermal_judged d)
-  unfolding thermal_judged thermal_for frus_judged
-  thermal_right d = sets_right (sets_status 4 d) (frus_of (get_or d 2 0) empty_frus (drop 3 d)).ok _ (set_thermal _ (frus_formed (get_or d 2 0) (drop 3 d)).0)
+  unfolding thermal_judged thermal_for
+  thermal_right d = sets_right (sets_status 4 d) thermal_made _ (IfSome_then _ (frus_formed (get_or d 2 0) (drop 3 d)) (λ t f. set_thermal t f.0))
 
   configure_right : (state role : ℕ) (d : List ℕ) → Rightly (configure_judged state role d)
   unfolding configure_judged format_judged

@@ -1,4 +1,7 @@
 -- Document 01, "OCC packets": a command gets each status exactly when its row holds and none before it. d is the data. Assumes nothing.
+use Rattle.std.specs.Prelude.{Option, Some, None}
+use Rattle.std.specs.Option.{is_some}
+use Rattle.std.proofs.lemmas.Bool.{false≢true}
 use Rattle.std.specs.Prelude.{ℕ, ◌+◌, ◌-◌, ◌*◌, ◌≤◌, Bool, true, cond, not, ◌≡◌, refl, List, ◌↔◌, ◌⊎◌, ltb, leb, eqb, length, drop}
 use Rattle.std.proofs.Math.Bool.{true≢false}
 use Rattle.std.proofs.Common.{sym, ap, subst, ◌∙◌, arith, lit<}
@@ -23,7 +26,7 @@ use Rattle.occ.specs.declared.Verdict.{Verdict}
 use Rattle.occ.specs.declared.Verdict.TheVariants.{Refuse, Poll, Make}
 use Rattle.occ.specs.declared.Judged.{Judged}
 use Rattle.occ.specs.Commands.{poll_verdict, clear_at, clear_verdict, not_ready, state_verdict, role_verdict, caps_for, caps_verdict, user_for, user_verdict, log_due, reset_for, reset_verdict}
-use Rattle.occ.specs.Judge.{plainly, count_status, sets_status, sets_judged, throttles_for, throttles_judged, frus_judged, thermal_for, thermal_judged, format_judged, configure_judged, type_judged, judge_of}
+use Rattle.occ.specs.Judge.{plainly, count_status, sets_status, read_judged, throttles_made, throttles_for, throttles_judged, thermal_made, thermal_for, thermal_judged, format_judged, configure_judged, type_judged, judge_of}
 use Rattle.occ.specs.Open.{open_to}
 use Rattle.occ.proofs.laws.Open.{open_to_is}
 use Rattle.occ.specs.Conditions.{accepts}
@@ -162,17 +165,19 @@ module _ (j : Judged) {T : ℕ → Type 0} (rest : ByTable Declines j T) where
       (λ b. miss Counted (λ h. h ((counted (length d) (get_or d 2 0 * width)).0 (ltb-false (length d) 3 a, eqb-true _ _ (not-false _ b)))) after))
 
 -- the sets were read without fault
-read_rows : {ok : Bool} {rule : Type 0} (ch : Change) (t : Tables) → (ok ≡ true) ↔ rule
-    → ByTable Declines (cond (not ok) (plainly (Refuse 0x13)) (record { verdict = Make ch; tables = t })) (row 0x13 (rule → ⊥) none)
-read_rows ch t p = by_rows Declines (fails (not_passes p)) (plain (refuses 0x13)) (made ch t)
+read_rows : {A : Type 0} {rule : Type 0} (on : A → Judged) (v : Option A) → ((t : A) → ByTable Declines (on t) none) → (is_some v ≡ true) ↔ rule
+    → ByTable Declines (read_judged on v) (row 0x13 (rule → ⊥) none)
+unfolding read_judged
+read_rows on None h p = hit Declines (λ r. false≢true (p.1 r)) (plain (refuses 0x13))
+read_rows on (Some t) h p = miss Declines (λ r. r (p.0 refl)) (h t)
 
 throttles_rows_lem : (d : List ℕ) → ByTable Declines (throttles_judged d) (SetsStatus 12 d (SetsOk (get_or d 2 0) (drop 3 d)))
-unfolding throttles_judged throttles_for sets_judged SetsStatus
-throttles_rows_lem d = record { exactly = (count_rows _ (read_rows _ _ (sets_exactly (get_or d 2 0) (drop 3 d))) 12 d).exactly }
+unfolding throttles_judged throttles_for SetsStatus
+throttles_rows_lem d = record { exactly = (count_rows _ (read_rows throttles_made _ (λ t. made _ _) (sets_exactly (get_or d 2 0) (drop 3 d))) 12 d).exactly }
 
 thermal_rows_lem : (d : List ℕ) → ByTable Declines (thermal_judged d) (SetsStatus 4 d (FrusOk (get_or d 2 0) (drop 3 d)))
-unfolding thermal_judged thermal_for frus_judged SetsStatus
-thermal_rows_lem d = record { exactly = (count_rows _ (read_rows _ _ (frus_exactly (get_or d 2 0) (drop 3 d))) 4 d).exactly }
+unfolding thermal_judged thermal_for SetsStatus
+thermal_rows_lem d = record { exactly = (count_rows _ (read_rows thermal_made _ (λ t. made _ _) (frus_exactly (get_or d 2 0) (drop 3 d))) 4 d).exactly }
 
 -- ---- configuration, and every command
 

@@ -1,29 +1,16 @@
 -- The definition goes by the tests that the code makes; the part that is lent is all that is left from the fourth byte on.
-use Rattle.occ.specs.declared.Verdict.TheVariants.{Make}
-use Rattle.change.specs.declared.Change.TheVariants.{SetThrottles}
-use Rattle.sets.specs.declared.Sets.{Sets}
-use Rattle.sets.specs.Sets.{empty_sets, sets_of}
-use Rattle.occ.specs.Judge.{throttles_judged, throttles_for, sets_judged}
-use Rattle.occ.proofs.Parts.{of_rest, length_rest, counted_sets}
-use Rattle.wire.proofs.laws.Cases.{if_ne, else_ne, if_not, else_not}
 use Prim.Native.Nat.{ℕ}
 use mathlib.Core.Path.{ap, ◌∙◌}
 use native.Mathlib.Omega.{arith}
-use lib.ListN.{get_or, replicate}
+use Rattle.occ.specs.Judge.{read_judged, throttles_made, throttles_for, throttles_judged}
+use Rattle.occ.proofs.Parts.{counted_sets, read_counted}
+use Rattle.sets.specs.Sets.{throttles_of}
+use Rattle.wire.proofs.laws.Cases.{if_ne, else_ne}
 use Rattle.occ.proofs.throttles_format.Goals as goal
-
-pub sets_status-status-requires : goal.sets_status-status-requires
-sets_status-status-requires c = omega arith
 
 pub returns-then-status-ne0 : goal.returns-then-status-ne0
 unfolding throttles_judged throttles_for
 returns-then-status-ne0 c = if_ne _ _ c.if-status-ne0.true c.plain.ensures ∙ ap (λ (status : ℕ). throttles_for status c.args.d.now) c.sets_status-status.ensures
-
-pub bounds-d-2 : goal.bounds-d-2
-bounds-d-2 c = omega (arith, (counted_sets 12 c.args.d.now c.sets_status-status.ensures c.if-status-ne0.false).0)
-
-pub overflow_cast-n : goal.overflow_cast-n
-overflow_cast-n c = omega (arith, c.shared_slice_known-2-1.given 2)
 
 pub slice_bounds-read_sets-count : goal.slice_bounds-read_sets-count
 slice_bounds-read_sets-count c = omega (arith, (counted_sets 12 c.args.d.now c.sets_status-status.ensures c.if-status-ne0.false).0)
@@ -31,24 +18,16 @@ slice_bounds-read_sets-count c = omega (arith, (counted_sets 12 c.args.d.now c.s
 pub slice_bounds-read_sets-start : goal.slice_bounds-read_sets-start
 slice_bounds-read_sets-start c = omega (arith, (counted_sets 12 c.args.d.now c.sets_status-status.ensures c.if-status-ne0.false).0)
 
-pub slice_bounds-read_sets-end : goal.slice_bounds-read_sets-end
-slice_bounds-read_sets-end c = omega (arith, (counted_sets 12 c.args.d.now c.sets_status-status.ensures c.if-status-ne0.false).0)
-
-pub read_sets-read-requires : goal.read_sets-read-requires
-read_sets-read-requires c = let h = counted_sets 12 c.args.d.now c.sets_status-status.ensures c.if-status-ne0.false in (
-  omega (arith, c.shared_slice_known-2-1.given 2),
-  length_rest c.args.d.now 3 ∙ h.1,
-)
-
-pub returns-then-not-read : goal.returns-then-not-read
-unfolding throttles_judged throttles_for sets_judged
-returns-then-not-read c = let read = of_rest (sets_of (get_or c.args.d.now 2 0) empty_sets) c.args.d.now 3 c.read_sets-read.ensures in
-    else_ne _ _ c.if-status-ne0.false (if_not _ _ (ap (λ (t : Sets). t.ok) read) c.if-not-read.true c.plain-then-not-read.ensures)
+pub returns-in_default : goal.returns-in_default
+unfolding throttles_judged throttles_for read_judged
+returns-in_default c =
+    let read = read_counted throttles_of 12 c.args.d.now c.sets_status-status.ensures c.if-status-ne0.false c.in_default.ensures in
+    else_ne _ _ c.if-status-ne0.false (c.plain-in_default.ensures ∙ ap (read_judged throttles_made) read)
     ∙ ap (λ (status : ℕ). throttles_for status c.args.d.now) c.sets_status-status.ensures
 
 pub returns : goal.returns
-unfolding throttles_judged throttles_for sets_judged
-returns c = let read = of_rest (sets_of (get_or c.args.d.now 2 0) empty_sets) c.args.d.now 3 c.read_sets-read.ensures in
-    else_ne _ _ c.if-status-ne0.false
-    (else_not _ _ (ap (λ (t : Sets). t.ok) read) c.if-not-read.false (λ i. record { verdict = Make (SetThrottles 1); tables = record { thermal = replicate 9 0; throttles = (read i).table } }))
+unfolding throttles_judged throttles_for read_judged
+returns c =
+    let read = read_counted throttles_of 12 c.args.d.now c.sets_status-status.ensures c.if-status-ne0.false c.in-Some.ensures in
+    else_ne _ _ c.if-status-ne0.false (ap (read_judged throttles_made) read)
     ∙ ap (λ (status : ℕ). throttles_for status c.args.d.now) c.sets_status-status.ensures

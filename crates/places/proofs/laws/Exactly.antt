@@ -1,4 +1,6 @@
 -- Document 02, c: a fault is found exactly where the status is 0x13. d is the data. Assumes nothing.
+use Rattle.std.specs.Prelude.{Option, Some, None}
+use Rattle.std.specs.Option.{is_some}
 use Rattle.std.specs.Prelude.{ℕ, zero, suc, ◌+◌, ◌-◌, ◌*◌, ◌<◌, ◌≤◌, Bool, true, false, cond, not, ◌≡◌, refl, List, ◌↔◌, ltb, leb, eqb, length, get_or, take, drop}
 use Rattle.std.proofs.lemmas.Bool.{false≢true}
 use Rattle.std.proofs.Math.Bool.{true≢false}
@@ -16,14 +18,14 @@ use Rattle.change.specs.declared.Change.{Change}
 use Rattle.change.specs.declared.Tables.{Tables}
 use Rattle.formed.specs.Formed.{in_order}
 use Rattle.formed.proofs.laws.Thresholds.{order_exactly, out_of_order}
-use Rattle.sets.specs.Sets.{empty_sets, sets_of, empty_frus, frus_of}
+use Rattle.sets.specs.Sets.{throttles_of, thermal_of}
 use Rattle.sets.specs.Conditions.{set_at, InPairs, InFrus, SetsOk, FrusOk}
 use Rattle.sets.proofs.laws.Exactly.{sets_exactly, frus_exactly}
 use Rattle.occ.specs.declared.Verdict.{Verdict}
 use Rattle.occ.specs.declared.Verdict.TheVariants.{Refuse, Poll, Make}
 use Rattle.occ.specs.declared.Judged.{Judged}
 use Rattle.occ.specs.Commands.{poll_verdict, clear_at, clear_verdict, state_fits, not_ready, state_verdict, role_verdict, sent_caps, caps_for, caps_verdict, user_allowed, user_for, user_verdict, log_due, reset_for, reset_verdict}
-use Rattle.occ.specs.Judge.{plainly, count_status, sets_status, sets_judged, throttles_for, throttles_judged, frus_judged, thermal_for, thermal_judged, format_judged, configure_judged, type_judged, judge_of}
+use Rattle.occ.specs.Judge.{plainly, count_status, sets_status, read_judged, throttles_made, throttles_for, throttles_judged, thermal_made, thermal_for, thermal_judged, format_judged, configure_judged, type_judged, judge_of}
 use Rattle.occ.specs.Open.{open_to}
 use Rattle.places.specs.declared.Reason.{Reason}
 use Rattle.places.specs.declared.Reason.TheVariants.{BadVersion, BadCount, OutOfRange, Clash, NotPending}
@@ -222,13 +224,13 @@ none_found : {F : Faults} {found : Blame} → Least F found → (found ≡ Nothi
 none_found (no_fault h) = (λ e. h, λ e. refl)
 none_found (least x h low) = (λ e. let z : ◌≡◌ {A = ℕ} 1 0 = ap is_wrong e in absurd (omega arith), λ k. absurd (k x h))
 
-throttles_found : (d : List ℕ) (n : ℕ) → ((sets_of n empty_sets (drop 3 d)).ok ≡ true) ↔ (first_set Throttles d n ≡ Nothing)
+throttles_found : (d : List ℕ) (n : ℕ) → (is_some (throttles_of n (drop 3 d)) ≡ true) ↔ (first_set Throttles d n ≡ Nothing)
 throttles_found d n =
     let none = none_found (throttles_least d n) in
     let ok = sets_exactly n (drop 3 d) in
     (λ h. none.1 (throttles_sound d n (ok.0 h)), λ h. ok.1 (sound_throttles d n (none.0 h)))
 
-frus_found : (d : List ℕ) (n : ℕ) → ((frus_of n empty_frus (drop 3 d)).ok ≡ true) ↔ (first_set Thermal d n ≡ Nothing)
+frus_found : (d : List ℕ) (n : ℕ) → (is_some (thermal_of n (drop 3 d)) ≡ true) ↔ (first_set Thermal d n ≡ Nothing)
 frus_found d n =
     let none = none_found (thermals_least d n) in
     let ok = frus_exactly n (drop 3 d) in
@@ -243,12 +245,13 @@ unfolding plainly
 plain p = record { alike = p }
 
 -- the sets were read, or one of them was wrong
-read_alike : (ok : Bool) (found : Blame) → (ok ≡ true) ↔ (found ≡ Nothing) → (ch : Change) (t : Tables)
-    → Judges (cond (not ok) (plainly (Refuse 0x13)) (record { verdict = Make ch; tables = t })) found
-read_alike true Nothing e ch t = record { alike = made ch }
-read_alike false (Wrong x) e ch t = plain (record { exactly = (λ h. (x, refl), λ h. refl) })
-read_alike true (Wrong x) e ch t = let z : ◌≡◌ {A = ℕ} 1 0 = ap is_wrong (e.0 refl) in absurd (omega arith)
-read_alike false Nothing e ch t = absurd (false≢true (e.1 refl))
+read_alike : {A : Type 0} (on : A → Judged) (v : Option A) (found : Blame) → (is_some v ≡ true) ↔ (found ≡ Nothing)
+    → ((t : A) → Judges (on t) Nothing) → Judges (read_judged on v) found
+unfolding read_judged
+read_alike on (Some t) Nothing e h = h t
+read_alike on None (Wrong x) e h = plain (record { exactly = (λ h. (x, refl), λ h. refl) })
+read_alike on (Some t) (Wrong x) e h = let z : ◌≡◌ {A = ℕ} 1 0 = ap is_wrong (e.0 refl) in absurd (omega arith)
+read_alike on None Nothing e h = absurd (false≢true (e.1 refl))
 
 -- the tests that both formats with sets begin with, and j after them
 abbrev counted : Judged → ℕ → Judged
@@ -264,16 +267,16 @@ counted_alike false false false true j f p = plain (wrongs BadCount 3)
 counted_alike false false false false j f p = p
 
 throttles_alike : (d : List ℕ) → Judges (throttles_judged d) (sets_fault Throttles d)
-unfolding throttles_judged throttles_for sets_judged sets_status count_status sets_fault count_fault width_of
+unfolding throttles_judged throttles_for sets_status count_status sets_fault count_fault width_of
 throttles_alike d =
     counted_alike (ltb (length d) 3) (not (eqb (length d - 3) (get_or d 2 0 * 12))) (not (eqb (get_or d 1 0) 0x10)) (eqb (get_or d 2 0) 0)
-    (sets_judged (sets_of (get_or d 2 0) empty_sets (drop 3 d))) _ (read_alike _ _ (throttles_found d (get_or d 2 0)) _ _)
+    (read_judged throttles_made (throttles_of (get_or d 2 0) (drop 3 d))) _ (read_alike throttles_made _ _ (throttles_found d (get_or d 2 0)) (λ t. record { alike = made _ }))
 
 thermal_alike : (d : List ℕ) → Judges (thermal_judged d) (sets_fault Thermal d)
-unfolding thermal_judged thermal_for frus_judged sets_status count_status sets_fault count_fault width_of
+unfolding thermal_judged thermal_for sets_status count_status sets_fault count_fault width_of
 thermal_alike d =
     counted_alike (ltb (length d) 3) (not (eqb (length d - 3) (get_or d 2 0 * 4))) (not (eqb (get_or d 1 0) 0x10)) (eqb (get_or d 2 0) 0)
-    (frus_judged (frus_of (get_or d 2 0) empty_frus (drop 3 d))) _ (read_alike _ _ (frus_found d (get_or d 2 0)) _ _)
+    (read_judged thermal_made (thermal_of (get_or d 2 0) (drop 3 d))) _ (read_alike thermal_made _ _ (frus_found d (get_or d 2 0)) (λ t. record { alike = made _ }))
 
 -- ---- every command
 

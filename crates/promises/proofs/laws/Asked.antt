@@ -1,4 +1,7 @@
 -- A change that a command of bytes makes is one that links can undo: its values pass, its numbers are of their widths. Assumes nothing.
+use Rattle.std.specs.Prelude.{Option, Some, None}
+use Rattle.std.specs.Option.{IfSome}
+use Rattle.std.proofs.lemmas.Option.{IfSome_then}
 use Rattle.std.specs.Prelude.{ℕ, ◌+◌, ◌≤◌, Bool, true, cond, not, ◌⊎◌, ◌≡◌, List, ltb, leb, eqb, length, take, drop}
 use Rattle.std.proofs.Common.{inl, inr, ⊎_elim, sym, arith, ltb-false, eq-eqb}
 use Rattle.std.proofs.Math.Path.{refl, subst}
@@ -24,10 +27,10 @@ use Rattle.formed.proofs.laws.Formed.{sound}
 use Rattle.record.specs.Widths.{CapsFit}
 use Rattle.journal.proofs.laws.Bodies.{Writable}
 use Rattle.journal.specs.declared.Way.TheVariants.{After}
-use Rattle.sets.specs.Sets.{empty_sets, sets_of, empty_frus, frus_of}
-use Rattle.sets.proofs.laws.Sets.{sets_formed, frus_formed}
+use Rattle.sets.specs.Sets.{throttles_of, thermal_of}
+use Rattle.sets.proofs.laws.Sets.{PairsFormed, sets_formed, ThermalFormed, frus_formed}
 use Rattle.occ.specs.Commands.{poll_verdict, clear_at, clear_verdict, state_fits, not_ready, state_verdict, role_verdict, caps_for, sent_caps, caps_verdict, user_allowed, user_for, user_verdict, log_due, reset_for, reset_verdict}
-use Rattle.occ.specs.Judge.{plainly, sets_status, sets_judged, throttles_for, throttles_judged, frus_judged, thermal_for, thermal_judged, format_judged, configure_judged, type_judged, judge_of}
+use Rattle.occ.specs.Judge.{plainly, sets_status, read_judged, throttles_made, throttles_for, throttles_judged, thermal_made, thermal_for, thermal_judged, format_judged, configure_judged, type_judged, judge_of}
 use Rattle.occ.specs.Open.{open_to}
 use Rattle.occ.proofs.laws.Made.{Drawn, made_ok_lem, clear_pends, reset_drawn}
 use Rattle.occ.specs.declared.Verdict.{Verdict}
@@ -148,22 +151,26 @@ module _ (d : List ℕ) (bytes : Bytes d) where
   made_shape t ch h = make t ch h
 
   -- sets that are refused by their count, or by one of them
-  sets_shape : (status : ℕ) (ok : Bool) (j : Judged) → Shaped j
-      → Shaped (cond (not (eqb status 0)) (plainly (Refuse status)) (cond (not ok) (plainly (Refuse 0x13)) j))
-  sets_shape status ok j h = cond_elim Shaped (not (eqb status 0)) (refuse_shape status) (cond_elim Shaped (not ok) (refuse_shape 0x13) h)
+  read_shape : {A : Type 0} (made : A → Judged) (v : Option A) → IfSome v (λ t. Shaped (made t)) → Shaped (read_judged made v)
+  unfolding read_judged
+  read_shape made None h = refuse_shape 0x13
+  read_shape made (Some t) h = h
+
+  sets_shape : {A : Type 0} (status : ℕ) (made : A → Judged) (v : Option A) → IfSome v (λ t. Shaped (made t))
+      → Shaped (cond (not (eqb status 0)) (plainly (Refuse status)) (read_judged made v))
+  sets_shape status made v h = cond_elim Shaped (not (eqb status 0)) (refuse_shape status) (read_shape made v h)
 
   throttles_shape : Shaped (throttles_judged d)
-  unfolding throttles_judged throttles_for sets_judged
+  unfolding throttles_judged throttles_for
   throttles_shape =
-      let t = sets_of (get_or d 2 0) empty_sets (drop 3 d) in
-      let f = sets_formed (get_or d 2 0) (drop 3 d) in
-      sets_shape (sets_status 12 d) t.ok _ (made_shape (record { thermal = replicate 9 0; throttles = t.table }) (SetThrottles 1) (omega (arith, f.small), f.long, refl))
+      sets_shape (sets_status 12 d) throttles_made _
+      (IfSome_then _ {P = PairsFormed} (sets_formed (get_or d 2 0) (drop 3 d)) (λ t f. made_shape (record { thermal = replicate 9 0; throttles = t }) (SetThrottles 1) (omega (arith, f.small), f.long, refl)))
 
   thermal_shape : Shaped (thermal_judged d)
-  unfolding thermal_judged thermal_for frus_judged
+  unfolding thermal_judged thermal_for
   thermal_shape =
-      let t = frus_of (get_or d 2 0) empty_frus (drop 3 d) in
-      sets_shape (sets_status 4 d) t.ok _ (made_shape (record { thermal = t.bytes; throttles = no_throttles }) (SetThermal 1) ((frus_formed (get_or d 2 0) (drop 3 d)).1, refl))
+      sets_shape (sets_status 4 d) thermal_made _
+      (IfSome_then _ {P = ThermalFormed} (frus_formed (get_or d 2 0) (drop 3 d)) (λ t f. made_shape (record { thermal = t; throttles = no_throttles }) (SetThermal 1) (f.1, refl)))
 
   configure_shape : (state role : ℕ) → Shaped (configure_judged state role d)
   unfolding configure_judged format_judged

@@ -1,4 +1,5 @@
 -- A command judged in both worlds: the same verdict but for ids, or the ids ended in the second. Assumes nothing.
+use Rattle.std.specs.Prelude.{Option, Some, None}
 use Rattle.std.specs.Prelude.{ℕ, suc, ◌≤◌, ◌<◌, Bool, true, false, not, ◌⊎◌, ◌≡◌, List, [], ◌∷◌, map, ltb, eqb, length, take, drop}
 use Rattle.std.proofs.Math.Bool.{cond}
 use Rattle.std.proofs.Math.Logic.{inl, inr}
@@ -17,11 +18,10 @@ use Rattle.record.specs.declared.Worked.{Worked}
 use Rattle.change.specs.Logs.{pending_of, find_of}
 use Rattle.change.specs.With.{with_logs}
 use Rattle.change.specs.declared.Change.TheVariants.{Clear, Reset}
-use Rattle.sets.specs.Sets.{empty_sets, sets_of, empty_frus, frus_of}
-use Rattle.sets.specs.declared.Sets.{Sets}
-use Rattle.sets.specs.declared.Frus.{Frus}
+use Rattle.sets.specs.Sets.{throttles_of, thermal_of}
+use Rattle.record.specs.declared.Throttles.{Throttles}
 use Rattle.occ.specs.Commands.{poll_verdict, clear_at, clear_verdict, state_fits, not_ready, state_verdict, role_verdict, caps_for, sent_caps, caps_verdict, user_allowed, user_for, user_verdict, log_due, reset_for, reset_verdict}
-use Rattle.occ.specs.Judge.{plainly, sets_status, sets_judged, throttles_for, throttles_judged, frus_judged, thermal_for, thermal_judged, format_judged, configure_judged, type_judged, judge_of}
+use Rattle.occ.specs.Judge.{plainly, sets_status, read_judged, throttles_made, throttles_for, throttles_judged, thermal_made, thermal_for, thermal_judged, format_judged, configure_judged, type_judged, judge_of}
 use Rattle.occ.specs.Open.{open_to}
 use Rattle.occ.specs.declared.Verdict.{Verdict}
 use Rattle.occ.specs.declared.Verdict.TheVariants.{Refuse, Poll, Make}
@@ -111,21 +111,18 @@ module _ (k : ℕ) (low : 1 ≤ k) where
   sets_fixed : (status : ℕ) (j : Judged) → FixedJudged j → FixedJudged (cond (not (eqb status 0)) (plainly (Refuse status)) j)
   sets_fixed status j h = cond_elim FixedJudged (not (eqb status 0)) (refused_fixed status) h
 
-  pairs_fixed : (t : Sets) → FixedJudged (sets_judged t)
-  unfolding sets_judged shifted_judged shifted_verdict shifted_change
-  pairs_fixed t = cond_elim FixedJudged (not t.ok) (refused_fixed 0x13) refl
-
-  frus_fixed : (t : Frus) → FixedJudged (frus_judged t)
-  unfolding frus_judged shifted_judged shifted_verdict shifted_change
-  frus_fixed t = cond_elim FixedJudged (not t.ok) (refused_fixed 0x13) refl
+  read_fixed : {A : Type 0} (made : A → Judged) (v : Option A) → ((t : A) → FixedJudged (made t)) → FixedJudged (read_judged made v)
+  unfolding read_judged
+  read_fixed made None h = refused_fixed 0x13
+  read_fixed made (Some t) h = h t
 
   throttles_fixed : (d : List ℕ) → FixedJudged (throttles_judged d)
-  unfolding throttles_judged throttles_for
-  throttles_fixed d = sets_fixed (sets_status 12 d) _ (pairs_fixed (sets_of (get_or d 2 0) empty_sets (drop 3 d)))
+  unfolding throttles_judged throttles_for shifted_judged shifted_verdict shifted_change
+  throttles_fixed d = sets_fixed (sets_status 12 d) _ (read_fixed throttles_made (throttles_of (get_or d 2 0) (drop 3 d)) (λ t. refl))
 
   thermal_fixed : (d : List ℕ) → FixedJudged (thermal_judged d)
-  unfolding thermal_judged thermal_for
-  thermal_fixed d = sets_fixed (sets_status 4 d) _ (frus_fixed (frus_of (get_or d 2 0) empty_frus (drop 3 d)))
+  unfolding thermal_judged thermal_for shifted_judged shifted_verdict shifted_change
+  thermal_fixed d = sets_fixed (sets_status 4 d) _ (read_fixed thermal_made (thermal_of (get_or d 2 0) (drop 3 d)) (λ t. refl))
 
   configure_fixed : (state role : ℕ) (d : List ℕ) → FixedJudged (configure_judged state role d)
   unfolding configure_judged format_judged

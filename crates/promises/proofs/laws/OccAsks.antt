@@ -1,4 +1,5 @@
 -- What each OCC command asks for, with what is known of it where it is accepted. Assumes nothing.
+use Rattle.std.specs.Prelude.{Option, Some, None}
 use Rattle.std.specs.Prelude.{ℕ, ◌*◌, ◌<◌, ◌≤◌, false, not, ◌≡◌, List, eqb, ltb, leb, length, take, drop, replicate}
 use Rattle.std.proofs.Math.Bool.{true≢false}
 use Rattle.std.proofs.Math.Path.{refl}
@@ -17,14 +18,14 @@ use Rattle.change.specs.Change.{no_tables, kind_of}
 use Rattle.change.specs.declared.Tables.{Tables}
 use Rattle.change.specs.declared.Change.{Change}
 use Rattle.change.specs.declared.Change.TheVariants.{Clear, SetState, SetRole, SetCaps, SetUser, SetThermal, SetThrottles, Reset}
-use Rattle.sets.specs.Sets.{empty_sets, sets_of, empty_frus, frus_of}
+use Rattle.sets.specs.Sets.{throttles_of, thermal_of}
 use Rattle.sets.specs.Conditions.{SentPairs, SentFrus}
 use Rattle.sets.proofs.laws.Sent.{sets_sent, frus_sent}
 use Rattle.occ.specs.declared.Verdict.{Verdict}
 use Rattle.occ.specs.declared.Verdict.TheVariants.{Refuse, Poll, Make}
 use Rattle.occ.specs.declared.Judged.{Judged}
 use Rattle.occ.specs.Commands.{poll_verdict, clear_at, clear_verdict, state_fits, not_ready, state_verdict, role_verdict, caps_for, sent_caps, caps_verdict, user_allowed, user_for, user_verdict, log_due, reset_for, reset_verdict}
-use Rattle.occ.specs.Judge.{plainly, sets_status, sets_judged, throttles_for, throttles_judged, frus_judged, thermal_for, thermal_judged, format_judged, configure_judged, type_judged, judge_of}
+use Rattle.occ.specs.Judge.{plainly, sets_status, read_judged, throttles_made, throttles_for, throttles_judged, thermal_made, thermal_for, thermal_judged, format_judged, configure_judged, type_judged, judge_of}
 use Rattle.occ.specs.Open.{open_to}
 use Rattle.occ.proofs.laws.Exactly.{log_due_exactly, sets_status_exactly}
 use Rattle.promises.specs.Demand2.{kind_for}
@@ -121,21 +122,22 @@ module _ (r : Record) (next type : ℕ) (d : List ℕ) where
   sets_there : (width : ℕ) → not (eqb (sets_status width d) 0) ≡ false → get_or d 2 0 * width ≤ length (drop 3 d)
   sets_there width f = let h = (sets_status_exactly width d).0 (not-false _ f) in simp length-drop (omega (arith, h.1.0))
 
+  read_asks : {A : Type 0} (made : A → Judged) (v : Option A) → ((t : A) → v ≡ Some t → Judges (made t)) → Judges (read_judged made v)
+  unfolding read_judged
+  read_asks made None h = refused 0x13
+  read_asks made (Some t) h = h t refl
+
   throttles_asks : type ≡ 0x21 → get_or d 0 0 ≡ 0x12 → Judges (throttles_judged d)
-  unfolding throttles_judged throttles_for sets_judged
+  unfolding throttles_judged throttles_for
   throttles_asks e f =
-      let t = sets_of (get_or d 2 0) empty_sets (drop 3 d) in
       cond_cases Judges (not (eqb (sets_status 12 d) 0)) (λ g. refused (sets_status 12 d))
-      (λ g. cond_cases Judges (not t.ok) (λ h. refused 0x13)
-      (λ h. sets_throttles e f t.table (sets_sent (get_or d 2 0) (drop 3 d) (not-false _ h) (sets_there 12 g))))
+      (λ g. read_asks throttles_made _ (λ t h. sets_throttles e f t (sets_sent (get_or d 2 0) (drop 3 d) t h (sets_there 12 g))))
 
   thermal_asks : type ≡ 0x21 → get_or d 0 0 ≡ 0x13 → Judges (thermal_judged d)
-  unfolding thermal_judged thermal_for frus_judged
+  unfolding thermal_judged thermal_for
   thermal_asks e f =
-      let t = frus_of (get_or d 2 0) empty_frus (drop 3 d) in
       cond_cases Judges (not (eqb (sets_status 4 d) 0)) (λ g. refused (sets_status 4 d))
-      (λ g. cond_cases Judges (not t.ok) (λ h. refused 0x13)
-      (λ h. sets_thermal e f t.bytes (frus_sent (get_or d 2 0) (drop 3 d) (not-false _ h) (sets_there 4 g))))
+      (λ g. read_asks thermal_made _ (λ t h. sets_thermal e f t (frus_sent (get_or d 2 0) (drop 3 d) t h (sets_there 4 g))))
 
   configure_asks : (state role : ℕ) → type ≡ 0x21 → Judges (configure_judged state role d)
   unfolding configure_judged format_judged

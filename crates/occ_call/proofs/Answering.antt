@@ -1,4 +1,5 @@
 -- What the steps of the call give back, from what they call. Assumes nothing.
+use Rattle.places.specs.declared.Fault.{Fault}
 use Prim.Native.Nat.{ℕ, ◌≤◌}
 use mathlib.Core.Bool.{Bool, true, false, cond, not}
 use mathlib.Core.Path.{◌≡◌, refl, sym, ap, ◌∙◌}
@@ -21,8 +22,7 @@ use Rattle.occ.specs.Open.{by_profile}
 use Rattle.occ.specs.declared.Verdict.{Verdict}
 use Rattle.occ.specs.declared.Verdict.TheVariants.{Refuse, Poll, Make}
 use Rattle.occ.specs.declared.Judged.{Judged}
-use Rattle.places.specs.declared.Blame.{Blame}
-use Rattle.places.specs.declared.Blame.TheVariants.{Nothing}
+use Rattle.std.specs.Prelude.{Option, Some, None}
 use Rattle.session.specs.Session.{well_formed, carried_of}
 use Rattle.session.specs.Road.{Asks, refuses, tells, makes, due, Said, kept, done, settled}
 use Rattle.session.proofs.laws.Road.{made_full, made_done}
@@ -64,7 +64,7 @@ pub replies : (held : Record) (worked : Worked) (seq kind : ℕ) (d : List ℕ) 
 replies held worked seq kind d = said_of (λ (u : Verdict). told_of u held worked seq kind d)
 
 -- what doesn't refuse has no fault beside it
-pub faultless : (v : Verdict) (held : Record) (kind : ℕ) (d : List ℕ) → (tag_of the_type v ≡ 0 → ⊥) → Nothing ≡ fault_for v held kind d
+pub faultless : (v : Verdict) (held : Record) (kind : ℕ) (d : List ℕ) → (tag_of the_type v ≡ 0 → ⊥) → None ≡ fault_for v held kind d
 unfolding fault_for
 faultless (Refuse status) held kind d h = absurd (h refl)
 faultless Poll held kind d h = refl
@@ -79,14 +79,14 @@ module _ (h : Head) (b : List ℕ) (here : HeadStands h b) (sender : ℕ) (c d :
   abbrev Hears : Told → List ℕ → List ℕ → Type 0
   Hears t y z = Parts t y z (occ_read_left s sender c d)
 
-  abbrev fault_beside : Verdict → Blame
+  abbrev fault_beside : Verdict → Option Fault
   fault_beside v = fault_for v h.held (get_or c 1 0) (data_of c)
 
   module _ (j : Judged) (asked : j ≡ asked_of h.held h.worked h.next sender c) (v : Verdict) (shown : v ≡ by_profile h.profile (get_or c 1 0) j.verdict) where
     abbrev asks : Asks
     asks = verdict_asks h.held h.worked (get_or c 0 0) (get_or c 1 0) d j.tables v
 
-    by_verdict : (q : Said) (f : Blame) → q ≡ settled s d asks → f ≡ fault_beside v → occ_left q f ≡ occ_read_left s sender c d
+    by_verdict : (q : Said) (f : Option Fault) → q ≡ settled s d asks → f ≡ fault_beside v → occ_left q f ≡ occ_read_left s sender c d
     unfolding occ_read_left occ_read why_read judged_asks session_in
     by_verdict q f e g = λ i.
         occ_left
@@ -94,7 +94,7 @@ module _ (h : Head) (b : List ℕ) (here : HeadStands h b) (sender : ℕ) (c d :
         ∙ ap (λ (k : Judged). settled s d (judged_asks h.profile h.held h.worked (get_or c 0 0) (get_or c 1 0) d k)) asked) i)
         ((g ∙ ap fault_beside shown ∙ ap (λ (k : Judged). fault_beside (by_profile h.profile (get_or c 1 0) k.verdict)) asked) i)
 
-    pub told_in : (t : Told) (z : List ℕ) (f : Blame) → t ≡ beside_of 0 f → f ≡ fault_beside v → (tag_of the_type v ≡ 2 → ⊥)
+    pub told_in : (t : Told) (z : List ℕ) (f : Option Fault) → t ≡ beside_of 0 f → f ≡ fault_beside v → (tag_of the_type v ≡ 2 → ⊥)
         → z ≡ told_of v h.held h.worked (get_or c 0 0) (get_or c 1 0) d → Hears t b z
     unfolding occ_left settled done
     told_in t z f p g n q =
@@ -107,10 +107,10 @@ module _ (h : Head) (b : List ℕ) (here : HeadStands h b) (sender : ℕ) (c d :
       abbrev edit : Edit
       edit = record { change = ch; tables = j.tables }
 
-      by_made : (q : Said) → q ≡ settled s d (makes edit 0 (replied (get_or c 0 0) (get_or c 1 0) 0x00 [] d)) → occ_left q Nothing ≡ occ_read_left s sender c d
+      by_made : (q : Said) → q ≡ settled s d (makes edit 0 (replied (get_or c 0 0) (get_or c 1 0) 0x00 [] d)) → occ_left q None ≡ occ_read_left s sender c d
       unfolding verdict_asks fault_for
       by_made q e =
-          by_verdict q Nothing (e ∙ sym (ap (λ (u : Verdict). settled s d (verdict_asks h.held h.worked (get_or c 0 0) (get_or c 1 0) d j.tables u)) is)) (sym (ap fault_beside is))
+          by_verdict q None (e ∙ sym (ap (λ (u : Verdict). settled s d (verdict_asks h.held h.worked (get_or c 0 0) (get_or c 1 0) d j.tables u)) is)) (sym (ap fault_beside is))
 
       pub full_in : t ≡ record { answer = 5; small = 0; beside = 0 } → full ≡ true → Hears t y d
       unfolding occ_left beside_of kept
@@ -148,14 +148,14 @@ module _ (b : List ℕ) (long : length b ≡ image_length) (h : Head) (read : h 
   unfolding due why_from settled occ_left beside_of kept
   refused_in bytes t p z =
       parts t b d _ ((λ i. record { told = p i; image = (stands b long h read bytes).image i; reply = d })
-      ∙ (λ i. occ_left (settled s₀ d (if_ne (refuses n) (occ_read s₀ sender c d) z refl i)) (if_ne Nothing (why_read s₀ sender c) z refl i))
+      ∙ (λ i. occ_left (settled s₀ d (if_ne (refuses n) (occ_read s₀ sender c d) z refl i)) (if_ne None (why_read s₀ sender c) z refl i))
       ∙ by_refusal)
 
   pub heard_in : n ≡ 0 → (t : Told) (y z : List ℕ) → Parts t y z (occ_read_left s₀ sender c d) → Parts t y z (occ_on b sender c d)
   unfolding occ_read_left due why_from
   heard_in none t y z q =
       parts t y z _ ((λ i. record { told = q.0 i; image = q.1.0 i; reply = q.1.1 i })
-      ∙ (λ i. occ_left (settled s₀ d (else_ne (refuses n) (occ_read s₀ sender c d) none refl i)) (else_ne Nothing (why_read s₀ sender c) none refl i))
+      ∙ (λ i. occ_left (settled s₀ d (else_ne (refuses n) (occ_read s₀ sender c d) none refl i)) (else_ne None (why_read s₀ sender c) none refl i))
       ∙ by_refusal)
 
 -- bytes that are no image

@@ -1,5 +1,5 @@
 // The call `occ`: a command buffer from a sender, answered on a lent session. Refuse first, read, judge, carry out, reply last.
-#![tactic(auto)]
+#![tactic(auto, unfolding(crate::specs::Occ::known_sender, crate::specs::Occ::refusal_of, crate::specs::Occ::asked_of, crate::specs::Occ::asked_for, crate::specs::Occ::told_of, crate::specs::Occ::fault_for, crate::specs::Occ::beside_of))]
 
 ghost use Rattle.std.specs.Prelude.{true, ◌≡◌, ◌≤◌, length, get_or};
 ghost use Rattle.occ_call.specs.Occ.{known_sender, refusal_of, asked_of, told_of, fault_for, beside_of, occ_read_left, OccAllows};
@@ -12,7 +12,7 @@ use change::Edit;
 use image::Head;
 use inplace::Told;
 use occ::{Judged, Verdict};
-use places::Blame;
+use places::Fault;
 use record::{Record, Worked};
 
 // HTMGT or the BMC.
@@ -69,32 +69,31 @@ fn tell(verdict: Verdict, held: Record, worked: Worked, seq: u8, kind: u8, reply
 }
 
 // The first wrong byte of a 0x13; other statuses have none.
-fn why(verdict: Verdict, held: Record, command: &[u8]) -> Blame
+fn why(verdict: Verdict, held: Record, command: &[u8]) -> Option<Fault>
     requires { 4 ≤ length command.now }
     ensures { result ≡ fault_for verdict held (get_or command.now 1 0) (data_of command.now) }
 {
     let Verdict::Refuse(status) = verdict else {
-        return Blame::Nothing;
+        return None;
     };
     if status != 0x13 {
-        return Blame::Nothing;
+        return None;
     }
     let kind = command[1];
     places::find(held, kind, packet::data_part(command))
 }
 
 // Answer 0, and beside it reason and place.
-fn answer_why(found: Blame) -> Told
+fn answer_why(found: Option<Fault>) -> Told
     ensures { result ≡ beside_of 0 found }
 {
-    let Blame::Wrong(fault) = found else {
+    let Some(fault) = found else {
         return inplace::answer_with(0, 0);
     };
-    let reason = fault.reason;
-    let number = places::number(reason);
+    let small = u8::from(fault.reason);
     Told {
         answer: 0,
-        small: number,
+        small,
         beside: fault.at,
     }
 }

@@ -20,7 +20,7 @@ use Rattle.session.specs.declared.Session.{Session}
 use Rattle.inplace.specs.declared.Told.{Told}
 use Rattle.places.specs.Faults.{CommandFaults, NotAfter}
 use Rattle.places.specs.declared.Fault.{Fault}
-use Rattle.places.specs.declared.Blame.TheVariants.{Wrong}
+use Rattle.std.specs.Prelude.{Option, Some, None}
 use Rattle.session.specs.Road.{used_of, watch_only, Said, done}
 use Rattle.session.proofs.laws.Watch.{watch_formed}
 use Rattle.inplace.specs.InPlace.{no_image}
@@ -41,7 +41,7 @@ use Rattle.parting.specs.Lines.{told, told_length}
 use Rattle.parting.specs.declared.Parting.{Parting}
 use Rattle.listing.specs.Listing.{listed, listed_length}
 use Rattle.parting.specs.Parting.{Longest, shared_part, refusal_of, PlayersRefusal, parting_of}
-use Rattle.parting.specs.declared.Refusal.TheVariants.{Nothing}
+use Rattle.parting.specs.declared.Refusal.TheVariants.{None}
 use Rattle.parting.proofs.laws.Refusals.{refusal_is_the_players, refused_shares_nothing}
 use Rattle.parting.proofs.laws.Parting.{part_longest, part_number, longest_is_one, equal_share_all, first_empty, second_empty}
 use Rattle.playing.specs.declared.Played.{Played}
@@ -166,10 +166,10 @@ status_of_sbe = sbe_statuses
 -- document 02, c: a data byte is told exactly where the status is 0x13; it is wrong, and no other that is wrong comes before it, by number
 -- and then by reason. All that can be wrong: places/specs/Faults.antt
 pub wrong_byte_exactly_when : (s : Session) → TypedSession s → (sender : ℕ) (c d : List ℕ)
-    → ((x : Fault) × (occ_why s sender c d ≡ Wrong x)) ↔ (OccDue s sender c d and (occ_call s sender c d ≡ occ_error s c d 0x13))
+    → ((x : Fault) × (occ_why s sender c d ≡ Some x)) ↔ (OccDue s sender c d and (occ_call s sender c d ≡ occ_error s c d 0x13))
 wrong_byte_exactly_when = byte_told
 
-pub wrong_byte_is_the_least : (s : Session) → TypedSession s → (sender : ℕ) (c d : List ℕ) (x : Fault) → occ_why s sender c d ≡ Wrong x
+pub wrong_byte_is_the_least : (s : Session) → TypedSession s → (sender : ℕ) (c d : List ℕ) (x : Fault) → occ_why s sender c d ≡ Some x
     → CommandFaults s.held (get_or c 1 0) (data_of c) x and ((y : Fault) → CommandFaults s.held (get_or c 1 0) (data_of c) y → NotAfter x y)
 wrong_byte_is_the_least = byte_least
 
@@ -876,7 +876,7 @@ empty_shares_nothing t = (first_empty t, second_empty t)
 pub parting_refused_as_played : (t u : List ℕ) → PlayersRefusal (reading_of (trace_scan t)) (reading_of (trace_scan u)) (refusal_of t u)
 parting_refused_as_played = refusal_is_the_players
 
-pub refused_traces_share_nothing : (t u : List ℕ) → (refusal_of t u ≡ Nothing → ⊥) → shared_part t u ≡ []
+pub refused_traces_share_nothing : (t u : List ℕ) → (refusal_of t u ≡ None → ⊥) → shared_part t u ≡ []
 refused_traces_share_nothing = refused_shares_nothing
 
 -- ---- the ten worked examples of document 01, at the bytes

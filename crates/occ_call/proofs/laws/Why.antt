@@ -15,33 +15,30 @@ use Rattle.occ.proofs.laws.Open.{wrong_stays}
 use Rattle.occ.specs.declared.Verdict.{Verdict}
 use Rattle.occ.specs.declared.Verdict.TheVariants.{Refuse, Poll, Make}
 use Rattle.occ.specs.declared.Judged.{Judged}
+use Rattle.std.proofs.lemmas.Option.{none-some}
 use Rattle.places.specs.Places.{fault_of}
 use Rattle.places.specs.Faults.{Faults, CommandFaults, NotAfter, Least, least}
-use Rattle.places.proofs.laws.Exactly.{exactly_wrong, is_wrong, status_of}
+use Rattle.places.proofs.laws.Exactly.{exactly_wrong, status_of}
 use Rattle.places.proofs.laws.Least.{least_fault}
 use Rattle.places.specs.declared.Fault.{Fault}
-use Rattle.places.specs.declared.Blame.{Blame}
-use Rattle.places.specs.declared.Blame.TheVariants.{Nothing, Wrong}
+use Rattle.std.specs.Prelude.{Option, Some, None}
 use Rattle.session.specs.declared.Session.{Session}
 use Rattle.occ_call.specs.Occ.{asked_for, asked_of, fault_for, why_read, beside_of}
 
-pub nothing_wrong : {A : Type 0} (x : Fault) → Nothing ≡ Wrong x → A
-nothing_wrong x e = let z : ◌≡◌ {A = ℕ} 0 1 = ap is_wrong e in absurd (omega arith)
-
 -- the answer is what it is
-pub answer_beside : (n : ℕ) (f : Blame) → (beside_of n f).answer ≡ n
+pub answer_beside : (n : ℕ) (f : Option Fault) → (beside_of n f).answer ≡ n
 unfolding beside_of
-answer_beside n Nothing = refl
-answer_beside n (Wrong x) = refl
+answer_beside n None = refl
+answer_beside n (Some x) = refl
 
 -- a fault stands beside 0x13 only, and is the one of the data
-beside_only : (v : Verdict) (held : Record) (kind : ℕ) (d : List ℕ) (x : Fault) → fault_for v held kind d ≡ Wrong x → (v ≡ Refuse 0x13) × (fault_of held kind d ≡ Wrong x)
+beside_only : (v : Verdict) (held : Record) (kind : ℕ) (d : List ℕ) (x : Fault) → fault_for v held kind d ≡ Some x → (v ≡ Refuse 0x13) × (fault_of held kind d ≡ Some x)
 unfolding fault_for
 beside_only (Refuse n) held kind d x =
-    cond_cases (λ (f : Blame). f ≡ Wrong x → (Refuse n ≡ Refuse 0x13) × (fault_of held kind d ≡ Wrong x)) (not (eqb n 0x13)) (λ t. nothing_wrong x)
+    cond_cases (λ (f : Option Fault). f ≡ Some x → (Refuse n ≡ Refuse 0x13) × (fault_of held kind d ≡ Some x)) (not (eqb n 0x13)) (λ t e. absurd (none-some x e))
     (λ t e. (ap Refuse (eqb-true n 0x13 (not-false _ t)), e))
-beside_only Poll held kind d x = nothing_wrong x
-beside_only (Make ch) held kind d x = nothing_wrong x
+beside_only Poll held kind d x = λ e. absurd (none-some x e)
+beside_only (Make ch) held kind d x = λ e. absurd (none-some x e)
 
 never_13 : (c : List ℕ) → packet_status c ≡ 0x13 → ⊥
 unfolding packet_status status_at
@@ -51,14 +48,14 @@ never_13 c =
     (cond_elim P (ltb (length c) (data_length c + 6)) (λ e. omega (arith, e))
     (cond_elim P (not (eqb (be_nat (take 2 (drop (data_length c + 4) c))) (packet_sum (take (data_length c + 4) c)))) (λ e. omega (arith, e)) (λ e. omega (arith, e))))
 
-is_least : {F : Faults} {x : Fault} → Least F (Wrong x) → F x and ((y : Fault) → F y → NotAfter x y)
+is_least : {F : Faults} {x : Fault} → Least F (Some x) → F x and ((y : Fault) → F y → NotAfter x y)
 is_least (least x h low) = (h, low)
 
 module _ (s : Session) (sender : ℕ) (c : List ℕ) where
   abbrev judged : Judged
   judged = judge_of s.held s.worked s.next sender (get_or c 1 0) (data_of c)
 
-  abbrev found : Blame
+  abbrev found : Option Fault
   found = fault_of s.held (get_or c 1 0) (data_of c)
 
   -- a sender that may not send the type gets 0x11
@@ -75,7 +72,7 @@ module _ (s : Session) (sender : ℕ) (c : List ℕ) where
       cond_cases (λ (j : Judged). j.verdict ≡ Refuse 0x13 → (packet_status c ≡ 0) × (judged.verdict ≡ Refuse 0x13)) (not (eqb (packet_status c) 0))
       (λ t e. absurd (never_13 c (ap status_of e))) (λ t e. (eqb-true _ 0 (not-false _ t), e))
 
-  pub why_exactly : ((x : Fault) × (why_read s sender c ≡ Wrong x)) ↔ ((packet_status c ≡ 0) and (judged.verdict ≡ Refuse 0x13))
+  pub why_exactly : ((x : Fault) × (why_read s sender c ≡ Some x)) ↔ ((packet_status c ≡ 0) and (judged.verdict ≡ Refuse 0x13))
   unfolding why_read asked_of asked_for fault_for
   why_exactly = (
     λ h. asked_read ((wrong_stays s.profile (get_or c 1 0) _).0 (beside_only _ s.held (get_or c 1 0) (data_of c) h.0 h.1).0),
@@ -86,7 +83,7 @@ module _ (s : Session) (sender : ℕ) (c : List ℕ) where
         (q.0, ap (λ (v : Verdict). fault_for v s.held (get_or c 1 0) (data_of c)) still ∙ q.1),
   )
 
-  pub why_least : length s.held.logs ≡ 4 → (x : Fault) → why_read s sender c ≡ Wrong x
+  pub why_least : length s.held.logs ≡ 4 → (x : Fault) → why_read s sender c ≡ Some x
       → CommandFaults s.held (get_or c 1 0) (data_of c) x and ((y : Fault) → CommandFaults s.held (get_or c 1 0) (data_of c) y → NotAfter x y)
   unfolding why_read
   why_least four x e =

@@ -3,6 +3,7 @@ use Rattle.std.specs.Prelude.{Option, Some, None}
 use Rattle.std.specs.Option.{is_some}
 use Rattle.std.specs.Prelude.{ℕ, zero, suc, ◌+◌, ◌-◌, ◌*◌, ◌<◌, ◌≤◌, Bool, true, false, cond, not, ◌≡◌, refl, List, ◌↔◌, ltb, leb, eqb, length, get_or, take, drop}
 use Rattle.std.proofs.lemmas.Bool.{false≢true}
+use Rattle.std.proofs.lemmas.Option.{none-some}
 use Rattle.std.proofs.Math.Bool.{true≢false}
 use Rattle.std.proofs.Math.Path.{sym}
 use Rattle.std.proofs.Common.{ap, subst, ◌∙◌, lt_of_not-le, arith, get_or-take, get_or-drop}
@@ -30,8 +31,6 @@ use Rattle.occ.specs.Open.{open_to}
 use Rattle.places.specs.declared.Reason.{Reason}
 use Rattle.places.specs.declared.Reason.TheVariants.{BadVersion, BadCount, OutOfRange, Clash, NotPending}
 use Rattle.places.specs.declared.Fault.{Fault}
-use Rattle.places.specs.declared.Blame.{Blame}
-use Rattle.places.specs.declared.Blame.TheVariants.{Nothing, Wrong}
 use Rattle.places.specs.declared.SetTable.TheVariants.{Throttles, Thermal}
 use Rattle.places.specs.Places.{wrong, poll_fault, clear_fault, state_fault, role_fault, caps_fault, user_fault, reset_fault, width_of, first_set, count_fault, sets_fault, format_fault, configure_fault, fault_of}
 use Rattle.places.specs.Faults.{Faults, ThrottleFaults, ThermalFaults, each_of, Least, no_fault, least}
@@ -39,14 +38,10 @@ use Rattle.places.proofs.laws.Least.{throttles_least, thermals_least}
 
 -- ---- a verdict refuses with 0x13 exactly where a fault is found
 
-pub record Alike (v : Verdict) (found : Blame) : Type 0 where
-  pub exactly : (v ≡ Refuse 0x13) ↔ ((x : Fault) × (found ≡ Wrong x))
+pub record Alike (v : Verdict) (found : Option Fault) : Type 0 where
+  pub exactly : (v ≡ Refuse 0x13) ↔ ((x : Fault) × (found ≡ Some x))
 
--- whether a fault is found, and the status where one refuses
-abbrev pub is_wrong : Blame → ℕ
-is_wrong Nothing = 0
-is_wrong (Wrong x) = 1
-
+-- the status where one refuses
 abbrev pub status_of : Verdict → ℕ
 status_of (Refuse n) = n
 status_of Poll = 0
@@ -56,30 +51,30 @@ wrongs : (reason : Reason) (at : ℕ) → Alike (Refuse 0x13) (wrong reason at)
 unfolding wrong
 wrongs reason at = record { exactly = (λ e. (record { reason = reason; at = at }, refl), λ e. refl) }
 
-other : (v : Verdict) → (status_of v ≡ 0x13 → ⊥) → Alike v Nothing
-other v n = record { exactly = (λ e. absurd (n (ap status_of e)), λ e. let z : ◌≡◌ {A = ℕ} 0 1 = ap is_wrong e.1 in absurd (omega arith)) }
+other : (v : Verdict) → (status_of v ≡ 0x13 → ⊥) → Alike v None
+other v n = record { exactly = (λ e. absurd (n (ap status_of e)), λ e. absurd (none-some e.0 e.1)) }
 
-short : Alike (Refuse 0x12) Nothing
+short : Alike (Refuse 0x12) None
 short = other (Refuse 0x12) (λ e. omega (arith, e))
 
-state : Alike (Refuse 0x16) Nothing
+state : Alike (Refuse 0x16) None
 state = other (Refuse 0x16) (λ e. omega (arith, e))
 
-made : (ch : Change) → Alike (Make ch) Nothing
+made : (ch : Change) → Alike (Make ch) None
 made ch = other (Make ch) (λ e. omega (arith, e))
 
 -- a test that both make, and one that the judge of statuses alone makes
-both : {A : Type 0} (Q : A → Blame → Type 0) (t : Bool) {v w : A} {a b : Blame} → Q v a → Q w b → Q (cond t v w) (cond t a b)
+both : {A : Type 0} (Q : A → Option Fault → Type 0) (t : Bool) {v w : A} {a b : Option Fault} → Q v a → Q w b → Q (cond t v w) (cond t a b)
 both Q t p q = by_both Q t (λ e. p) (λ e. q)
 
-alone : (t : Bool) {v w : Verdict} {a : Blame} → Alike v a → Alike w a → Alike (cond t v w) a
+alone : (t : Bool) {v w : Verdict} {a : Option Fault} → Alike v a → Alike w a → Alike (cond t v w) a
 alone true p q = p
 alone false p q = q
 
 -- ---- the small commands
 
 -- the length that a type asks for
-sized : (d : List ℕ) (n : ℕ) {v : Verdict} {a : Blame} → Alike v a → Alike (cond (not (eqb (length d) n)) (Refuse 0x12) v) (cond (not (eqb (length d) n)) Nothing a)
+sized : (d : List ℕ) (n : ℕ) {v : Verdict} {a : Option Fault} → Alike v a → Alike (cond (not (eqb (length d) n)) (Refuse 0x12) v) (cond (not (eqb (length d) n)) None a)
 sized d n p = both Alike (not (eqb (length d) n)) short p
 
 poll_alike : (d : List ℕ) → Alike (poll_verdict d) (poll_fault d)
@@ -91,9 +86,9 @@ unfolding clear_verdict clear_at clear_fault
 clear_alike logs d = sized d 1 (both Alike (leb 4 (find_of (get_or d 0 0) logs)) (wrongs NotPending 1) (made _))
 
 -- the four tests of set state's bytes are one to the judge of statuses
-fits_alike : (a b c e : Bool) {v : Verdict} → Alike v Nothing
+fits_alike : (a b c e : Bool) {v : Verdict} → Alike v None
     → Alike (cond (not (cond a false (cond b false (cond c false e)))) (Refuse 0x13) v)
-    (cond a (wrong BadVersion 1) (cond b (wrong OutOfRange 2) (cond c (wrong OutOfRange 2) (cond (not e) (wrong OutOfRange 3) Nothing))))
+    (cond a (wrong BadVersion 1) (cond b (wrong OutOfRange 2) (cond c (wrong OutOfRange 2) (cond (not e) (wrong OutOfRange 3) None))))
 fits_alike true b c e p = wrongs _ _
 fits_alike false true c e p = wrongs _ _
 fits_alike false false true e p = wrongs _ _
@@ -124,7 +119,7 @@ unfolding user_verdict user_for user_fault
 user_alike role got caps d = sized d 2 (both Alike (not (user_allowed got caps (be_nat (take 2 d)))) (wrongs OutOfRange 1) (alone (eqb role 0) state (made _)))
 
 -- a log that isn't due or has no room
-log_alike : (role : ℕ) (logs : List Log) (next reason : ℕ) → Alike (reset_for role logs next reason) Nothing
+log_alike : (role : ℕ) (logs : List Log) (next reason : ℕ) → Alike (reset_for role logs next reason) None
 unfolding reset_for
 log_alike role logs next reason =
     let full = other (Refuse 0x15) (λ e. omega (arith, e)) in
@@ -220,46 +215,46 @@ module _ (d : List ℕ) where
         f.2
 
 -- nothing is found exactly where there is nothing to find
-none_found : {F : Faults} {found : Blame} → Least F found → (found ≡ Nothing) ↔ ((x : Fault) → F x → ⊥)
+none_found : {F : Faults} {found : Option Fault} → Least F found → (found ≡ None) ↔ ((x : Fault) → F x → ⊥)
 none_found (no_fault h) = (λ e. h, λ e. refl)
-none_found (least x h low) = (λ e. let z : ◌≡◌ {A = ℕ} 1 0 = ap is_wrong e in absurd (omega arith), λ k. absurd (k x h))
+none_found (least x h low) = (λ e. absurd (none-some x (sym e)), λ k. absurd (k x h))
 
-throttles_found : (d : List ℕ) (n : ℕ) → (is_some (throttles_of n (drop 3 d)) ≡ true) ↔ (first_set Throttles d n ≡ Nothing)
+throttles_found : (d : List ℕ) (n : ℕ) → (is_some (throttles_of n (drop 3 d)) ≡ true) ↔ (first_set Throttles d n ≡ None)
 throttles_found d n =
     let none = none_found (throttles_least d n) in
     let ok = sets_exactly n (drop 3 d) in
     (λ h. none.1 (throttles_sound d n (ok.0 h)), λ h. ok.1 (sound_throttles d n (none.0 h)))
 
-frus_found : (d : List ℕ) (n : ℕ) → (is_some (thermal_of n (drop 3 d)) ≡ true) ↔ (first_set Thermal d n ≡ Nothing)
+frus_found : (d : List ℕ) (n : ℕ) → (is_some (thermal_of n (drop 3 d)) ≡ true) ↔ (first_set Thermal d n ≡ None)
 frus_found d n =
     let none = none_found (thermals_least d n) in
     let ok = frus_exactly n (drop 3 d) in
     (λ h. none.1 (frus_sound d n (ok.0 h)), λ h. ok.1 (sound_frus d n (none.0 h)))
 
 -- the same of what is judged, with tables beside it
-record Judges (j : Judged) (found : Blame) : Type 0 where
+record Judges (j : Judged) (found : Option Fault) : Type 0 where
   alike : Alike j.verdict found
 
-plain : {v : Verdict} {a : Blame} → Alike v a → Judges (plainly v) a
+plain : {v : Verdict} {a : Option Fault} → Alike v a → Judges (plainly v) a
 unfolding plainly
 plain p = record { alike = p }
 
 -- the sets were read, or one of them was wrong
-read_alike : {A : Type 0} (on : A → Judged) (v : Option A) (found : Blame) → (is_some v ≡ true) ↔ (found ≡ Nothing)
-    → ((t : A) → Judges (on t) Nothing) → Judges (read_judged on v) found
+read_alike : {A : Type 0} (on : A → Judged) (v : Option A) (found : Option Fault) → (is_some v ≡ true) ↔ (found ≡ None)
+    → ((t : A) → Judges (on t) None) → Judges (read_judged on v) found
 unfolding read_judged
-read_alike on (Some t) Nothing e h = h t
-read_alike on None (Wrong x) e h = plain (record { exactly = (λ h. (x, refl), λ h. refl) })
-read_alike on (Some t) (Wrong x) e h = let z : ◌≡◌ {A = ℕ} 1 0 = ap is_wrong (e.0 refl) in absurd (omega arith)
-read_alike on None Nothing e h = absurd (false≢true (e.1 refl))
+read_alike on (Some t) None e h = h t
+read_alike on None (Some x) e h = plain (record { exactly = (λ h. (x, refl), λ h. refl) })
+read_alike on (Some t) (Some x) e h = absurd (none-some x (sym (e.0 refl)))
+read_alike on None None e h = absurd (false≢true (e.1 refl))
 
 -- the tests that both formats with sets begin with, and j after them
 abbrev counted : Judged → ℕ → Judged
 counted j status = cond (not (eqb status 0)) (plainly (Refuse status)) j
 
-counted_alike : (a b c e : Bool) (j : Judged) (found : Blame) → Judges j found
+counted_alike : (a b c e : Bool) (j : Judged) (found : Option Fault) → Judges j found
     → Judges (counted j (cond a 0x12 (cond b 0x12 (cond c 0x13 (cond e 0x13 0x00)))))
-    (cond a Nothing (cond b Nothing (cond c (wrong BadVersion 2) (cond e (wrong BadCount 3) found))))
+    (cond a None (cond b None (cond c (wrong BadVersion 2) (cond e (wrong BadCount 3) found))))
 counted_alike true b c e j f p = plain short
 counted_alike false true c e j f p = plain short
 counted_alike false false true e j f p = plain (wrongs BadVersion 2)
@@ -303,7 +298,7 @@ type_alike r w next kind d =
 
 -- a fault is found exactly where the status is 0x13, of the types that are open to the sender
 pub exactly_wrong : (r : Record) (w : Worked) (next sender kind : ℕ) (d : List ℕ) → open_to sender kind ≡ true
-    → ((judge_of r w next sender kind d).verdict ≡ Refuse 0x13) ↔ ((x : Fault) × (fault_of r kind d ≡ Wrong x))
+    → ((judge_of r w next sender kind d).verdict ≡ Refuse 0x13) ↔ ((x : Fault) × (fault_of r kind d ≡ Some x))
 unfolding judge_of
 exactly_wrong r w next sender kind d may =
     (subst (λ (b : Bool). Judges (cond (not b) (plainly (Refuse 0x11)) (type_judged kind r w next d)) (fault_of r kind d)) (sym may) (type_alike r w next kind d)).alike.exactly

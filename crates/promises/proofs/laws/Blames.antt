@@ -1,4 +1,5 @@
 -- Document 02, c in two worlds that differ in ids: the same data byte is told in both. Assumes nothing.
+use Rattle.places.specs.declared.Fault.{Fault}
 use Rattle.std.specs.Prelude.{ℕ, ◌≤◌, ◌<◌, not, List, [], ◌∷◌, map, ◌≡◌, eqb, leb, length, get_or}
 use Rattle.std.proofs.Math.Bool.{cond}
 use Rattle.std.proofs.Math.Path.{refl, ap}
@@ -12,15 +13,14 @@ use Rattle.change.specs.With.{with_logs}
 use Rattle.occ.specs.declared.Verdict.{Verdict}
 use Rattle.occ.specs.declared.Verdict.TheVariants.{Refuse, Poll, Make}
 use Rattle.places.specs.Places.{wrong, clear_fault, fault_of}
-use Rattle.places.specs.declared.Blame.{Blame}
-use Rattle.places.specs.declared.Blame.TheVariants.{Nothing}
+use Rattle.std.specs.Prelude.{Option, Some, None}
 use Rattle.places.specs.declared.Reason.TheVariants.{NotPending}
 use Rattle.occ_call.specs.Occ.{fault_for}
 use Rattle.promises.specs.Shifted.{shifted, shifted_log, shifted_record}
 use Rattle.promises.proofs.laws.Shifted.{find_shifted, shifted_low}
 use Rattle.promises.proofs.laws.Judgements.{shifted_verdict}
 
-abbrev Same : Blame → Blame → Type 0
+abbrev Same : Option Fault → Option Fault → Type 0
 Same a b = a ≡ b
 
 module _ (k : ℕ) (low : 1 ≤ k) where
@@ -29,13 +29,13 @@ module _ (k : ℕ) (low : 1 ≤ k) where
 
   clear_fault_lem : (i j : ℕ) (l : List Log) → find_of j (map f l) ≡ find_of i l → clear_fault (map f l) (j ∷ []) ≡ clear_fault l (i ∷ [])
   unfolding clear_fault
-  clear_fault_lem i j l e = ap (λ (p : ℕ). cond (leb 4 p) (wrong NotPending 1) Nothing) e
+  clear_fault_lem i j l e = ap (λ (p : ℕ). cond (leb 4 p) (wrong NotPending 1) None) e
 
   old_fault : (l : List Log) (d : List ℕ) → (length d ≡ 1 → get_or d 0 0 < k) → clear_fault (map f l) d ≡ clear_fault l d
   unfolding clear_fault
   old_fault l d old =
       by_both Same (not (eqb (length d) 1)) (λ g. refl)
-      (λ g. ap (λ (p : ℕ). cond (leb 4 p) (wrong NotPending 1) Nothing)
+      (λ g. ap (λ (p : ℕ). cond (leb 4 p) (wrong NotPending 1) None)
       (ap (λ (j : ℕ). find_of j (map f l)) (sym (shifted_low k (get_or d 0 0) (old (eqb-true (length d) 1 (not-false _ g))))) ∙ find_shifted k low (get_or d 0 0) l))
 
   module _ (r : Record) where

@@ -30,10 +30,10 @@ use Rattle.session.specs.declared.Session.{Session}
 use Rattle.occ_call.specs.Occ.{known_sender, refusal_of, occ_refusal, told_of, verdict_asks, judged_asks, asked_for, asked_of, occ_read, occ_asks, occ_call, fault_for, why_read, why_from, occ_why, beside_of, occ_left, occ_read_left, occ_on}
 use Rattle.wire.specs.Wire.{Bytes}
 use Rattle.image.specs.declared.Head.{Head}
-use Rattle.image.specs.Image.{head_in, session_in}
+use Rattle.image.specs.Image.{image_of, session_in}
 use Rattle.layout.specs.Layout.{image_length}
 use Rattle.inplace.specs.declared.Told.{Told}
-use Rattle.inplace.specs.InPlace.{HeadStands, carried_in}
+use Rattle.inplace.specs.InPlace.{HeadStands, Opens, Unopened, carried_in}
 use Rattle.inplace.proofs.laws.InPlace.{Parts, parts, stands, on_read, carried_kept, carried_new}
 use Rattle.inplace.proofs.laws.InPlace as inplace
 
@@ -124,13 +124,12 @@ module _ (h : Head) (b : List ℕ) (here : HeadStands h b) (sender : ℕ) (c d :
           parts t y z _ ((λ i. record { told = p i; image = carried_new h b here edit full y room left g i; reply = q i })
           ∙ by_made (done (carried_of s edit).session 0 0 (replied (get_or c 0 0) (get_or c 1 0) 0x00 [] d)) (sym (made_done s d edit 0 _ (sym room ∙ g))))
 
--- ---- the whole call: f says whether the session is well formed, n is the refusal that is due
+-- ---- the whole call: n is the refusal that is due to a well-formed session
 
-module _ (b : List ℕ) (long : length b ≡ image_length) (h : Head) (read : h ≡ head_in b) (sender : ℕ) (c d : List ℕ) (f : Bool) (n : ℕ)
-    (formed : f ≡ well_formed (session_in h b)) (is : n ≡ refusal_of f sender (length c) (length d)) where
+module _ (b : List ℕ) (h : Head) (o : Opens b h) (sender : ℕ) (c d : List ℕ) (n : ℕ) (is : n ≡ refusal_of true sender (length c) (length d)) where
   -- no refusal is due
-  pub met_in : n ≡ 0 → (well_formed (session_in h b) ≡ true) × (4 ≤ length c)
-  met_in none = met (session_in h b) f n sender (length c) (length d) formed is none
+  pub met_in : n ≡ 0 → 4 ≤ length c
+  met_in none = (met (session_in h b) true n sender (length c) (length d) (sym o.formed) is none).1
 
   abbrev s₀ : Session
   s₀ = session_in h b
@@ -141,13 +140,13 @@ module _ (b : List ℕ) (long : length b ≡ image_length) (h : Head) (read : h 
   by_refusal : occ_left (settled s₀ d (asked_first n)) (why_from n s₀ sender c) ≡ occ_on b sender c d
   unfolding occ_on occ_call occ_asks occ_why occ_refusal
   by_refusal =
-      ap (λ (k : ℕ). occ_left (settled s₀ d (asked_first k)) (why_from k s₀ sender c)) (is ∙ ap (λ (g : Bool). refusal_of g sender (length c) (length d)) formed)
-      ∙ on_read (λ (x : Session). occ_left (occ_call x sender c d) (occ_why x sender c d)) d b long h read
+      ap (λ (k : ℕ). occ_left (settled s₀ d (asked_first k)) (why_from k s₀ sender c)) (is ∙ ap (λ (g : Bool). refusal_of g sender (length c) (length d)) (sym o.formed))
+      ∙ on_read (λ (x : Session). occ_left (occ_call x sender c d) (occ_why x sender c d)) d b o.long h o.read
 
-  pub refused_in : Bytes b → (t : Told) → t ≡ record { answer = n; small = 0; beside = 0 } → (n ≡ 0 → ⊥) → Parts t b d (occ_on b sender c d)
+  pub refused_in : (t : Told) → t ≡ record { answer = n; small = 0; beside = 0 } → (n ≡ 0 → ⊥) → Parts t b d (occ_on b sender c d)
   unfolding due why_from settled occ_left beside_of kept
-  refused_in bytes t p z =
-      parts t b d _ ((λ i. record { told = p i; image = (stands b long h read bytes).image i; reply = d })
+  refused_in t p z =
+      parts t b d _ ((λ i. record { told = p i; image = o.stands.image i; reply = d })
       ∙ (λ i. occ_left (settled s₀ d (if_ne (refuses n) (occ_read s₀ sender c d) z refl i)) (if_ne None (why_read s₀ sender c) z refl i))
       ∙ by_refusal)
 
@@ -158,10 +157,16 @@ module _ (b : List ℕ) (long : length b ≡ image_length) (h : Head) (read : h 
       ∙ (λ i. occ_left (settled s₀ d (else_ne (refuses n) (occ_read s₀ sender c d) none refl i)) (else_ne None (why_read s₀ sender c) none refl i))
       ∙ by_refusal)
 
--- bytes that are no image
-pub no_image_lem : (b : List ℕ) → (length b ≡ image_length → ⊥) → (sender : ℕ) (c d : List ℕ) (t : Told) → t ≡ record { answer = 1; small = 0; beside = 0 } → Parts t b d (occ_on b sender c d)
+ill_refused : (sender : ℕ) (c d : List ℕ) (s : Session) → well_formed s ≡ false
+    → record { told = record { answer = 1; small = 0; beside = 0 }; image = image_of s; reply = d } ≡ occ_left (occ_call s sender c d) (occ_why s sender c d)
+unfolding occ_call occ_asks occ_why occ_refusal refusal_of due why_from settled occ_left beside_of kept
+ill_refused sender c d s ill =
+    ap (λ (g : Bool). occ_left (settled s d (due (refusal_of g sender (length c) (length d)) (occ_read s sender c d))) (why_from (refusal_of g sender (length c) (length d)) s sender c)) (sym ill)
+
+-- bytes that don't open
+pub unopened : (b : List ℕ) → Unopened b → (sender : ℕ) (c d : List ℕ) (t : Told) → t ≡ record { answer = 1; small = 0; beside = 0 } → Parts t b d (occ_on b sender c d)
 unfolding occ_on
-no_image_lem b z sender c d t p = inplace.no_image_lem (λ (s : Session). occ_left (occ_call s sender c d) (occ_why s sender c d)) d b z t p
+unopened b shut sender c d t p = inplace.unopened (λ (s : Session). occ_left (occ_call s sender c d) (occ_why s sender c d)) d (ill_refused sender c d) b shut t p
 
 -- ---- what a command asks for
 

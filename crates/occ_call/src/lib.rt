@@ -6,7 +6,7 @@ ghost use Rattle.occ_call.specs.Occ.{known_sender, refusal_of, asked_of, told_of
 ghost use Rattle.packet.specs.Packet.{data_of};
 ghost use Rattle.session.specs.Session.{well_formed};
 ghost use Rattle.image.specs.Image.{session_in};
-ghost use Rattle.inplace.specs.InPlace.{HeadStands};
+ghost use Rattle.inplace.specs.InPlace.{HeadStands, Refused};
 
 use change::Edit;
 use image::Head;
@@ -25,23 +25,20 @@ fn known_sender(sender: u8) -> bool
     sender == 0x20
 }
 
-// Answers 1 to 4 in document 01's order, 0 where none is due.
-fn refusal(formed: bool, sender: u8, command: usize, reply: usize) -> u8
-    ensures { result ≡ refusal_of formed sender command reply }
+// Answers 2 to 4 in document 01's order, of a session that is well formed.
+fn refusal(sender: u8, command: usize, reply: usize) -> Option<u8>
+    ensures { Refused (refusal_of true sender command reply) result }
 {
-    if !formed {
-        return 1;
-    }
     if !known_sender(sender) {
-        return 2;
+        return Some(2);
     }
     if reply < 4096 {
-        return 3;
+        return Some(3);
     }
     if command < 4 {
-        return 4;
+        return Some(4);
     }
-    0
+    None
 }
 
 // What a command asks for: its packet's own statuses first, then its type and data judged.
@@ -137,13 +134,10 @@ fn hear(lent: &mut [u8], h: Head, sender: u8, command: &[u8], reply: &mut [u8]) 
 pub fn occ(lent: &mut [u8], sender: u8, command: &[u8], reply: &mut [u8]) -> Told
     ensures { OccAllows lent.old sender command.now reply.old result lent.new reply.new }
 {
-    if lent.len() != layout::IMAGE {
+    let Some(h) = inplace::open(&*lent) else {
         return inplace::answer_with(1, 0);
-    }
-    let h = image::read_head(&*lent);
-    let formed = inplace::well_formed(&*lent, h);
-    let n = refusal(formed, sender, command.len(), reply.len());
-    if n != 0 {
+    };
+    if let Some(n) = refusal(sender, command.len(), reply.len()) {
         return inplace::answer_with(n, 0);
     }
     hear(lent, h, sender, command, reply)

@@ -41,7 +41,7 @@ use Rattle.parting.specs.Lines.{told, told_length}
 use Rattle.parting.specs.declared.Parting.{Parting}
 use Rattle.listing.specs.Listing.{listed, listed_length}
 use Rattle.parting.specs.Parting.{Longest, shared_part, refusal_of, PlayersRefusal, parting_of}
-use Rattle.parting.specs.declared.Refusal.TheVariants.{None}
+use Rattle.parting.specs.declared.Refusal.TheVariants.{Nothing}
 use Rattle.parting.proofs.laws.Refusals.{refusal_is_the_players, refused_shares_nothing}
 use Rattle.parting.proofs.laws.Parting.{part_longest, part_number, longest_is_one, equal_share_all, first_empty, second_empty}
 use Rattle.playing.specs.declared.Played.{Played}
@@ -649,14 +649,15 @@ pub the_plan_given_passes : (s : Session) (p : List ℕ) (wanted : ℕ) (d : Lis
 the_plan_given_passes s p wanted d g =
     let x = given_due s p wanted d g.1 in
     let some = given_some s p wanted d x.0 x.1 g.1 in
-    (given_passes s p wanted d x.0 x.1 some, given_front s p wanted d x.0 x.1 some, given_long s p wanted d x.0 x.1 some)
+    (given_passes s p wanted d x.0 x.1 some.0 some.1, given_front s p wanted d x.0 x.1 some.0 some.1, given_long s p wanted d x.0 x.1 some.0 some.1)
 
 -- it is the one with the fewest packets, then the least in index order, of all that pass
 pub the_plan_given_is_least : (s : Session) (p : List ℕ) (wanted : ℕ) (d : List ℕ) → Given (plan_call s p wanted d)
     → (o : List ℕ) → Accepted (plan_ok_call s p wanted o) → FewestThenLeast (plan_in (plan_call s p wanted d)) o
 the_plan_given_is_least s p wanted d g o a =
     let x = given_due s p wanted d g.1 in
-    given_least s p wanted d x.0 x.1 (given_some s p wanted d x.0 x.1 g.1) o ((accepted_exactly s p wanted o x.0).0 a)
+    let some = given_some s p wanted d x.0 x.1 g.1 in
+    given_least s p wanted d x.0 x.1 some.0 some.1 o ((accepted_exactly s p wanted o x.0).0 a)
 
 -- "\"No plan\" comes exactly when no such order exists"; the buffer is kept then
 pub no_plan_exactly_when_none : (s : Session) (p : List ℕ) (wanted : ℕ) → PlanDue s p wanted → (d : List ℕ) → 5 ≤ length d
@@ -876,7 +877,7 @@ empty_shares_nothing t = (first_empty t, second_empty t)
 pub parting_refused_as_played : (t u : List ℕ) → PlayersRefusal (reading_of (trace_scan t)) (reading_of (trace_scan u)) (refusal_of t u)
 parting_refused_as_played = refusal_is_the_players
 
-pub refused_traces_share_nothing : (t u : List ℕ) → (refusal_of t u ≡ None → ⊥) → shared_part t u ≡ []
+pub refused_traces_share_nothing : (t u : List ℕ) → (refusal_of t u ≡ Nothing → ⊥) → shared_part t u ≡ []
 refused_traces_share_nothing = refused_shares_nothing
 
 -- ---- the ten worked examples of document 01, at the bytes

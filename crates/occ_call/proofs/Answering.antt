@@ -1,4 +1,9 @@
 -- What the steps of the call give back, from what they call. Assumes nothing.
+use Rattle.std.specs.Prelude.{Result, Ok, Err}
+use Rattle.std.specs.Result.{is_ok}
+use Rattle.packet.specs.Packet.{Checked, status_number}
+use Rattle.packet.specs.declared.Status.{Status}
+use Rattle.packet.specs.declared.Status.TheVariants.{InvalidCommand, InvalidLength, InvalidData, ChecksumFailure, InternalError, StateProhibits}
 use Rattle.places.specs.declared.Fault.{Fault}
 use Prim.Native.Nat.{ℕ, ◌≤◌}
 use mathlib.Core.Bool.{Bool, true, false, cond, not}
@@ -167,16 +172,3 @@ ill_refused sender c d s ill =
 pub unopened : (b : List ℕ) → Unopened b → (sender : ℕ) (c d : List ℕ) (t : Told) → t ≡ record { answer = 1; small = 0; beside = 0 } → Parts t b d (occ_on b sender c d)
 unfolding occ_on
 unopened b shut sender c d t p = inplace.unopened (λ (s : Session). occ_left (occ_call s sender c d) (occ_why s sender c d)) d (ill_refused sender c d) b shut t p
-
--- ---- what a command asks for
-
-pub asked_unread : (held : Record) (worked : Worked) (next sender status : ℕ) (c : List ℕ) (x : Judged) → status ≡ packet_status c → (status ≡ 0 → ⊥) → x ≡ plainly (Refuse status)
-    → x ≡ asked_of held worked next sender c
-unfolding asked_of asked_for
-asked_unread held worked next sender status c x e z p = if_ne _ _ z p ∙ ap (λ (k : ℕ). asked_for k held worked next sender c) e
-
-pub asked_judged : (held : Record) (worked : Worked) (next sender status : ℕ) (c part : List ℕ) (x : Judged) → status ≡ packet_status c → status ≡ 0 → part ≡ data_of c
-    → x ≡ judge_of held worked next sender (get_or c 1 0) part → x ≡ asked_of held worked next sender c
-unfolding asked_of asked_for
-asked_judged held worked next sender status c part x e z p q =
-    else_ne _ _ z (q ∙ ap (judge_of held worked next sender (get_or c 1 0)) p) ∙ ap (λ (k : ℕ). asked_for k held worked next sender c) e

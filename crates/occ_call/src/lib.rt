@@ -1,5 +1,5 @@
 // The call `occ`: a command buffer from a sender, answered on a lent session. Refuse first, read, judge, carry out, reply last.
-#![tactic(auto, unfolding(crate::specs::Occ::known_sender, crate::specs::Occ::refusal_of, crate::specs::Occ::asked_of, crate::specs::Occ::asked_for, crate::specs::Occ::told_of, crate::specs::Occ::fault_for, crate::specs::Occ::beside_of))]
+#![tactic(auto, unfolding(crate::specs::Occ::known_sender, crate::specs::Occ::refusal_of, crate::specs::Occ::asked_of, crate::specs::Occ::asked_for, crate::specs::Occ::told_of, crate::specs::Occ::fault_by, crate::specs::Occ::fault_for, crate::specs::Occ::beside_of))]
 
 ghost use Rattle.std.specs.Prelude.{true, ◌≡◌, ◌≤◌, length, get_or};
 ghost use Rattle.occ_call.specs.Occ.{known_sender, refusal_of, asked_of, told_of, fault_for, beside_of, occ_read_left, OccAllows};
@@ -12,6 +12,7 @@ use change::Edit;
 use image::Head;
 use inplace::Told;
 use occ::{Judged, Verdict};
+use packet::Status;
 use places::Fault;
 use record::{Record, Worked};
 
@@ -46,8 +47,7 @@ fn ask(held: Record, worked: Worked, next: u16, sender: u8, command: &[u8]) -> J
     requires { 4 ≤ length command.now }
     ensures { result ≡ asked_of held worked next sender command.now }
 {
-    let status = packet::status(command);
-    if status != 0 {
+    if let Err(status) = packet::check(command) {
         return occ::plain(Verdict::Refuse(status));
     }
     let kind = command[1];
@@ -59,7 +59,7 @@ fn tell(verdict: Verdict, held: Record, worked: Worked, seq: u8, kind: u8, reply
     ensures { reply.new ≡ told_of verdict held worked seq kind reply.old }
 {
     match verdict {
-        Verdict::Refuse(status) => packet::error_reply(reply, seq, kind, status),
+        Verdict::Refuse(status) => packet::error_reply(reply, seq, kind, u8::from(status)),
         Verdict::Poll => poll::poll_reply(reply, seq, held, worked),
         Verdict::Make(_) => {}
     }
@@ -70,12 +70,9 @@ fn why(verdict: Verdict, held: Record, command: &[u8]) -> Option<Fault>
     requires { 4 ≤ length command.now }
     ensures { result ≡ fault_for verdict held (get_or command.now 1 0) (data_of command.now) }
 {
-    let Verdict::Refuse(status) = verdict else {
+    let Verdict::Refuse(Status::InvalidData) = verdict else {
         return None;
     };
-    if status != 0x13 {
-        return None;
-    }
     let kind = command[1];
     places::find(held, kind, packet::data_part(command))
 }

@@ -1,5 +1,6 @@
 -- Document 02, l: "A newcomer has up to five prepared OCC packets from HTMGT and wants state 2 or 3. Propose an order": what a packet tried, a proposal and the plan
 -- come to, for every session, packets and order.
+use Rattle.std.specs.Result.{is_ok}
 use Rattle.std.specs.Prelude.{ℕ, zero, suc, ◌+◌, ◌-◌, ◌*◌, ◌/◌, ◌%◌, Bool, true, false, cond, not, Option, Some, None, List, [], ◌∷◌, ◌≡◌, ltb, eqb, length, get_or, take, drop}
 use Rattle.wire.specs.Conditions.{◌and◌}
 use Rattle.wire.specs.Wire.{pasted}
@@ -35,7 +36,7 @@ packet_of number p = packet_at (number - 1) p
 
 -- what of "answer 0 and success" the packet's bytes alone decide: 4 bytes at least, and no status of the packet's own
 unfoldable pub sound : List ℕ → Bool
-sound c = cond (ltb (length c) 4) false (eqb (packet_status c) 0)
+sound c = cond (ltb (length c) 4) false (is_ok (packet_status c))
 
 -- of the five places at once: each packet is read and summed once
 unfoldable pub sounds : List ℕ → List Bool

@@ -46,7 +46,7 @@ fn sound(command: &[u8]) -> bool
     if command.len() < 4 {
         return false;
     }
-    packet::status(command) == 0
+    packet::check(command).is_ok()
 }
 
 // Of all five places: each packet is read and summed once.

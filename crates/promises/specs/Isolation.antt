@@ -1,5 +1,8 @@
 -- Document 02, g: "The thermal people share a session with the SBE people and want to know that they can." What OCC exchanges depend on is a small value, the bench, and what
 -- mailbox requests and time reports depend on is the timer; neither side moves the other's.
+use Rattle.std.specs.Prelude.{Ok}
+use Rattle.std.specs.Result.{is_ok}
+use Rattle.packet.specs.declared.Status.TheVariants.{InvalidCommand, InvalidLength, InvalidData, ChecksumFailure, InternalError, StateProhibits}
 use Rattle.places.specs.declared.Fault.{Fault}
 use Rattle.std.specs.Prelude.{ℕ, ◌+◌, true, cond, not, ◌≡◌, List, [], ◌∷◌, eqb, length, get_or}
 use Rattle.record.specs.Record.{no_area, worked_of}

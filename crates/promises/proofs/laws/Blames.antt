@@ -1,4 +1,10 @@
 -- Document 02, c in two worlds that differ in ids: the same data byte is told in both. Assumes nothing.
+use Rattle.std.specs.Prelude.{Result, Ok, Err}
+use Rattle.std.specs.Result.{is_ok}
+use Rattle.packet.specs.Packet.{Checked, status_number}
+use Rattle.packet.proofs.laws.Exactly.{ok_is, checked_cases}
+use Rattle.packet.specs.declared.Status.{Status}
+use Rattle.packet.specs.declared.Status.TheVariants.{InvalidCommand, InvalidLength, InvalidData, ChecksumFailure, InternalError, StateProhibits}
 use Rattle.places.specs.declared.Fault.{Fault}
 use Rattle.std.specs.Prelude.{ℕ, ◌≤◌, ◌<◌, not, List, [], ◌∷◌, map, ◌≡◌, eqb, leb, length, get_or}
 use Rattle.std.proofs.Math.Bool.{cond}
@@ -15,7 +21,7 @@ use Rattle.occ.specs.declared.Verdict.TheVariants.{Refuse, Poll, Make}
 use Rattle.places.specs.Places.{wrong, clear_fault, fault_of}
 use Rattle.std.specs.Prelude.{Option, Some, None}
 use Rattle.places.specs.declared.Reason.TheVariants.{NotPending}
-use Rattle.occ_call.specs.Occ.{fault_for}
+use Rattle.occ_call.specs.Occ.{fault_by, fault_for}
 use Rattle.promises.specs.Shifted.{shifted, shifted_log, shifted_record}
 use Rattle.promises.proofs.laws.Shifted.{find_shifted, shifted_low}
 use Rattle.promises.proofs.laws.Judgements.{shifted_verdict}
@@ -49,9 +55,14 @@ module _ (k : ℕ) (low : 1 ≤ k) where
     clears_fault i = clear_fault_lem i (shifted k i) r.logs (find_shifted k low i r.logs)
 
     -- beside a verdict: only 0x13 has one
-    pub verdict_fault : (v : Verdict) (kind kind' : ℕ) (d d' : List ℕ) → (v ≡ Refuse 0x13 → fault_of (shifted_record k r) kind' d' ≡ fault_of r kind d)
+    pub verdict_fault : (v : Verdict) (kind kind' : ℕ) (d d' : List ℕ) → (v ≡ Refuse InvalidData → fault_of (shifted_record k r) kind' d' ≡ fault_of r kind d)
         → fault_for (shifted_verdict k v) (shifted_record k r) kind' d' ≡ fault_for v r kind d
-    unfolding fault_for shifted_verdict
-    verdict_fault (Refuse n) kind kind' d d' h = by_both Same (not (eqb n 0x13)) (λ g. refl) (λ g. h (ap Refuse (eqb-true n 0x13 (not-false _ g))))
+    unfolding fault_for fault_by shifted_verdict
+    verdict_fault (Refuse InvalidData) kind kind' d d' h = h refl
+    verdict_fault (Refuse InvalidCommand) kind kind' d d' h = refl
+    verdict_fault (Refuse InvalidLength) kind kind' d d' h = refl
+    verdict_fault (Refuse ChecksumFailure) kind kind' d d' h = refl
+    verdict_fault (Refuse InternalError) kind kind' d d' h = refl
+    verdict_fault (Refuse StateProhibits) kind kind' d d' h = refl
     verdict_fault Poll kind kind' d d' h = refl
     verdict_fault (Make ch) kind kind' d d' h = refl

@@ -1,4 +1,10 @@
 -- One call on two sessions that are the same but for ids: both say the same but for ids, and do the same. Assumes nothing.
+use Rattle.std.specs.Prelude.{Result, Ok, Err}
+use Rattle.std.specs.Result.{is_ok}
+use Rattle.packet.specs.Packet.{Checked, status_number}
+use Rattle.packet.proofs.laws.Exactly.{ok_is, checked_cases}
+use Rattle.packet.specs.declared.Status.{Status}
+use Rattle.packet.specs.declared.Status.TheVariants.{InvalidCommand, InvalidLength, InvalidData, ChecksumFailure, InternalError, StateProhibits}
 use Rattle.places.specs.declared.Fault.{Fault}
 use Rattle.std.specs.Prelude.{ℕ, suc, ◌≤◌, Bool, true, false, not, ◌⊎◌, ◌≡◌, eqb, length, get_or}
 use Rattle.std.proofs.Math.Bool.{cond}
@@ -270,7 +276,7 @@ module _ (k : ℕ) (low : 1 ≤ k) (s t : Session) (tw : Twins k s t) (from_k : 
         inr (o.0, o.1, (λ i. occs.beside_of (o.0.answer i) (h.1 i))))
 
     -- the data byte beside 0x13, by its verdict: of a packet that both send, and of the two clears of one log
-    fault_there : (sender : ℕ) (c c' : List ℕ) → ((occs.asked_of s.held s.worked s.next sender c).verdict ≡ Refuse 0x13
+    fault_there : (sender : ℕ) (c c' : List ℕ) → ((occs.asked_of s.held s.worked s.next sender c).verdict ≡ Refuse InvalidData
         → fault_of (shifted_record k s.held) (get_or c' 1 0) (data_of c') ≡ fault_of s.held (get_or c 1 0) (data_of c))
         → occs.asked_of t.held t.worked t.next sender c' ≡ shifted_judged k (occs.asked_of s.held s.worked s.next sender c)
         → occs.fault_for (occs.asked_of t.held t.worked t.next sender c').verdict t.held (get_or c' 1 0) (data_of c')

@@ -1,4 +1,10 @@
 -- Document 02, g: what each side hears is what it would hear alone. Assumes nothing.
+use Rattle.std.specs.Prelude.{Result, Ok, Err}
+use Rattle.std.specs.Result.{is_ok}
+use Rattle.packet.specs.Packet.{Checked, status_number, packet_status}
+use Rattle.packet.proofs.laws.Exactly.{ok_is, checked_cases}
+use Rattle.packet.specs.declared.Status.{Status}
+use Rattle.packet.specs.declared.Status.TheVariants.{InvalidCommand, InvalidLength, InvalidData, ChecksumFailure, InternalError, StateProhibits}
 use Rattle.places.specs.declared.Fault.{Fault}
 use Rattle.std.specs.Prelude.{ℕ, ◌+◌, Bool, cond, not, ◌≡◌, ltb, leb, length, get_or}
 use Rattle.std.proofs.Math.Bool.{true, false}
@@ -73,7 +79,8 @@ worked_dry r = refl
 
 asked_dry : (r : Record) (w : Worked) (next sender : ℕ) (c : List ℕ) → occs.asked_of (dry r) w next sender c ≡ occs.asked_of r w next sender c
 unfolding occs.asked_of occs.asked_for judge_of type_judged dry
-asked_dry r w next sender c = refl
+asked_dry r w next sender c =
+    checked_cases (λ (v : Checked). occs.asked_for v (dry r) w next sender c ≡ occs.asked_for v r w next sender c) (packet_status c) (λ x e. refl) (λ e. refl)
 
 poll_dry : (r : Record) (w : Worked) → poll_data (dry r) w ≡ poll_data r w
 unfolding poll_data dry

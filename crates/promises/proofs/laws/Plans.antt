@@ -1,4 +1,10 @@
 -- Document 02, l: the check accepts exactly the orders that lead to the wanted state, and the search finds the least of them. Assumes nothing.
+use Rattle.std.specs.Prelude.{Err, Ok as Good}
+use Rattle.std.specs.Result.{is_ok}
+use Rattle.packet.specs.Packet.{Checked, status_number}
+use Rattle.packet.proofs.laws.Exactly.{ok_is, checked_cases}
+use Rattle.packet.specs.declared.Status.{Status}
+use Rattle.packet.specs.declared.Status.TheVariants.{InvalidCommand, InvalidLength, InvalidData, ChecksumFailure, InternalError, StateProhibits}
 use Rattle.std.specs.Prelude.{ℕ, ◌+◌, ◌-◌, ◌*◌, ◌≤◌, Bool, cond, ◌↔◌, ◌≡◌, ltb, eqb, length, get_or, drop}
 use Rattle.std.specs.Prelude.{Option, Some, None}
 use Rattle.std.specs.Option.{is_some}
@@ -154,11 +160,11 @@ module _ (s : Session) (typed : TypedSession s) (ok : well_formed s ≡ true) (f
   by_verdict (Make ch) = refl
 
   -- what its bytes decide
-  sound_exactly : (sound c ≡ true) ↔ ((4 ≤ length c) and (packet_status c ≡ 0))
+  sound_exactly : (sound c ≡ true) ↔ ((4 ≤ length c) and (packet_status c ≡ Good tt))
   unfolding sound
   sound_exactly = (
-    λ h. let q = passed _ _ h in (ltb-false (length c) 4 q.0, eqb-true (packet_status c) 0 q.1),
-    λ h. sym (else_lt _ _ h.0 (sym ((eq_holds (packet_status c) 0).1 h.1))),
+    λ h. let q = passed _ _ h in (ltb-false (length c) 4 q.0, ok_is (packet_status c) q.1),
+    λ h. sym (else_lt _ _ h.0 (sym (ap is_ok h.1))),
   )
 
   unsound : sound c ≡ false → is_some (trial_of t c) ≡ false
@@ -214,7 +220,7 @@ module _ (s : Session) (typed : TypedSession s) (ok : well_formed s ≡ true) (f
 
   heard_roomy : (q : Said) (e : Deed) → Heard s 0x10 c d q e → Roomy q
   unfolding done kept
-  heard_roomy q e (ill_read z) = record { has_room = λ h. omega (arith, h); short = omega arith }
+  heard_roomy q e (ill_read x z) = record { has_room = λ h. omega (arith, h); short = omega arith }
   heard_roomy q e (declined z n v) = record { has_room = λ h. omega (arith, h); short = omega arith }
   heard_roomy q e (polled z v) = record { has_room = λ h. omega (arith, h); short = omega arith }
   heard_roomy q e (no_room_lem z ch v none) = absurd (omega (arith, has_none s typed.journal (edit s 0x10 c d ch) (kind_of ch) refl none, fits (kind_of ch)))
@@ -244,13 +250,13 @@ module _ (s : Session) (typed : TypedSession s) (ok : well_formed s ≡ true) (f
     by_this : (v : Verdict) → by_profile s.profile type j.verdict ≡ v → trial_of t c ≡ trial_by t j.tables v
     by_this v e = sound_is (is_sound h) ∙ ap (trial_by t j.tables) (sym open_stays ∙ e)
 
-    refuses_none : (n : ℕ) → by_profile s.profile type j.verdict ≡ Refuse n → ⊥
+    refuses_none : (n : Status) → by_profile s.profile type j.verdict ≡ Refuse n → ⊥
     unfolding accepts
     refuses_none n e = true≢false (sym h ∙ ap is_some (by_this (Refuse n) e) ∙ by_verdict (Refuse n))
 
     heard_leaves : (q : Said) (e : Deed) → Heard s 0x10 c d q e → Leaves q
     unfolding done kept trial_by trial_made start_of
-    heard_leaves q e (ill_read z) = absurd (z (sound_exactly.0 (is_sound h)).1)
+    heard_leaves q e (ill_read x z) = absurd (false≢true (ap is_ok (sym z ∙ (sound_exactly.0 (is_sound h)).1)))
     heard_leaves q e (declined z n v) = absurd (refuses_none n v)
     heard_leaves q e (polled z v) = sym (by_this Poll v)
     heard_leaves q e (no_room_lem z ch v none) = absurd (omega (arith, has_none s typed.journal (edit s 0x10 c d ch) (kind_of ch) refl none, fits (kind_of ch)))

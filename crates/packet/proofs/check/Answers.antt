@@ -3,7 +3,7 @@ use lib.Seq.{length-take-le}
 use mathlib.Core.Path.{sym}
 use Rattle.packet.proofs.Command.{short_status, long_status, cut_status, differing_status, good_status}
 use native.Mathlib.Omega.{arith}
-use Rattle.packet.proofs.status.Goals as goal
+use Rattle.packet.proofs.check.Goals as goal
 
 pub returns-then-c-lt6 : goal.returns-then-c-lt6
 returns-then-c-lt6 c = short_status _ c.if-c-lt6.true

@@ -25,7 +25,7 @@ use Rattle.image.proofs.laws.Stores.{store_long, store_back, store_above, marks_
 use Rattle.layout.specs.Layout.{journal_at, marks_size, marks_at, image_length}
 use Rattle.inplace.proofs.Watching.{used_part}
 use Rattle.inplace.specs.declared.Told.{Told}
-use Rattle.inplace.specs.InPlace.{HeadStands, Marked}
+use Rattle.inplace.specs.InPlace.{Opens, Unopened, HeadStands, Marked}
 use Rattle.inplace.proofs.laws.Silent as silent
 use Rattle.inplace.proofs.laws.Marked.{formed_marked}
 use Rattle.std.specs.Prelude.{Option, None, Some}
@@ -264,18 +264,10 @@ unfolding forget_left kept
 refused n s = refl
 
 module _ (n : ℕ) where
-  pub no_image_lem : (b : List ℕ) → (length b ≡ image_length → ⊥) → (t : Told) → t ≡ record { answer = 1; small = 0; beside = 0 } → (t ≡ (forget_on n b).told) × (b ≡ (forget_on n b).image)
+  pub unopened : (b : List ℕ) → Unopened b → (t : Told) → t ≡ record { answer = 1; small = 0; beside = 0 } → (t ≡ (forget_on n b).told) × (b ≡ (forget_on n b).image)
   unfolding forget_on forget_call forget_asks
-  no_image_lem = silent.other_length (oldest_asks n) forget_left refused
+  unopened = silent.unopened (oldest_asks n) forget_left refused
 
-  module _ (b : List ℕ) (long : length b ≡ image_length) (h : Head) (read : h ≡ head_in b) (g : Bool) (formed : g ≡ well_formed (session_in h b)) where
-    pub ill_formed : Bytes b → (t : Told) → t ≡ record { answer = 1; small = 0; beside = 0 } → not g ≡ true → (t ≡ (forget_on n b).told) × (b ≡ (forget_on n b).image)
-    unfolding forget_on forget_call forget_asks
-    ill_formed = silent.ill_formed (oldest_asks n) forget_left refused b long h read g formed
-
-    pub well_formed_is : not g ≡ false → well_formed (session_in h b) ≡ true
-    well_formed_is = silent.well_formed_is (oldest_asks n) forget_left refused b long h read g formed
-
-    pub oldest_forgotten : (t : Told) (y : List ℕ) → not g ≡ false → Tells (session_in h b) t y (oldest_asks n (session_in h b)) → (t ≡ (forget_on n b).told) × (y ≡ (forget_on n b).image)
-    unfolding forget_on forget_call forget_asks forgot_by
-    oldest_forgotten = silent.formed_told (oldest_asks n) forget_left refused b long h read g formed
+  pub oldest_forgotten : (b : List ℕ) (h : Head) → Opens b h → (t : Told) (y : List ℕ) → Tells (session_in h b) t y (oldest_asks n (session_in h b)) → (t ≡ (forget_on n b).told) × (y ≡ (forget_on n b).image)
+  unfolding forget_on forget_call forget_asks forgot_by
+  oldest_forgotten = silent.formed_told (oldest_asks n) forget_left refused

@@ -134,12 +134,8 @@ fn forget_oldest(lent: &mut [u8], h: Head, n: usize) -> Told
 pub fn forget(lent: &mut [u8], n: u32) -> Told
     ensures { ForgetAllows n lent.old result lent.new }
 {
-    if lent.len() != layout::IMAGE {
+    let Some(h) = inplace::open(&*lent) else {
         return inplace::answer_with(1, 0);
-    }
-    let h = image::read_head(&*lent);
-    if !inplace::well_formed(&*lent, h) {
-        return inplace::answer_with(1, 0);
-    }
+    };
     forget_oldest(lent, h, n as usize)
 }

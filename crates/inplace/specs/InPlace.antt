@@ -1,15 +1,15 @@
 -- What calls and changes leave in the lent bytes of a session.
-use Rattle.std.specs.Prelude.{cond, not, List, ◌∷◌, ◌≡◌, length, take, eqb, ℕ, ◌+◌, ◌≤◌, Option, Some, None}
+use Rattle.std.specs.Prelude.{cond, not, List, ◌∷◌, ◌≡◌, length, take, eqb, ℕ, ◌+◌, ◌≤◌, Option, Some, None, true, false, MatchOption}
 use Rattle.change.specs.Change.{put_after, timer_after}
 use Rattle.change.specs.declared.Edit.{Edit}
 use Rattle.entries.specs.Entries.{Entry, written, between, scan}
 use Rattle.marks.specs.Marks.{marks_of}
 use Rattle.journal.specs.Add.{added_to}
-use Rattle.session.specs.Session.{Carried, entries_in, marks_for, made_of}
+use Rattle.session.specs.Session.{Carried, entries_in, marks_for, made_of, well_formed}
 use Rattle.session.specs.Road.{Said}
 use Rattle.session.specs.declared.Session.{Session}
 use Rattle.image.specs.declared.Head.{Head}
-use Rattle.image.specs.Image.{image_of, head_renewed, head_timed, with_part, journal_in, redo_in, marks_in, session_in, session_of}
+use Rattle.image.specs.Image.{image_of, head_in, head_renewed, head_timed, with_part, journal_in, redo_in, marks_in, session_in, session_of}
 use Rattle.layout.specs.Layout.{marks_size, marks_at, image_length}
 use Rattle.inplace.specs.declared.Told.{Told}
 
@@ -17,6 +17,21 @@ use Rattle.inplace.specs.declared.Told.{Told}
 pub record HeadStands (h : Head) (b : List ℕ) : Type 0 where
   pub long : length b ≡ image_length
   pub image : b ≡ image_of (session_in h b)
+
+-- h is the head that was read of these bytes, which are the image of a well-formed session
+pub record Opens (b : List ℕ) (h : Head) : Type 0 where
+  pub long : length b ≡ image_length
+  pub read : h ≡ head_in b
+  pub stands : HeadStands h b
+  pub formed : well_formed (session_in h b) ≡ true
+
+-- these bytes are no image, or the image of a session that isn't well formed
+abbrev pub Unopened : List ℕ → Type 0
+Unopened b = length b ≡ image_length → (well_formed (session_of b) ≡ false) × (b ≡ image_of (session_of b))
+
+-- n is the answer that refuses a call, where one does; 0 is none
+abbrev pub Refused : ℕ → Option ℕ → Type 0
+Refused n v = MatchOption v (n ≡ 0) (λ m. (m ≡ n) × (m ≡ 0 → ⊥))
 
 -- the journal reads as entries up to its used bytes, and the marks are theirs
 pub record Marked (used : ℕ) (b : List ℕ) : Type 0 where

@@ -2,7 +2,7 @@
 // and changed in place, and the head is written back only where it changed.
 #![tactic(auto)]
 
-ghost use Rattle.std.specs.Prelude.{◌≡◌, true, is_err, ◌≤◌, ◌+◌, length};
+ghost use Rattle.std.specs.Prelude.{◌≡◌, true, is_err, ◌≤◌, ◌+◌, length, MatchOption};
 ghost use Rattle.wire.specs.Wire.{pasted};
 ghost use Rattle.entries.specs.Entries.{Sized};
 ghost use Rattle.marks.specs.Marks.{marks_of};
@@ -11,7 +11,7 @@ ghost use Rattle.journal.specs.Add.{entry_len, end_of, added_to, cut_from};
 ghost use Rattle.session.specs.Session.{stores_ok, entries_in, profile_ok, well_formed, carried_of};
 ghost use Rattle.image.specs.Image.{store_at, store_in, with_part, with_store, journal_in, redo_in, session_in};
 ghost use Rattle.layout.specs.Layout.{marks_size, journal_at, marks_at, image_length};
-ghost use Rattle.inplace.specs.InPlace.{Marked, MarksMore, Entered, MarkedTo, head_after, carried_in};
+ghost use Rattle.inplace.specs.InPlace.{Unopened, Opens, Marked, MarksMore, Entered, MarkedTo, head_after, carried_in};
 
 use change::Edit;
 use image::Head;
@@ -105,6 +105,21 @@ pub fn well_formed(lent: &[u8], h: Head) -> bool
         return false;
     }
     profile_ok(lent, h)
+}
+
+// What each call begins with: the head of the session that is lent, None where the bytes are no image, or one of a session that isn't
+// well formed. Answer 1 is due then.
+pub fn open(lent: &[u8]) -> Option<Head>
+    ensures { MatchOption result (Unopened lent.now) (Opens lent.now) }
+{
+    if lent.len() != layout::IMAGE {
+        return None;
+    }
+    let h = image::read_head(lent);
+    if !well_formed(lent, h) {
+        return None;
+    }
+    Some(h)
 }
 
 // ---- a store changed where it stands

@@ -1,18 +1,19 @@
 // Each OCC command judged against record, worked-out values and next id. Nothing here changes a record.
-#![tactic(auto)]
+#![tactic(auto, unfolding(crate::specs::Commands::poll_verdict, crate::specs::Commands::clear_at, crate::specs::Commands::clear_verdict, crate::specs::Commands::state_fits, crate::specs::Commands::not_ready, crate::specs::Commands::state_verdict, crate::specs::Commands::role_verdict, crate::specs::Commands::caps_for, crate::specs::Commands::sent_caps, crate::specs::Commands::caps_verdict, crate::specs::Commands::user_allowed, crate::specs::Commands::user_for, crate::specs::Commands::user_verdict, crate::specs::Commands::log_due, crate::specs::Commands::reset_for, crate::specs::Commands::reset_verdict, crate::specs::Judge::plainly, crate::specs::Judge::count_status, crate::specs::Judge::sets_status, crate::specs::Judge::read_judged, crate::specs::Judge::throttles_judged, crate::specs::Judge::thermal_judged, crate::specs::Judge::format_judged, crate::specs::Judge::configure_judged, crate::specs::Judge::type_judged, crate::specs::Judge::judge_of, crate::specs::Open::row_of, crate::specs::Open::open_to, crate::specs::Open::open_in, crate::specs::Open::shut_status, crate::specs::Open::shut, crate::specs::Open::by_profile))]
 
 ghost use Rattle.std.specs.Prelude.{◌≡◌, ◌≤◌};
 ghost use Rattle.occ.specs.Commands.{poll_verdict, clear_verdict, state_fits, not_ready, state_verdict, role_verdict, caps_for, caps_verdict, user_allowed, user_for, user_verdict, log_due, reset_for, reset_verdict};
-ghost use Rattle.occ.specs.Judge.{plainly, sets_status, throttles_judged, thermal_judged, configure_judged, judge_of};
+ghost use Rattle.occ.specs.Judge.{plainly, sets_status, throttles_read, throttles_judged, thermal_read, thermal_judged, configure_judged, judge_of};
 ghost use Rattle.occ.specs.Open.{row_of, open_to, open_in, shut, by_profile};
 
 use change::{Change, Tables};
+use packet::Status;
 use record::{Caps, Log, Record, Throttles, Worked};
 
 // Refused with a status, a poll to answer, or the change to make.
 #[derive(Clone, Copy)]
 pub enum Verdict {
-    Refuse(u8),
+    Refuse(Status),
     Poll,
     Make(Change),
 }
@@ -37,10 +38,10 @@ fn poll(d: &[u8]) -> Verdict
     ensures { result ≡ poll_verdict d.now }
 {
     if d.len() != 1 {
-        return Verdict::Refuse(0x12);
+        return Verdict::Refuse(Status::InvalidLength);
     }
     if d[0] != 0x10 {
-        return Verdict::Refuse(0x13);
+        return Verdict::Refuse(Status::InvalidData);
     }
     Verdict::Poll
 }
@@ -50,10 +51,10 @@ fn clear_log(logs: [Log; 4], d: &[u8]) -> Verdict
     ensures { result ≡ clear_verdict logs d.now }
 {
     if d.len() != 1 {
-        return Verdict::Refuse(0x12);
+        return Verdict::Refuse(Status::InvalidLength);
     }
     match change::find(logs, d[0]) {
-        None => Verdict::Refuse(0x13),
+        None => Verdict::Refuse(Status::InvalidData),
         Some(place) => Verdict::Make(Change::Clear(place as u8, logs[place])),
     }
 }
@@ -90,14 +91,14 @@ fn set_state(w: Worked, d: &[u8]) -> Verdict
     ensures { result ≡ state_verdict w d.now }
 {
     if d.len() != 3 {
-        return Verdict::Refuse(0x12);
+        return Verdict::Refuse(Status::InvalidLength);
     }
     let state = d[1];
     if !state_fits(d[0], state, d[2]) {
-        return Verdict::Refuse(0x13);
+        return Verdict::Refuse(Status::InvalidData);
     }
     if not_ready(w, state) {
-        return Verdict::Refuse(0x16);
+        return Verdict::Refuse(Status::StateProhibits);
     }
     Verdict::Make(Change::SetState(state))
 }
@@ -106,14 +107,14 @@ fn role_format(state: u8, d: &[u8]) -> Verdict
     ensures { result ≡ role_verdict state d.now }
 {
     if d.len() != 2 {
-        return Verdict::Refuse(0x12);
+        return Verdict::Refuse(Status::InvalidLength);
     }
     let role = d[1];
     if 1 < role {
-        return Verdict::Refuse(0x13);
+        return Verdict::Refuse(Status::InvalidData);
     }
     if state != 1 {
-        return Verdict::Refuse(0x16);
+        return Verdict::Refuse(Status::StateProhibits);
     }
     Verdict::Make(Change::SetRole(1, role))
 }
@@ -122,10 +123,10 @@ fn caps_for(role: u8, caps: Caps) -> Verdict
     ensures { result ≡ caps_for role caps }
 {
     if caps.max < caps.min {
-        return Verdict::Refuse(0x13);
+        return Verdict::Refuse(Status::InvalidData);
     }
     if role == 0 {
-        return Verdict::Refuse(0x16);
+        return Verdict::Refuse(Status::StateProhibits);
     }
     Verdict::Make(Change::SetCaps(1, caps))
 }
@@ -134,10 +135,10 @@ fn caps_format(role: u8, d: &[u8]) -> Verdict
     ensures { result ≡ caps_verdict role d.now }
 {
     if d.len() != 8 {
-        return Verdict::Refuse(0x12);
+        return Verdict::Refuse(Status::InvalidLength);
     }
     if d[1] != 0x10 {
-        return Verdict::Refuse(0x13);
+        return Verdict::Refuse(Status::InvalidData);
     }
     let min = wire::be16(d, 2);
     let max = wire::be16(d, 4);
@@ -172,10 +173,10 @@ fn user_for(role: u8, got: u8, caps: Caps, user: u16) -> Verdict
     ensures { result ≡ user_for role got caps user }
 {
     if !user_allowed(got, caps, user) {
-        return Verdict::Refuse(0x13);
+        return Verdict::Refuse(Status::InvalidData);
     }
     if role == 0 {
-        return Verdict::Refuse(0x16);
+        return Verdict::Refuse(Status::StateProhibits);
     }
     Verdict::Make(Change::SetUser(user))
 }
@@ -184,7 +185,7 @@ fn user_cap(role: u8, got: u8, caps: Caps, d: &[u8]) -> Verdict
     ensures { result ≡ user_verdict role got caps d.now }
 {
     if d.len() != 2 {
-        return Verdict::Refuse(0x12);
+        return Verdict::Refuse(Status::InvalidLength);
     }
     user_for(role, got, caps, wire::be16(d, 0))
 }
@@ -210,10 +211,10 @@ fn reset_for(role: u8, logs: [Log; 4], next: u16, reason: u8) -> Verdict
         return Verdict::Make(Change::Reset(Log { id: 0, reason: 0 }));
     }
     if 4 <= change::pending(logs) {
-        return Verdict::Refuse(0x15);
+        return Verdict::Refuse(Status::InternalError);
     }
     if 256 <= next {
-        return Verdict::Refuse(0x15);
+        return Verdict::Refuse(Status::InternalError);
     }
     Verdict::Make(Change::Reset(Log {
         id: next as u8,
@@ -225,14 +226,14 @@ fn reset_prep(role: u8, logs: [Log; 4], next: u16, d: &[u8]) -> Verdict
     ensures { result ≡ reset_verdict role logs next d.now }
 {
     if d.len() != 2 {
-        return Verdict::Refuse(0x12);
+        return Verdict::Refuse(Status::InvalidLength);
     }
     let reason = d[1];
     if d[0] != 0 {
-        return Verdict::Refuse(0x13);
+        return Verdict::Refuse(Status::InvalidData);
     }
     if 2 < reason {
-        return Verdict::Refuse(0x13);
+        return Verdict::Refuse(Status::InvalidData);
     }
     reset_for(role, logs, next, reason)
 }
@@ -249,45 +250,52 @@ pub fn plain(verdict: Verdict) -> Judged
     }
 }
 
-// What both formats with sets begin with: the status of `n` sets of a width, 0 where nothing is wrong.
-fn sets_status(d: &[u8], width: usize) -> u8
+// What both formats with sets begin with: `n` sets of a width.
+fn sets_status(d: &[u8], width: usize) -> Result<(), Status>
     requires { width ≤ 12 }
     ensures { result ≡ sets_status width d.now }
 {
     if d.len() < 3 {
-        return 0x12;
+        return Err(Status::InvalidLength);
     }
     let n = d[2] as usize;
     if d.len() - 3 != n * width {
-        return 0x12;
+        return Err(Status::InvalidLength);
     }
     if d[1] != 0x10 {
-        return 0x13;
+        return Err(Status::InvalidData);
     }
     if n == 0 {
-        return 0x13;
+        return Err(Status::InvalidData);
     }
-    0x00
+    Ok(())
+}
+
+fn throttles_read(d: &[u8]) -> Result<Throttles, Status>
+    ensures { result ≡ throttles_read d.now }
+{
+    sets_status(d, 12)?;
+    sets::read_sets(&d[3..]).ok_or(Status::InvalidData)
+}
+
+fn thermal_read(d: &[u8]) -> Result<[u8; 9], Status>
+    ensures { result ≡ thermal_read d.now }
+{
+    sets_status(d, 4)?;
+    sets::read_frus(&d[3..]).ok_or(Status::InvalidData)
 }
 
 fn throttles_format(d: &[u8]) -> Judged
     ensures { result ≡ throttles_judged d.now }
 {
-    let status = sets_status(d, 12);
-    if status != 0 {
-        return plain(Verdict::Refuse(status));
-    }
-    let n = d[2] as usize;
-    let read = sets::read_sets(&d[3..], n);
-    let table = read.table;
-    if !read.ok {
-        return plain(Verdict::Refuse(0x13));
-    }
-    Judged {
-        verdict: Verdict::Make(Change::SetThrottles(1)),
-        tables: Tables {
-            thermal: [0; 9],
-            throttles: table,
+    match throttles_read(d) {
+        Err(status) => plain(Verdict::Refuse(status)),
+        Ok(throttles) => Judged {
+            verdict: Verdict::Make(Change::SetThrottles(1)),
+            tables: Tables {
+                thermal: [0; 9],
+                throttles,
+            },
         },
     }
 }
@@ -295,23 +303,16 @@ fn throttles_format(d: &[u8]) -> Judged
 fn thermal_format(d: &[u8]) -> Judged
     ensures { result ≡ thermal_judged d.now }
 {
-    let status = sets_status(d, 4);
-    if status != 0 {
-        return plain(Verdict::Refuse(status));
-    }
-    let n = d[2] as usize;
-    let read = sets::read_frus(&d[3..], n);
-    let bytes = read.bytes;
-    if !read.ok {
-        return plain(Verdict::Refuse(0x13));
-    }
-    Judged {
-        verdict: Verdict::Make(Change::SetThermal(1)),
-        tables: Tables {
-            thermal: bytes,
-            throttles: Throttles {
-                present: 0,
-                sets: [0; 160],
+    match thermal_read(d) {
+        Err(status) => plain(Verdict::Refuse(status)),
+        Ok(thermal) => Judged {
+            verdict: Verdict::Make(Change::SetThermal(1)),
+            tables: Tables {
+                thermal,
+                throttles: Throttles {
+                    present: 0,
+                    sets: [0; 160],
+                },
             },
         },
     }
@@ -321,7 +322,7 @@ fn configure(state: u8, role: u8, d: &[u8]) -> Judged
     ensures { result ≡ configure_judged state role d.now }
 {
     if d.len() == 0 {
-        return plain(Verdict::Refuse(0x12));
+        return plain(Verdict::Refuse(Status::InvalidLength));
     }
     let format = d[0];
     match format {
@@ -329,7 +330,7 @@ fn configure(state: u8, role: u8, d: &[u8]) -> Judged
         0x07 => plain(caps_format(role, d)),
         0x12 => throttles_format(d),
         0x13 => thermal_format(d),
-        _ => plain(Verdict::Refuse(0x13)),
+        _ => plain(Verdict::Refuse(Status::InvalidData)),
     }
 }
 
@@ -389,7 +390,7 @@ pub fn judge(r: Record, w: Worked, next: u16, sender: u8, kind: u8, d: &[u8]) ->
     let state = r.state;
     let role = r.role;
     if !open_to(sender, kind) {
-        return plain(Verdict::Refuse(0x11));
+        return plain(Verdict::Refuse(Status::InvalidCommand));
     }
     match kind {
         0x00 => plain(poll(d)),
@@ -398,7 +399,7 @@ pub fn judge(r: Record, w: Worked, next: u16, sender: u8, kind: u8, d: &[u8]) ->
         0x21 => configure(state, role, d),
         0x22 => plain(user_cap(role, got.caps, caps, d)),
         0x25 => plain(reset_prep(role, logs, next, d)),
-        0x01..=0x11 | 0x13..=0x1F | 0x23..=0x24 | 0x26..=0xFF => plain(Verdict::Refuse(0x11)),
+        0x01..=0x11 | 0x13..=0x1F | 0x23..=0x24 | 0x26..=0xFF => plain(Verdict::Refuse(Status::InvalidCommand)),
     }
 }
 
@@ -406,13 +407,12 @@ pub fn judge(r: Record, w: Worked, next: u16, sender: u8, kind: u8, d: &[u8]) ->
 fn shut(verdict: Verdict) -> Verdict
     ensures { result ≡ shut verdict }
 {
-    let Verdict::Refuse(status) = verdict else {
-        return Verdict::Refuse(0x16);
-    };
-    if status == 0x15 {
-        return Verdict::Refuse(0x16);
+    match verdict {
+        Verdict::Refuse(Status::InternalError) => Verdict::Refuse(Status::StateProhibits),
+        Verdict::Refuse(status) => Verdict::Refuse(status),
+        Verdict::Poll => Verdict::Refuse(Status::StateProhibits),
+        Verdict::Make(_) => Verdict::Refuse(Status::StateProhibits),
     }
-    Verdict::Refuse(status)
 }
 
 // What was judged, in a session of this profile.

@@ -1,4 +1,10 @@
 -- What the steps of the call give back, from what they call. Assumes nothing.
+use Rattle.std.specs.Prelude.{Result, Ok, Err}
+use Rattle.std.specs.Result.{is_ok}
+use Rattle.packet.specs.Packet.{Checked, status_number}
+use Rattle.packet.specs.declared.Status.{Status}
+use Rattle.packet.specs.declared.Status.TheVariants.{InvalidCommand, InvalidLength, InvalidData, ChecksumFailure, InternalError, StateProhibits}
+use Rattle.places.specs.declared.Fault.{Fault}
 use Prim.Native.Nat.{ℕ, ◌≤◌}
 use mathlib.Core.Bool.{Bool, true, false, cond, not}
 use mathlib.Core.Path.{◌≡◌, refl, sym, ap, ◌∙◌}
@@ -21,8 +27,7 @@ use Rattle.occ.specs.Open.{by_profile}
 use Rattle.occ.specs.declared.Verdict.{Verdict}
 use Rattle.occ.specs.declared.Verdict.TheVariants.{Refuse, Poll, Make}
 use Rattle.occ.specs.declared.Judged.{Judged}
-use Rattle.places.specs.declared.Blame.{Blame}
-use Rattle.places.specs.declared.Blame.TheVariants.{Nothing}
+use Rattle.std.specs.Prelude.{Option, Some, None}
 use Rattle.session.specs.Session.{well_formed, carried_of}
 use Rattle.session.specs.Road.{Asks, refuses, tells, makes, due, Said, kept, done, settled}
 use Rattle.session.proofs.laws.Road.{made_full, made_done}
@@ -30,10 +35,10 @@ use Rattle.session.specs.declared.Session.{Session}
 use Rattle.occ_call.specs.Occ.{known_sender, refusal_of, occ_refusal, told_of, verdict_asks, judged_asks, asked_for, asked_of, occ_read, occ_asks, occ_call, fault_for, why_read, why_from, occ_why, beside_of, occ_left, occ_read_left, occ_on}
 use Rattle.wire.specs.Wire.{Bytes}
 use Rattle.image.specs.declared.Head.{Head}
-use Rattle.image.specs.Image.{head_in, session_in}
+use Rattle.image.specs.Image.{image_of, session_in}
 use Rattle.layout.specs.Layout.{image_length}
 use Rattle.inplace.specs.declared.Told.{Told}
-use Rattle.inplace.specs.InPlace.{HeadStands, carried_in}
+use Rattle.inplace.specs.InPlace.{HeadStands, Opens, Unopened, carried_in}
 use Rattle.inplace.proofs.laws.InPlace.{Parts, parts, stands, on_read, carried_kept, carried_new}
 use Rattle.inplace.proofs.laws.InPlace as inplace
 
@@ -64,7 +69,7 @@ pub replies : (held : Record) (worked : Worked) (seq kind : ℕ) (d : List ℕ) 
 replies held worked seq kind d = said_of (λ (u : Verdict). told_of u held worked seq kind d)
 
 -- what doesn't refuse has no fault beside it
-pub faultless : (v : Verdict) (held : Record) (kind : ℕ) (d : List ℕ) → (tag_of the_type v ≡ 0 → ⊥) → Nothing ≡ fault_for v held kind d
+pub faultless : (v : Verdict) (held : Record) (kind : ℕ) (d : List ℕ) → (tag_of the_type v ≡ 0 → ⊥) → None ≡ fault_for v held kind d
 unfolding fault_for
 faultless (Refuse status) held kind d h = absurd (h refl)
 faultless Poll held kind d h = refl
@@ -79,14 +84,14 @@ module _ (h : Head) (b : List ℕ) (here : HeadStands h b) (sender : ℕ) (c d :
   abbrev Hears : Told → List ℕ → List ℕ → Type 0
   Hears t y z = Parts t y z (occ_read_left s sender c d)
 
-  abbrev fault_beside : Verdict → Blame
+  abbrev fault_beside : Verdict → Option Fault
   fault_beside v = fault_for v h.held (get_or c 1 0) (data_of c)
 
   module _ (j : Judged) (asked : j ≡ asked_of h.held h.worked h.next sender c) (v : Verdict) (shown : v ≡ by_profile h.profile (get_or c 1 0) j.verdict) where
     abbrev asks : Asks
     asks = verdict_asks h.held h.worked (get_or c 0 0) (get_or c 1 0) d j.tables v
 
-    by_verdict : (q : Said) (f : Blame) → q ≡ settled s d asks → f ≡ fault_beside v → occ_left q f ≡ occ_read_left s sender c d
+    by_verdict : (q : Said) (f : Option Fault) → q ≡ settled s d asks → f ≡ fault_beside v → occ_left q f ≡ occ_read_left s sender c d
     unfolding occ_read_left occ_read why_read judged_asks session_in
     by_verdict q f e g = λ i.
         occ_left
@@ -94,7 +99,7 @@ module _ (h : Head) (b : List ℕ) (here : HeadStands h b) (sender : ℕ) (c d :
         ∙ ap (λ (k : Judged). settled s d (judged_asks h.profile h.held h.worked (get_or c 0 0) (get_or c 1 0) d k)) asked) i)
         ((g ∙ ap fault_beside shown ∙ ap (λ (k : Judged). fault_beside (by_profile h.profile (get_or c 1 0) k.verdict)) asked) i)
 
-    pub told_in : (t : Told) (z : List ℕ) (f : Blame) → t ≡ beside_of 0 f → f ≡ fault_beside v → (tag_of the_type v ≡ 2 → ⊥)
+    pub told_in : (t : Told) (z : List ℕ) (f : Option Fault) → t ≡ beside_of 0 f → f ≡ fault_beside v → (tag_of the_type v ≡ 2 → ⊥)
         → z ≡ told_of v h.held h.worked (get_or c 0 0) (get_or c 1 0) d → Hears t b z
     unfolding occ_left settled done
     told_in t z f p g n q =
@@ -107,10 +112,10 @@ module _ (h : Head) (b : List ℕ) (here : HeadStands h b) (sender : ℕ) (c d :
       abbrev edit : Edit
       edit = record { change = ch; tables = j.tables }
 
-      by_made : (q : Said) → q ≡ settled s d (makes edit 0 (replied (get_or c 0 0) (get_or c 1 0) 0x00 [] d)) → occ_left q Nothing ≡ occ_read_left s sender c d
+      by_made : (q : Said) → q ≡ settled s d (makes edit 0 (replied (get_or c 0 0) (get_or c 1 0) 0x00 [] d)) → occ_left q None ≡ occ_read_left s sender c d
       unfolding verdict_asks fault_for
       by_made q e =
-          by_verdict q Nothing (e ∙ sym (ap (λ (u : Verdict). settled s d (verdict_asks h.held h.worked (get_or c 0 0) (get_or c 1 0) d j.tables u)) is)) (sym (ap fault_beside is))
+          by_verdict q None (e ∙ sym (ap (λ (u : Verdict). settled s d (verdict_asks h.held h.worked (get_or c 0 0) (get_or c 1 0) d j.tables u)) is)) (sym (ap fault_beside is))
 
       pub full_in : t ≡ record { answer = 5; small = 0; beside = 0 } → full ≡ true → Hears t y d
       unfolding occ_left beside_of kept
@@ -124,13 +129,12 @@ module _ (h : Head) (b : List ℕ) (here : HeadStands h b) (sender : ℕ) (c d :
           parts t y z _ ((λ i. record { told = p i; image = carried_new h b here edit full y room left g i; reply = q i })
           ∙ by_made (done (carried_of s edit).session 0 0 (replied (get_or c 0 0) (get_or c 1 0) 0x00 [] d)) (sym (made_done s d edit 0 _ (sym room ∙ g))))
 
--- ---- the whole call: f says whether the session is well formed, n is the refusal that is due
+-- ---- the whole call: n is the refusal that is due to a well-formed session
 
-module _ (b : List ℕ) (long : length b ≡ image_length) (h : Head) (read : h ≡ head_in b) (sender : ℕ) (c d : List ℕ) (f : Bool) (n : ℕ)
-    (formed : f ≡ well_formed (session_in h b)) (is : n ≡ refusal_of f sender (length c) (length d)) where
+module _ (b : List ℕ) (h : Head) (o : Opens b h) (sender : ℕ) (c d : List ℕ) (n : ℕ) (is : n ≡ refusal_of true sender (length c) (length d)) where
   -- no refusal is due
-  pub met_in : n ≡ 0 → (well_formed (session_in h b) ≡ true) × (4 ≤ length c)
-  met_in none = met (session_in h b) f n sender (length c) (length d) formed is none
+  pub met_in : n ≡ 0 → 4 ≤ length c
+  met_in none = (met (session_in h b) true n sender (length c) (length d) (sym o.formed) is none).1
 
   abbrev s₀ : Session
   s₀ = session_in h b
@@ -141,37 +145,30 @@ module _ (b : List ℕ) (long : length b ≡ image_length) (h : Head) (read : h 
   by_refusal : occ_left (settled s₀ d (asked_first n)) (why_from n s₀ sender c) ≡ occ_on b sender c d
   unfolding occ_on occ_call occ_asks occ_why occ_refusal
   by_refusal =
-      ap (λ (k : ℕ). occ_left (settled s₀ d (asked_first k)) (why_from k s₀ sender c)) (is ∙ ap (λ (g : Bool). refusal_of g sender (length c) (length d)) formed)
-      ∙ on_read (λ (x : Session). occ_left (occ_call x sender c d) (occ_why x sender c d)) d b long h read
+      ap (λ (k : ℕ). occ_left (settled s₀ d (asked_first k)) (why_from k s₀ sender c)) (is ∙ ap (λ (g : Bool). refusal_of g sender (length c) (length d)) (sym o.formed))
+      ∙ on_read (λ (x : Session). occ_left (occ_call x sender c d) (occ_why x sender c d)) d b o.long h o.read
 
-  pub refused_in : Bytes b → (t : Told) → t ≡ record { answer = n; small = 0; beside = 0 } → (n ≡ 0 → ⊥) → Parts t b d (occ_on b sender c d)
+  pub refused_in : (t : Told) → t ≡ record { answer = n; small = 0; beside = 0 } → (n ≡ 0 → ⊥) → Parts t b d (occ_on b sender c d)
   unfolding due why_from settled occ_left beside_of kept
-  refused_in bytes t p z =
-      parts t b d _ ((λ i. record { told = p i; image = (stands b long h read bytes).image i; reply = d })
-      ∙ (λ i. occ_left (settled s₀ d (if_ne (refuses n) (occ_read s₀ sender c d) z refl i)) (if_ne Nothing (why_read s₀ sender c) z refl i))
+  refused_in t p z =
+      parts t b d _ ((λ i. record { told = p i; image = o.stands.image i; reply = d })
+      ∙ (λ i. occ_left (settled s₀ d (if_ne (refuses n) (occ_read s₀ sender c d) z refl i)) (if_ne None (why_read s₀ sender c) z refl i))
       ∙ by_refusal)
 
   pub heard_in : n ≡ 0 → (t : Told) (y z : List ℕ) → Parts t y z (occ_read_left s₀ sender c d) → Parts t y z (occ_on b sender c d)
   unfolding occ_read_left due why_from
   heard_in none t y z q =
       parts t y z _ ((λ i. record { told = q.0 i; image = q.1.0 i; reply = q.1.1 i })
-      ∙ (λ i. occ_left (settled s₀ d (else_ne (refuses n) (occ_read s₀ sender c d) none refl i)) (else_ne Nothing (why_read s₀ sender c) none refl i))
+      ∙ (λ i. occ_left (settled s₀ d (else_ne (refuses n) (occ_read s₀ sender c d) none refl i)) (else_ne None (why_read s₀ sender c) none refl i))
       ∙ by_refusal)
 
--- bytes that are no image
-pub no_image_lem : (b : List ℕ) → (length b ≡ image_length → ⊥) → (sender : ℕ) (c d : List ℕ) (t : Told) → t ≡ record { answer = 1; small = 0; beside = 0 } → Parts t b d (occ_on b sender c d)
+ill_refused : (sender : ℕ) (c d : List ℕ) (s : Session) → well_formed s ≡ false
+    → record { told = record { answer = 1; small = 0; beside = 0 }; image = image_of s; reply = d } ≡ occ_left (occ_call s sender c d) (occ_why s sender c d)
+unfolding occ_call occ_asks occ_why occ_refusal refusal_of due why_from settled occ_left beside_of kept
+ill_refused sender c d s ill =
+    ap (λ (g : Bool). occ_left (settled s d (due (refusal_of g sender (length c) (length d)) (occ_read s sender c d))) (why_from (refusal_of g sender (length c) (length d)) s sender c)) (sym ill)
+
+-- bytes that don't open
+pub unopened : (b : List ℕ) → Unopened b → (sender : ℕ) (c d : List ℕ) (t : Told) → t ≡ record { answer = 1; small = 0; beside = 0 } → Parts t b d (occ_on b sender c d)
 unfolding occ_on
-no_image_lem b z sender c d t p = inplace.no_image_lem (λ (s : Session). occ_left (occ_call s sender c d) (occ_why s sender c d)) d b z t p
-
--- ---- what a command asks for
-
-pub asked_unread : (held : Record) (worked : Worked) (next sender status : ℕ) (c : List ℕ) (x : Judged) → status ≡ packet_status c → (status ≡ 0 → ⊥) → x ≡ plainly (Refuse status)
-    → x ≡ asked_of held worked next sender c
-unfolding asked_of asked_for
-asked_unread held worked next sender status c x e z p = if_ne _ _ z p ∙ ap (λ (k : ℕ). asked_for k held worked next sender c) e
-
-pub asked_judged : (held : Record) (worked : Worked) (next sender status : ℕ) (c part : List ℕ) (x : Judged) → status ≡ packet_status c → status ≡ 0 → part ≡ data_of c
-    → x ≡ judge_of held worked next sender (get_or c 1 0) part → x ≡ asked_of held worked next sender c
-unfolding asked_of asked_for
-asked_judged held worked next sender status c part x e z p q =
-    else_ne _ _ z (q ∙ ap (judge_of held worked next sender (get_or c 1 0)) p) ∙ ap (λ (k : ℕ). asked_for k held worked next sender c) e
+unopened b shut sender c d t p = inplace.unopened (λ (s : Session). occ_left (occ_call s sender c d) (occ_why s sender c d)) d (ill_refused sender c d) b shut t p

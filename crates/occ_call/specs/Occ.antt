@@ -1,4 +1,9 @@
 -- Document 01, "Session answers" and "OCC packets": what the call `occ` comes to, for every session, sender, command and buffer.
+use Rattle.std.specs.Prelude.{Ok, Err}
+use Rattle.packet.specs.Packet.{Checked, status_number}
+use Rattle.packet.specs.declared.Status.{Status}
+use Rattle.packet.specs.declared.Status.TheVariants.{InvalidCommand, InvalidLength, InvalidData, ChecksumFailure, InternalError, StateProhibits}
+use Rattle.places.specs.declared.Fault.{Fault}
 use Rattle.std.specs.Prelude.{ℕ, Bool, true, cond, not, List, [], ◌≡◌, length, get_or, ltb, eqb}
 use Rattle.wire.specs.Conditions.{◌and◌}
 use Rattle.change.specs.declared.Tables.{Tables}
@@ -13,8 +18,7 @@ use Rattle.occ.specs.declared.Verdict.TheVariants.{Refuse, Poll, Make}
 use Rattle.occ.specs.declared.Judged.{Judged}
 use Rattle.places.specs.Reasons.{named}
 use Rattle.places.specs.Places.{fault_of}
-use Rattle.places.specs.declared.Blame.{Blame}
-use Rattle.places.specs.declared.Blame.TheVariants.{Nothing, Wrong}
+use Rattle.std.specs.Prelude.{Option, Some, None}
 use Rattle.session.specs.Session.{well_formed}
 use Rattle.session.specs.Road.{Asks, tells, makes, due, Said, settled}
 use Rattle.session.specs.declared.Session.{Session}
@@ -38,7 +42,7 @@ occ_refusal s sender command reply = refusal_of (well_formed s) sender command r
 
 -- the reply to what is no change
 unfoldable pub told_of : Verdict → Record → Worked → ℕ → ℕ → List ℕ → List ℕ
-told_of (Refuse status) held worked seq kind d = replied seq kind status no_log_id d
+told_of (Refuse status) held worked seq kind d = replied seq kind (status_number status) no_log_id d
 told_of Poll held worked seq kind d = replied seq 0x00 0x00 (poll_data held worked) d
 told_of (Make change) held worked seq kind d = d
 
@@ -53,9 +57,9 @@ unfoldable pub judged_asks : ℕ → Record → Worked → ℕ → ℕ → List 
 judged_asks profile held worked seq kind d j = verdict_asks held worked seq kind d j.tables (by_profile profile kind j.verdict)
 
 -- how a command is judged: the packet's own statuses 0x12 and 0x14 come first, then its type and data
-unfoldable pub asked_for : ℕ → Record → Worked → ℕ → ℕ → List ℕ → Judged
-asked_for status held worked next sender c =
-    cond (not (eqb status 0)) (plainly (Refuse status)) (judge_of held worked next sender (get_or c 1 0) (data_of c))
+unfoldable pub asked_for : Checked → Record → Worked → ℕ → ℕ → List ℕ → Judged
+asked_for (Err status) held worked next sender c = plainly (Refuse status)
+asked_for (Ok x) held worked next sender c = judge_of held worked next sender (get_or c 1 0) (data_of c)
 
 unfoldable pub asked_of : Record → Worked → ℕ → ℕ → List ℕ → Judged
 asked_of held worked next sender c = asked_for (packet_status c) held worked next sender c
@@ -73,29 +77,37 @@ occ_call s sender c d = settled s d (occ_asks s sender c d)
 -- ---- document 02, c: beside answer 0 stands the first data byte that is wrong, and why
 
 -- "0 when the status isn't 0x13"
-unfoldable pub fault_for : Verdict → Record → ℕ → List ℕ → Blame
-fault_for (Refuse status) held kind d = cond (not (eqb status 0x13)) Nothing (fault_of held kind d)
-fault_for Poll held kind d = Nothing
-fault_for (Make change) held kind d = Nothing
+unfoldable pub fault_by : Status → Option Fault → Option Fault
+fault_by InvalidData found = found
+fault_by InvalidCommand found = None
+fault_by InvalidLength found = None
+fault_by ChecksumFailure found = None
+fault_by InternalError found = None
+fault_by StateProhibits found = None
 
-unfoldable pub why_read : Session → ℕ → List ℕ → Blame
+unfoldable pub fault_for : Verdict → Record → ℕ → List ℕ → Option Fault
+fault_for (Refuse status) held kind d = fault_by status (fault_of held kind d)
+fault_for Poll held kind d = None
+fault_for (Make change) held kind d = None
+
+unfoldable pub why_read : Session → ℕ → List ℕ → Option Fault
 why_read s sender c = fault_for (by_profile s.profile (get_or c 1 0) (asked_of s.held s.worked s.next sender c).verdict) s.held (get_or c 1 0) (data_of c)
 
 -- none beside any other answer
-unfoldable pub why_from : ℕ → Session → ℕ → List ℕ → Blame
-why_from n s sender c = cond (not (eqb n 0)) Nothing (why_read s sender c)
+unfoldable pub why_from : ℕ → Session → ℕ → List ℕ → Option Fault
+why_from n s sender c = cond (not (eqb n 0)) None (why_read s sender c)
 
-unfoldable pub occ_why : Session → ℕ → List ℕ → List ℕ → Blame
+unfoldable pub occ_why : Session → ℕ → List ℕ → List ℕ → Option Fault
 occ_why s sender c d = why_from (occ_refusal s sender (length c) (length d)) s sender c
 
 -- the reason's number and the byte's
-unfoldable pub beside_of : ℕ → Blame → Told
-beside_of n Nothing = record { answer = n; small = 0; beside = 0 }
-beside_of n (Wrong x) = record { answer = n; small = (named x.reason).number; beside = x.at }
+unfoldable pub beside_of : ℕ → Option Fault → Told
+beside_of n None = record { answer = n; small = 0; beside = 0 }
+beside_of n (Some x) = record { answer = n; small = (named x.reason).number; beside = x.at }
 
 -- ---- on a session that is lent as its image's bytes
 
-unfoldable pub occ_left : Said → Blame → Left
+unfoldable pub occ_left : Said → Option Fault → Left
 occ_left q why = record { told = beside_of q.answer why; image = image_of q.session; reply = q.reply }
 
 -- a command that is due an answer

@@ -1,18 +1,19 @@
 // The call `occ`: a command buffer from a sender, answered on a lent session. Refuse first, read, judge, carry out, reply last.
-#![tactic(auto)]
+#![tactic(auto, unfolding(crate::specs::Occ::known_sender, crate::specs::Occ::refusal_of, crate::specs::Occ::asked_of, crate::specs::Occ::asked_for, crate::specs::Occ::told_of, crate::specs::Occ::fault_by, crate::specs::Occ::fault_for, crate::specs::Occ::beside_of))]
 
 ghost use Rattle.std.specs.Prelude.{true, ◌≡◌, ◌≤◌, length, get_or};
 ghost use Rattle.occ_call.specs.Occ.{known_sender, refusal_of, asked_of, told_of, fault_for, beside_of, occ_read_left, OccAllows};
 ghost use Rattle.packet.specs.Packet.{data_of};
 ghost use Rattle.session.specs.Session.{well_formed};
 ghost use Rattle.image.specs.Image.{session_in};
-ghost use Rattle.inplace.specs.InPlace.{HeadStands};
+ghost use Rattle.inplace.specs.InPlace.{HeadStands, Refused};
 
 use change::Edit;
 use image::Head;
 use inplace::Told;
 use occ::{Judged, Verdict};
-use places::Blame;
+use packet::Status;
+use places::Fault;
 use record::{Record, Worked};
 
 // HTMGT or the BMC.
@@ -25,23 +26,20 @@ fn known_sender(sender: u8) -> bool
     sender == 0x20
 }
 
-// Answers 1 to 4 in document 01's order, 0 where none is due.
-fn refusal(formed: bool, sender: u8, command: usize, reply: usize) -> u8
-    ensures { result ≡ refusal_of formed sender command reply }
+// Answers 2 to 4 in document 01's order, of a session that is well formed.
+fn refusal(sender: u8, command: usize, reply: usize) -> Option<u8>
+    ensures { Refused (refusal_of true sender command reply) result }
 {
-    if !formed {
-        return 1;
-    }
     if !known_sender(sender) {
-        return 2;
+        return Some(2);
     }
     if reply < 4096 {
-        return 3;
+        return Some(3);
     }
     if command < 4 {
-        return 4;
+        return Some(4);
     }
-    0
+    None
 }
 
 // What a command asks for: its packet's own statuses first, then its type and data judged.
@@ -49,8 +47,7 @@ fn ask(held: Record, worked: Worked, next: u16, sender: u8, command: &[u8]) -> J
     requires { 4 ≤ length command.now }
     ensures { result ≡ asked_of held worked next sender command.now }
 {
-    let status = packet::status(command);
-    if status != 0 {
+    if let Err(status) = packet::check(command) {
         return occ::plain(Verdict::Refuse(status));
     }
     let kind = command[1];
@@ -62,39 +59,35 @@ fn tell(verdict: Verdict, held: Record, worked: Worked, seq: u8, kind: u8, reply
     ensures { reply.new ≡ told_of verdict held worked seq kind reply.old }
 {
     match verdict {
-        Verdict::Refuse(status) => packet::error_reply(reply, seq, kind, status),
+        Verdict::Refuse(status) => packet::error_reply(reply, seq, kind, u8::from(status)),
         Verdict::Poll => poll::poll_reply(reply, seq, held, worked),
         Verdict::Make(_) => {}
     }
 }
 
 // The first wrong byte of a 0x13; other statuses have none.
-fn why(verdict: Verdict, held: Record, command: &[u8]) -> Blame
+fn why(verdict: Verdict, held: Record, command: &[u8]) -> Option<Fault>
     requires { 4 ≤ length command.now }
     ensures { result ≡ fault_for verdict held (get_or command.now 1 0) (data_of command.now) }
 {
-    let Verdict::Refuse(status) = verdict else {
-        return Blame::Nothing;
+    let Verdict::Refuse(Status::InvalidData) = verdict else {
+        return None;
     };
-    if status != 0x13 {
-        return Blame::Nothing;
-    }
     let kind = command[1];
     places::find(held, kind, packet::data_part(command))
 }
 
 // Answer 0, and beside it reason and place.
-fn answer_why(found: Blame) -> Told
+fn answer_why(found: Option<Fault>) -> Told
     ensures { result ≡ beside_of 0 found }
 {
-    let Blame::Wrong(fault) = found else {
+    let Some(fault) = found else {
         return inplace::answer_with(0, 0);
     };
-    let reason = fault.reason;
-    let number = places::number(reason);
+    let small = u8::from(fault.reason);
     Told {
         answer: 0,
-        small: number,
+        small,
         beside: fault.at,
     }
 }
@@ -127,13 +120,10 @@ fn hear(lent: &mut [u8], h: Head, sender: u8, command: &[u8], reply: &mut [u8]) 
 pub fn occ(lent: &mut [u8], sender: u8, command: &[u8], reply: &mut [u8]) -> Told
     ensures { OccAllows lent.old sender command.now reply.old result lent.new reply.new }
 {
-    if lent.len() != layout::IMAGE {
+    let Some(h) = inplace::open(&*lent) else {
         return inplace::answer_with(1, 0);
-    }
-    let h = image::read_head(&*lent);
-    let formed = inplace::well_formed(&*lent, h);
-    let n = refusal(formed, sender, command.len(), reply.len());
-    if n != 0 {
+    };
+    if let Some(n) = refusal(sender, command.len(), reply.len()) {
         return inplace::answer_with(n, 0);
     }
     hear(lent, h, sender, command, reply)

@@ -1,4 +1,7 @@
 -- What each test of a command's length shows, with the length that was read. Assumes nothing.
+use Rattle.std.specs.Prelude.{Result, Ok, Err}
+use Rattle.packet.specs.declared.Status.{Status}
+use Rattle.packet.specs.declared.Status.TheVariants.{InvalidCommand, InvalidLength, InvalidData, ChecksumFailure, InternalError, StateProhibits}
 use Prim.Native.Nat.{ℕ, ◌+◌, ◌-◌, ◌<◌, ◌≤◌}
 use mathlib.Core.Logic.{inl, inr}
 use mathlib.Core.Path.{◌≡◌, refl, sym, ap, ◌∙◌}
@@ -14,7 +17,7 @@ use Rattle.packet.specs.Conditions.{Fits}
 
 module _ (c : List ℕ) where
   -- a buffer of under 6 bytes holds no packet, whatever length it names
-  pub short_status : length c < 6 → 0x12 ≡ packet_status c
+  pub short_status : length c < 6 → Err InvalidLength ≡ packet_status c
   short_status h = sym (status_overlong c (inr (omega arith)))
 
   pub short_data : length c < 6 → [] ≡ data_of c
@@ -26,10 +29,10 @@ module _ (c : List ℕ) where
     unfolding data_length
     named = e
 
-    pub long_status : 4090 < n → 0x12 ≡ packet_status c
+    pub long_status : 4090 < n → Err InvalidLength ≡ packet_status c
     long_status h = sym (status_overlong c (inl (omega (arith, named))))
 
-    pub cut_status : length c - 6 < n → 0x12 ≡ packet_status c
+    pub cut_status : length c - 6 < n → Err InvalidLength ≡ packet_status c
     cut_status h = sym (status_overlong c (inr (omega (arith, named))))
 
     pub cut_data : length c - 6 < n → [] ≡ data_of c
@@ -53,8 +56,8 @@ module _ (c : List ℕ) where
         sum_named : sum ≡ packet_sum (take (data_length c + 4) c)
         sum_named = q ∙ ap (λ (m : ℕ). packet_sum (take (m + 4) c)) named
 
-        pub differing_status : (sent ≡ sum → ⊥) → 0x14 ≡ packet_status c
+        pub differing_status : (sent ≡ sum → ⊥) → Err ChecksumFailure ≡ packet_status c
         differing_status h = sym (status_unsummed c fits (λ s. h (sent_named ∙ s ∙ sym sum_named)))
 
-        pub good_status : sent ≡ sum → 0x00 ≡ packet_status c
+        pub good_status : sent ≡ sum → Ok tt ≡ packet_status c
         good_status h = sym (status_summed c fits (sym sent_named ∙ h ∙ sum_named))

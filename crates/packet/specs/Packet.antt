@@ -1,20 +1,35 @@
 -- Document 01, "OCC packets".
-use Rattle.std.specs.Prelude.{ℕ, ◌+◌, ◌-◌, cond, not, List, [], ◌∷◌, ◌++◌, length, take, drop, ltb, eqb}
+use Rattle.std.specs.Prelude.{ℕ, ◌+◌, ◌-◌, cond, not, Result, Ok, Err, List, [], ◌∷◌, ◌++◌, length, take, drop, ltb, eqb}
+use Rattle.packet.specs.declared.Status.{Status}
+use Rattle.packet.specs.declared.Status.TheVariants.{InvalidCommand, InvalidLength, InvalidData, ChecksumFailure, InternalError, StateProhibits}
 use Rattle.wire.specs.Wire.{be_nat, to_be, packet_sum, pasted}
 
 -- "Command: sequence, type, two bytes of data length L (at most 4,090), data, two bytes of checksum"
 unfoldable pub data_length : List ℕ → ℕ
 data_length c = be_nat (take 2 (drop 2 c))
 
+-- "Statuses": the number of each
+abbrev pub status_number : Status → ℕ
+status_number InvalidCommand = 0x11
+status_number InvalidLength = 0x12
+status_number InvalidData = 0x13
+status_number ChecksumFailure = 0x14
+status_number InternalError = 0x15
+status_number StateProhibits = 0x16
+
+-- of a command that may have one
+abbrev pub Checked : Type 0
+Checked = Result (Unit {0}) Status
+
 -- the first two statuses, at the length L: 0x12 for L over 4,090 or L+6 over the buffer's length; 0x14 where the checksum differs from
 -- the two-byte sum, ignoring overflow, of every byte before it
-unfoldable pub status_at : ℕ → List ℕ → ℕ
+unfoldable pub status_at : ℕ → List ℕ → Checked
 status_at n c =
-    cond (ltb 4090 n) 0x12
-    (cond (ltb (length c) (n + 6)) 0x12
-    (cond (not (eqb (be_nat (take 2 (drop (n + 4) c))) (packet_sum (take (n + 4) c)))) 0x14 0x00))
+    cond (ltb 4090 n) (Err InvalidLength)
+    (cond (ltb (length c) (n + 6)) (Err InvalidLength)
+    (cond (not (eqb (be_nat (take 2 (drop (n + 4) c))) (packet_sum (take (n + 4) c)))) (Err ChecksumFailure) (Ok tt)))
 
-unfoldable pub packet_status : List ℕ → ℕ
+unfoldable pub packet_status : List ℕ → Checked
 packet_status c = status_at (data_length c) c
 
 -- "The data is handed on as that part of the caller's buffer": bytes 4 on, L of them; none where the packet runs past the buffer

@@ -4,26 +4,55 @@
 ghost use Rattle.std.specs.Prelude.{◌≡◌};
 ghost use Rattle.packet.specs.Packet.{packet_status, data_of, no_log_id, replied};
 
-// 0 where the packet is whole and its checksum right; else the status of the error reply.
-pub fn status(c: &[u8]) -> u8
+// Why a command gets an error reply.
+#[derive(Clone, Copy)]
+pub enum Status {
+    InvalidCommand,
+    InvalidLength,
+    InvalidData,
+    ChecksumFailure,
+    InternalError,
+    StateProhibits,
+}
+
+impl From<Status> for u8 {
+    ghost use Rattle.std.specs.Prelude.{◌≡◌};
+    ghost use Rattle.packet.specs.Packet.{status_number};
+
+    ghost from_gives = { λ status n. n ≡ status_number status };
+
+    fn from(status: Status) -> u8 {
+        match status {
+            Status::InvalidCommand => 0x11,
+            Status::InvalidLength => 0x12,
+            Status::InvalidData => 0x13,
+            Status::ChecksumFailure => 0x14,
+            Status::InternalError => 0x15,
+            Status::StateProhibits => 0x16,
+        }
+    }
+}
+
+// Whether the packet is whole and its checksum right.
+pub fn check(c: &[u8]) -> Result<(), Status>
     ensures { result ≡ packet_status c.now }
 {
     if c.len() < 6 {
-        return 0x12;
+        return Err(Status::InvalidLength);
     }
     let n = wire::be16(c, 2) as usize;
     if 4090 < n {
-        return 0x12;
+        return Err(Status::InvalidLength);
     }
     if c.len() - 6 < n {
-        return 0x12;
+        return Err(Status::InvalidLength);
     }
     let end = n + 4;
     let sent = wire::be16(c, end);
     if sent != packet_sum::sum(&c[..end]) {
-        return 0x14;
+        return Err(Status::ChecksumFailure);
     }
-    0x00
+    Ok(())
 }
 
 // The data, uncopied; an empty part where the packet is longer than the buffer.

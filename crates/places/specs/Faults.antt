@@ -11,8 +11,7 @@ use Rattle.occ.specs.Conditions.{Pends}
 use Rattle.places.specs.declared.Reason.{Reason}
 use Rattle.places.specs.declared.Reason.TheVariants.{BadVersion, BadCount, OutOfRange, Repeated, Clash, NotPending}
 use Rattle.places.specs.declared.Fault.{Fault}
-use Rattle.places.specs.declared.Blame.{Blame}
-use Rattle.places.specs.declared.Blame.TheVariants.{Nothing, Wrong}
+use Rattle.std.specs.Prelude.{Option, Some, None}
 use Rattle.places.specs.Reasons.{named}
 
 -- faults of a kind: those that it holds of
@@ -112,6 +111,6 @@ unfoldable pub NotAfter : Fault → Fault → Type 0
 NotAfter x y = (x.at < y.at) ⊎ ((x.at ≡ y.at) and ((named x.reason).number ≤ (named y.reason).number))
 
 -- what is found of some faults: nothing where there are none, or the least of them
-pub data Least (F : Faults) : Blame → Type 0 where
-  no_fault : ((x : Fault) → F x → ⊥) → Least F Nothing
-  least : (x : Fault) → F x → ((y : Fault) → F y → NotAfter x y) → Least F (Wrong x)
+pub data Least (F : Faults) : Option Fault → Type 0 where
+  no_fault : ((x : Fault) → F x → ⊥) → Least F None
+  least : (x : Fault) → F x → ((y : Fault) → F y → NotAfter x y) → Least F (Some x)

@@ -16,6 +16,9 @@ named Repeated = record { number = 4; words = "repeated" }
 named Clash = record { number = 5; words = "clash" }
 named NotPending = record { number = 6; words = "not pending" }
 
+abbrev pub number_of : Reason → ℕ
+number_of r = (named r).number
+
 abbrev pub reasons : List Reason
 reasons = BadVersion ∷ BadCount ∷ OutOfRange ∷ Repeated ∷ Clash ∷ NotPending ∷ []
 

@@ -1,8 +1,7 @@
 // Document 02, c: the first data byte of an OCC command that is wrong, and why. `occ` judges the status; this judge says where.
-#![tactic(auto)]
+#![tactic(auto, unfolding(crate::specs::Places::wrong, crate::specs::Places::poll_fault, crate::specs::Places::clear_fault, crate::specs::Places::state_fault, crate::specs::Places::role_fault, crate::specs::Places::caps_fault, crate::specs::Places::user_fault, crate::specs::Places::reset_fault, crate::specs::Places::width_of, crate::specs::Places::most_of, crate::specs::Places::same_number, crate::specs::Places::same_second, crate::specs::Places::rest_fault, crate::specs::Places::configure_fault, crate::specs::Places::sets_fault, crate::specs::Places::count_fault, crate::specs::Places::format_fault, crate::specs::Places::fault_of, crate::specs::Reasons::named))]
 
 ghost use Rattle.std.specs.Prelude.{◌≡◌, ◌+◌, ◌*◌, ◌<◌, ◌≤◌, length};
-ghost use Rattle.places.specs.Reasons.{named};
 ghost use Rattle.places.specs.Places.{wrong, poll_fault, clear_fault, state_fault, role_fault, caps_fault, user_fault, reset_fault};
 ghost use Rattle.places.specs.Places.{width_of, most_of, start_of, same_number, seen_before, rest_fault, set_fault, first_set, sets_fault, configure_fault, fault_of};
 
@@ -26,67 +25,64 @@ pub struct Fault {
     pub at: u16,
 }
 
-#[derive(Clone, Copy)]
-pub enum Blame {
-    Nothing,
-    Wrong(Fault),
-}
+impl From<Reason> for u8 {
+    ghost use Rattle.std.specs.Prelude.{◌≡◌};
+    ghost use Rattle.places.specs.Reasons.{number_of};
 
-pub fn number(reason: Reason) -> u8
-    ensures { result ≡ (named reason).number }
-{
-    match reason {
-        Reason::BadVersion => 1,
-        Reason::BadCount => 2,
-        Reason::OutOfRange => 3,
-        Reason::Repeated => 4,
-        Reason::Clash => 5,
-        Reason::NotPending => 6,
+    ghost from_gives = { λ reason n. n ≡ number_of reason };
+
+    fn from(reason: Reason) -> u8 {
+        match reason {
+            Reason::BadVersion => 1,
+            Reason::BadCount => 2,
+            Reason::OutOfRange => 3,
+            Reason::Repeated => 4,
+            Reason::Clash => 5,
+            Reason::NotPending => 6,
+        }
     }
 }
 
-fn found_at(reason: Reason, at: usize) -> Blame
+fn found_at(reason: Reason, at: usize) -> Option<Fault>
     requires { at < 65536 }
     ensures { result ≡ wrong reason at }
 {
-    Blame::Wrong(Fault {
-        reason: reason,
-        at: at as u16,
-    })
+    let at = at as u16;
+    Some(Fault { reason, at })
 }
 
 // ---- the small commands
 
-fn poll(d: &[u8]) -> Blame
+fn poll(d: &[u8]) -> Option<Fault>
     ensures { result ≡ poll_fault d.now }
 {
     if d.len() != 1 {
-        return Blame::Nothing;
+        return None;
     }
     if d[0] != 0x10 {
         return found_at(Reason::BadVersion, 1);
     }
-    Blame::Nothing
+    None
 }
 
 #[tactic(auto, unfolding(crate::specs::Places::clear_fault))]
-fn clear_log(logs: [Log; 4], d: &[u8]) -> Blame
+fn clear_log(logs: [Log; 4], d: &[u8]) -> Option<Fault>
     ensures { result ≡ clear_fault logs d.now }
 {
     if d.len() != 1 {
-        return Blame::Nothing;
+        return None;
     }
     if change::find(logs, d[0]).is_none() {
         return found_at(Reason::NotPending, 1);
     }
-    Blame::Nothing
+    None
 }
 
-fn set_state(d: &[u8]) -> Blame
+fn set_state(d: &[u8]) -> Option<Fault>
     ensures { result ≡ state_fault d.now }
 {
     if d.len() != 3 {
-        return Blame::Nothing;
+        return None;
     }
     let state = d[1];
     let last = d[2];
@@ -102,26 +98,26 @@ fn set_state(d: &[u8]) -> Blame
     if last != 0 {
         return found_at(Reason::OutOfRange, 3);
     }
-    Blame::Nothing
+    None
 }
 
-fn role_format(d: &[u8]) -> Blame
+fn role_format(d: &[u8]) -> Option<Fault>
     ensures { result ≡ role_fault d.now }
 {
     if d.len() != 2 {
-        return Blame::Nothing;
+        return None;
     }
     if 1 < d[1] {
         return found_at(Reason::OutOfRange, 2);
     }
-    Blame::Nothing
+    None
 }
 
-fn caps_format(d: &[u8]) -> Blame
+fn caps_format(d: &[u8]) -> Option<Fault>
     ensures { result ≡ caps_fault d.now }
 {
     if d.len() != 8 {
-        return Blame::Nothing;
+        return None;
     }
     if d[1] != 0x10 {
         return found_at(Reason::BadVersion, 2);
@@ -129,26 +125,26 @@ fn caps_format(d: &[u8]) -> Blame
     if wire::be16(d, 4) < wire::be16(d, 2) {
         return found_at(Reason::Clash, 5);
     }
-    Blame::Nothing
+    None
 }
 
-fn user_cap(got: u8, caps: Caps, d: &[u8]) -> Blame
+fn user_cap(got: u8, caps: Caps, d: &[u8]) -> Option<Fault>
     ensures { result ≡ user_fault got caps d.now }
 {
     if d.len() != 2 {
-        return Blame::Nothing;
+        return None;
     }
     if !occ::user_allowed(got, caps, wire::be16(d, 0)) {
         return found_at(Reason::OutOfRange, 1);
     }
-    Blame::Nothing
+    None
 }
 
-fn reset_prep(d: &[u8]) -> Blame
+fn reset_prep(d: &[u8]) -> Option<Fault>
     ensures { result ≡ reset_fault d.now }
 {
     if d.len() != 2 {
-        return Blame::Nothing;
+        return None;
     }
     let reason = d[1];
     if d[0] != 0 {
@@ -157,7 +153,7 @@ fn reset_prep(d: &[u8]) -> Blame
     if 2 < reason {
         return found_at(Reason::OutOfRange, 2);
     }
-    Blame::Nothing
+    None
 }
 
 // ---- the formats with sets
@@ -215,18 +211,16 @@ fn seen_before(table: SetTable, d: &[u8], i: usize) -> bool
     ensures { result ≡ seen_before table d.now i }
 {
     let second = start(table, i);
-    let mut k = 0;
-    while k < i {
+    for k in 0..i {
         if same_number(table, d, start(table, k), second) {
             return true;
         }
-        k += 1;
     }
     false
 }
 
 // What comes after a set's first byte: the MBA, or DVFS and ERROR.
-fn rest_fault(table: SetTable, d: &[u8], first: usize) -> Blame
+fn rest_fault(table: SetTable, d: &[u8], first: usize) -> Option<Fault>
     requires { (first + width_of table ≤ length d.now) × (first < 65000) }
     ensures { result ≡ rest_fault table d.now first }
 {
@@ -242,10 +236,10 @@ fn rest_fault(table: SetTable, d: &[u8], first: usize) -> Blame
             }
         }
     }
-    Blame::Nothing
+    None
 }
 
-fn set_fault(table: SetTable, d: &[u8], i: usize) -> Blame
+fn set_fault(table: SetTable, d: &[u8], i: usize) -> Option<Fault>
     requires { (i < 255) × (start_of table i + width_of table ≤ length d.now) }
     ensures { result ≡ set_fault table d.now i }
 {
@@ -259,30 +253,28 @@ fn set_fault(table: SetTable, d: &[u8], i: usize) -> Blame
     rest_fault(table, d, first)
 }
 
-fn first_set(table: SetTable, d: &[u8], n: usize) -> Blame
+fn first_set(table: SetTable, d: &[u8], n: usize) -> Option<Fault>
     requires { (n < 256) × (start_of table n ≤ length d.now) }
     ensures { result ≡ first_set table d.now n }
 {
-    let mut i = 0;
-    while i < n {
+    for i in 0..n {
         let found = set_fault(table, d, i);
-        if let Blame::Wrong(_) = found {
+        if let Some(_) = found {
             return found;
         }
-        i += 1;
     }
-    Blame::Nothing
+    None
 }
 
-fn sets_format(table: SetTable, d: &[u8]) -> Blame
+fn sets_format(table: SetTable, d: &[u8]) -> Option<Fault>
     ensures { result ≡ sets_fault table d.now }
 {
     if d.len() < 3 {
-        return Blame::Nothing;
+        return None;
     }
     let n = d[2] as usize;
     if d.len() - 3 != n * width(table) {
-        return Blame::Nothing;
+        return None;
     }
     if d[1] != 0x10 {
         return found_at(Reason::BadVersion, 2);
@@ -295,11 +287,11 @@ fn sets_format(table: SetTable, d: &[u8]) -> Blame
 
 // ---- every command
 
-fn configure(d: &[u8]) -> Blame
+fn configure(d: &[u8]) -> Option<Fault>
     ensures { result ≡ configure_fault d.now }
 {
     if d.len() == 0 {
-        return Blame::Nothing;
+        return None;
     }
     let format = d[0];
     match format {
@@ -312,7 +304,7 @@ fn configure(d: &[u8]) -> Blame
 }
 
 // Nothing where the type is unknown or its length is wrong: then no byte is judged.
-pub fn find(r: Record, kind: u8, d: &[u8]) -> Blame
+pub fn find(r: Record, kind: u8, d: &[u8]) -> Option<Fault>
     ensures { result ≡ fault_of r kind d.now }
 {
     let got = r.received;
@@ -325,6 +317,6 @@ pub fn find(r: Record, kind: u8, d: &[u8]) -> Blame
         0x21 => configure(d),
         0x22 => user_cap(got.caps, caps, d),
         0x25 => reset_prep(d),
-        0x01..=0x11 | 0x13..=0x1F | 0x23..=0x24 | 0x26..=0xFF => Blame::Nothing,
+        0x01..=0x11 | 0x13..=0x1F | 0x23..=0x24 | 0x26..=0xFF => None,
     }
 }

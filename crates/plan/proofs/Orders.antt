@@ -2,9 +2,12 @@
 use Prim.Native.Nat.{ℕ, ◌+◌, ◌-◌, ◌<◌, ◌≤◌}
 use mathlib.Core.Bool.{Bool, true, false}
 use mathlib.Core.Path.{◌≡◌, refl, sym, ap, ◌∙◌}
-use mathlib.Core.List.{List, ◌∷◌}
+use mathlib.Core.List.{List, [], ◌∷◌}
 use native.Mathlib.Numerals.{add-one}
 use native.Mathlib.Omega.{arith}
+use Rattle.std.specs.List.{list_any}
+use Rattle.std.proofs.Math.Bool.{◌||◌, cond}
+use lib.Dec.{eqb}
 use lib.ListN.{length, get_or, take, drop, drop_of_length-le}
 use lib.Seq.{drop-cons}
 use Rattle.wire.proofs.laws.Cases.{if_b, else_b, if_eq, else_eq, if_lt, else_lt}
@@ -16,56 +19,45 @@ use Rattle.plan.proofs.laws.Orders.{Named, named}
 pub from_here : (i : ℕ) (o : List ℕ) → i < length o → drop i o ≡ get_or o i 0 ∷ drop (i + 1) o
 from_here i o h = drop-cons o i 0 h ∙ ap (λ (k : ℕ). get_or o i 0 ∷ drop k o) (sym (add-one i))
 
--- ---- whether a number comes in them
+-- ---- whether they are an order: the first number, and the rest
 
-module _ (x i : ℕ) (o : List ℕ) where
-  pub comes_here : i < length o → get_or o i 0 ≡ x → true ≡ comes_in x (drop i o)
-  unfolding comes_in
-  comes_here h e = if_eq _ (comes_in x (drop (i + 1) o)) e refl ∙ ap (comes_in x) (sym (from_here i o h))
+either : (b : Bool) {r s : Bool} → r ≡ s → (b || r) ≡ cond b true s
+either true e = refl
+either false e = e
 
-  pub comes_later : i < length o → (get_or o i 0 ≡ x → ⊥) → comes_in x (drop (i + 1) o) ≡ comes_in x (drop i o)
-  unfolding comes_in
-  comes_later h e = else_eq true (comes_in x (drop (i + 1) o)) e refl ∙ ap (comes_in x) (sym (from_here i o h))
+pub contained : (x : ℕ) (xs : List ℕ) → list_any (λ y. eqb y x) xs ≡ comes_in x xs
+unfolding comes_in
+contained x [] = refl
+contained x (y ∷ ys) = either (eqb y x) (contained x ys)
 
-  pub comes_not : length o ≤ i → false ≡ comes_in x (drop i o)
-  unfolding comes_in
-  comes_not h = ap (comes_in x) (sym (drop_of_length-le o {i = i} h))
+module _ (count x : ℕ) (left rest : List ℕ) (split : left ≡ x ∷ rest) where
+  whole : is_order count (x ∷ rest) ≡ is_order count left
+  whole = ap (is_order count) (sym split)
 
--- ---- whether they are an order
-
-module _ (count i : ℕ) (o : List ℕ) where
-  abbrev x : ℕ
-  x = get_or o i 0
-
-  abbrev rest : List ℕ
-  rest = drop (i + 1) o
-
-  whole : i < length o → is_order count (x ∷ rest) ≡ is_order count (drop i o)
-  whole h = ap (is_order count) (sym (from_here i o h))
-
-  pub names_none : i < length o → x ≡ 0 → false ≡ is_order count (drop i o)
+  pub names_none : x ≡ 0 → false ≡ is_order count left
   unfolding is_order
-  names_none h z = if_eq false _ z refl ∙ whole h
+  names_none z = if_eq false _ z refl ∙ whole
 
-  pub names_no_packet : i < length o → (x ≡ 0 → ⊥) → count < x → false ≡ is_order count (drop i o)
+  pub names_no_packet : (x ≡ 0 → ⊥) → count < x → false ≡ is_order count left
   unfolding is_order
-  names_no_packet h z g = else_eq _ _ z (if_lt false _ g refl) ∙ whole h
+  names_no_packet z g = else_eq _ _ z (if_lt false _ g refl) ∙ whole
 
-  module _ (h : i < length o) (z : x ≡ 0 → ⊥) (g : x ≤ count) (t : Bool) (e : t ≡ comes_in x (take (length o - (i + 1)) rest)) where
+  module _ (z : x ≡ 0 → ⊥) (g : x ≤ count) (t : Bool) (e : t ≡ list_any (λ y. eqb y x) rest) where
     looked : t ≡ comes_in x rest
-    looked = e ∙ ap (comes_in x) (tail_part o (i + 1))
+    looked = e ∙ contained x rest
 
-    pub names_again : t ≡ true → false ≡ is_order count (drop i o)
+    pub names_again : t ≡ true → false ≡ is_order count left
     unfolding is_order
-    names_again y = else_eq _ _ z (else_lt _ _ g (if_b false _ (sym looked ∙ y) refl)) ∙ whole h
+    names_again y = else_eq _ _ z (else_lt _ _ g (if_b false _ (sym looked ∙ y) refl)) ∙ whole
 
-    pub names_one : t ≡ false → is_order count rest ≡ is_order count (drop i o)
+    pub names_one : t ≡ false → is_order count rest ≡ is_order count left
     unfolding is_order
-    names_one y = else_eq _ _ z (else_lt _ _ g (else_b _ _ (sym looked ∙ y) refl)) ∙ whole h
+    names_one y = else_eq _ _ z (else_lt _ _ g (else_b _ _ (sym looked ∙ y) refl)) ∙ whole
 
-  pub order_ends : length o ≤ i → true ≡ is_order count (drop i o)
-  unfolding is_order
-  order_ends h = ap (is_order count) (sym (drop_of_length-le o {i = i} h))
+pub order_ends : (count : ℕ) (left : List ℕ) → length left ≡ 0 → true ≡ is_order count left
+unfolding is_order
+order_ends count [] h = refl
+order_ends count (x ∷ xs) h = absurd (omega (arith, h))
 
 pub named_at : (count i : ℕ) (o : List ℕ) → i < length o → is_order count (drop i o) ≡ true → Named count (get_or o i 0) (drop (i + 1) o)
 named_at count i o h e = named count _ _ (ap (is_order count) (sym (from_here i o h)) ∙ e)

@@ -25,12 +25,3 @@ module _ (place : ℕ) (p : List ℕ) where
   pub whole_there : take (4096 * place + 4096 - 4096 * place) (drop (4096 * place) p) ≡ packet_at place p
   unfolding packet_at
   whole_there = ap (λ (n : ℕ). take n (drop (4096 * place) p)) (add-sub_cancel_left (4096 * place) 4096)
-
-module _ (c : List ℕ) where
-  pub too_short : length c < 4 → false ≡ sound c
-  unfolding sound
-  too_short h = if_lt _ _ h refl
-
-  pub by_status : 4 ≤ length c → (status : ℕ) → status ≡ packet_status c → eqb status 0 ≡ sound c
-  unfolding sound
-  by_status h status e = else_lt _ _ h (ap (λ (n : ℕ). eqb n 0) e)

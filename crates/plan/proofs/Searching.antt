@@ -3,6 +3,7 @@ use Prim.Native.Nat.{ℕ, suc, ◌+◌, ◌-◌, ◌/◌, ◌<◌, ◌≤◌}
 use mathlib.Core.Bool.{Bool, true, false, not}
 use mathlib.Core.Path.{◌≡◌, refl, sym, ap, ◌∙◌}
 use mathlib.Core.List.{List}
+use Rattle.std.specs.Prelude.{Option, Some, None}
 use native.Mathlib.Numerals.{add-one}
 use native.Mathlib.Omega.{arith}
 use borrow.Author.Tests.{not-false}
@@ -47,25 +48,18 @@ module _ (n : ℕ) (digits : List ℕ) (are : digits ≡ digits_of n) (from : �
   pub order_long : 5 - from ≡ length (order_of n)
   order_long = omega (arith, five, length-drop from digits, ap length order_is, ap length (take_all (5 - from) (drop from digits) (omega (arith, five, length-drop from digits))))
 
-  pub order_given : (n ≡ 7776 → ⊥) → (d y : List ℕ) → y ≡ pasted 0 (take (5 - from) (drop from digits)) d → (t : Told) → t ≡ record { answer = 0; small = 1; beside = 5 - from }
-      → (t ≡ (given n d).told) × (y ≡ (given n d).order)
+  pub order_given : (d y : List ℕ) → y ≡ pasted 0 (take (5 - from) (drop from digits)) d → (t : Told) → t ≡ record { answer = 0; small = 1; beside = 5 - from }
+      → (t ≡ (given (Some n) d).told) × (y ≡ (given (Some n) d).order)
   unfolding given
-  order_given some d y q t e =
-      let is : record { told = record { answer = 0; small = 1; beside = length (order_of n) }; order = pasted 0 (order_of n) d } ≡ given n d = else_eq _ _ some refl in (
-        e ∙ ap (λ (k : ℕ). record { answer = 0; small = 1; beside = k }) order_long ∙ ap (λ (x : Planned). x.told) is,
-        q ∙ ap (λ (l : List ℕ). pasted 0 l d) order_is ∙ ap (λ (x : Planned). x.order) is,
-      )
-
-pub none_given : (n : ℕ) (d : List ℕ) → n ≡ 7776 → (t : Told) → t ≡ answered 0 → (t ≡ (given n d).told) × (d ≡ (given n d).order)
-unfolding given
-none_given n d h t e =
-    let is : record { told = answered 0; order = d } ≡ given n d = if_eq _ _ h refl in
-    (e ∙ ap (λ (x : Planned). x.told) is, ap (λ (x : Planned). x.order) is)
+  order_given d y q t e = (
+    e ∙ ap (λ (k : ℕ). record { answer = 0; small = 1; beside = k }) order_long,
+    q ∙ ap (λ (l : List ℕ). pasted 0 l d) order_is,
+  )
 
 -- ---- one number after the other
 
 module _ (p : List ℕ) (wanted : ℕ) (t : Trial) where
-  stops : (k n : ℕ) → plan_ok p wanted t (order_of n) ≡ true → n ≡ least_from p wanted t (suc k) n
+  stops : (k n : ℕ) → plan_ok p wanted t (order_of n) ≡ true → Some n ≡ least_from p wanted t (suc k) n
   unfolding least_from
   stops k n h = if_b _ _ h refl
 
@@ -81,7 +75,7 @@ module _ (p : List ℕ) (wanted : ℕ) (t : Trial) where
       checked : ok ≡ plan_ok p wanted t (order_of n)
       checked = q ∙ ap (plan_ok p wanted t) is
 
-      pub found : ok ≡ true → n ≡ least_from p wanted t (7776 - n) n
+      pub found : ok ≡ true → Some n ≡ least_from p wanted t (7776 - n) n
       found y = stops (7775 - n) n (sym checked ∙ y) ∙ ap (λ (k : ℕ). least_from p wanted t k n) (sym (left h))
 
       pub not_this : ok ≡ false → least_from p wanted t (7776 - (n + 1)) (n + 1) ≡ least_from p wanted t (7776 - n) n
@@ -89,11 +83,11 @@ module _ (p : List ℕ) (wanted : ℕ) (t : Trial) where
           let fewer : 7776 - (n + 1) ≡ 7775 - n = omega arith in
           (λ i. least_from p wanted t (fewer i) (add-one n i)) ∙ goes_on (7775 - n) n (sym checked ∙ y) ∙ ap (λ (k : ℕ). least_from p wanted t k n) (sym (left h))
 
-    ends : n ≡ least_from p wanted t 0 n
+    ends : None ≡ least_from p wanted t 0 n
     unfolding least_from
     ends = refl
 
-    pub none_passes : 7776 ≤ n → n ≡ least_from p wanted t (7776 - n) n
+    pub none_passes : 7776 ≤ n → None ≡ least_from p wanted t (7776 - n) n
     none_passes h = let no : 0 ≡ 7776 - n = omega (arith, h) in ends ∙ ap (λ (k : ℕ). least_from p wanted t k n) no
 
   pub from_nought : least_from p wanted t (7776 - 0) 0 ≡ least_plan p wanted t

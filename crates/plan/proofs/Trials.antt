@@ -1,8 +1,10 @@
 -- Packets tried one after the other. Assumes nothing.
 use Prim.Native.Nat.{ℕ, suc, zero, ◌+◌, ◌-◌, ◌<◌, ◌≤◌}
 use mathlib.Core.Bool.{Bool, true, false, not}
-use mathlib.Core.Path.{◌≡◌, refl, sym, ap, ◌∙◌}
+use mathlib.Core.Path.{◌≡◌, refl, sym, ap, subst, ◌∙◌}
 use mathlib.Core.List.{List, ◌∷◌}
+use Rattle.std.specs.Prelude.{Option, Some, None}
+use Rattle.std.specs.Option.{IfSome}
 use native.Mathlib.Omega.{arith}
 use borrow.Author.Tests.{not-false, ltb-false}
 use lib.Dec.{eqb}
@@ -23,7 +25,7 @@ use Rattle.occ.specs.declared.Verdict.{Verdict}
 use Rattle.occ.specs.declared.Verdict.TheVariants.{Refuse, Poll, Make}
 use Rattle.session.specs.Session.{made_of}
 use Rattle.inplace.proofs.Carrying.{made_one}
-use Rattle.plan.specs.Plan.{packet_at, packet_of, sound, sounds, failed, trial_by, trial_judged, trial_of, reaches}
+use Rattle.plan.specs.Plan.{packet_at, packet_of, sound, sounds, trial_made, trial_by, trial_judged, trial_of, reaches_from, reaches}
 use Rattle.plan.specs.declared.Trial.{Trial}
 use Rattle.plan.proofs.Orders.{from_here}
 
@@ -33,14 +35,14 @@ pub made_fits : (n m : ℕ) (ch : Change) → m ≡ made_of ch → n ≤ 65534 �
 made_fits n m ch e h = omega (arith, e, made_one ch)
 
 pub made_is : (t : Trial) (e : Edit) (x : Record) → x ≡ put_after t.held e → (m : ℕ) → m ≡ made_of e.change
-    → record { ok = true; held = x; next = t.next + m } ≡ trial_by t e.tables (Make e.change)
-unfolding trial_by
-made_is t e x p m q = λ i. record { ok = true; held = p i; next = t.next + q i }
+    → record { held = x; next = t.next + m } ≡ trial_made t e.tables e.change
+unfolding trial_made
+made_is t e x p m q = λ i. record { held = p i; next = t.next + q i }
 
 module _ (t : Trial) (c : List ℕ) where
-  pub unsound : (fine : Bool) → fine ≡ sound c → not fine ≡ true → (x : Trial) → x ≡ failed t → x ≡ trial_of t c
+  pub unsound : (fine : Bool) → fine ≡ sound c → not fine ≡ true → None ≡ trial_of t c
   unfolding trial_of
-  unsound fine e n x p = p ∙ if_not _ _ e n refl
+  unsound fine e n = if_not _ _ e n refl
 
   pub long_enough : (fine : Bool) → fine ≡ sound c → not fine ≡ false → 4 ≤ length c
   unfolding sound
@@ -51,7 +53,7 @@ module _ (t : Trial) (c : List ℕ) where
     judged_is : j ≡ judge_of t.held (worked_of t.held) t.next 0x10 (get_or c 1 0) (data_of c)
     judged_is = judged ∙ (λ i. judge_of t.held (worked i) t.next 0x10 (get_or c 1 0) (handed i))
 
-    pub by_verdict : (v : Verdict) → j.verdict ≡ v → (x : Trial) → x ≡ trial_by t j.tables v → x ≡ trial_of t c
+    pub by_verdict : (v : Verdict) → j.verdict ≡ v → (x : Option Trial) → x ≡ trial_by t j.tables v → x ≡ trial_of t c
     unfolding trial_of trial_judged
     by_verdict v told x p = p ∙ ap (trial_by t j.tables) (sym told) ∙ else_not _ _ e n (ap (trial_judged t) judged_is)
 
@@ -71,36 +73,39 @@ pub known_sound : (fine : List Bool) (place : ℕ) (p c : List ℕ) → fine ≡
 known_sound fine place p c e h q = ap (λ (l : List Bool). get_or l place false) e ∙ sound_at place p h ∙ ap sound (sym q)
 
 -- a trial draws one id at most
-verdict_draws : (t : Trial) (tables : Tables) (v : Verdict) → (trial_by t tables v).next ≤ t.next + 1
-unfolding trial_by
-verdict_draws t tables (Refuse n) = omega arith
+Low : Trial → Trial → Type 0
+Low t x = x.next ≤ t.next + 1
+
+verdict_draws : (t : Trial) (tables : Tables) (v : Verdict) → IfSome (trial_by t tables v) (Low t)
+unfolding trial_by trial_made Low
+verdict_draws t tables (Refuse n) = tt
 verdict_draws t tables Poll = omega arith
 verdict_draws t tables (Make ch) = omega (arith, made_one ch)
 
-trial_draws : (t : Trial) (c : List ℕ) → (trial_of t c).next ≤ t.next + 1
+trial_draws : (t : Trial) (c : List ℕ) → IfSome (trial_of t c) (Low t)
 unfolding trial_of trial_judged
-trial_draws t c = cond_elim (λ (x : Trial). x.next ≤ t.next + 1) (not (sound c)) (omega arith) (verdict_draws t _ _)
+trial_draws t c = cond_elim (λ (v : Option Trial). IfSome v (Low t)) (not (sound c)) tt (verdict_draws t _ _)
 
-pub next_drawn : (t x : Trial) (c : List ℕ) (i : ℕ) → x ≡ trial_of t c → t.next ≤ 256 + i → x.next ≤ 256 + (i + 1)
-next_drawn t x c i e h = omega (arith, ap (λ (y : Trial). y.next) e, trial_draws t c, h)
+pub next_drawn : (t x : Trial) (c : List ℕ) (i : ℕ) → Some x ≡ trial_of t c → t.next ≤ 256 + i → x.next ≤ 256 + (i + 1)
+unfolding Low
+next_drawn t x c i e h =
+    let low : Low t x = subst (λ (v : Option Trial). IfSome v (Low t)) (sym e) (trial_draws t c) in
+    omega (arith, low, h)
 
 module _ (p : List ℕ) (wanted : ℕ) (t : Trial) (i : ℕ) (o : List ℕ) where
   pub at_the_end : length o ≤ i → eqb t.held.state wanted ≡ reaches p wanted t (drop i o)
-  unfolding reaches
+  unfolding reaches reaches_from
   at_the_end h = ap (reaches p wanted t) (sym (drop_of_length-le o {i = i} h))
 
-  module _ (h : i < length o) (c : List ℕ) (q : c ≡ packet_at (get_or o i 0 - 1) p) (x : Trial) (e : x ≡ trial_of t c) where
-    tried : x ≡ trial_of t (packet_of (get_or o i 0) p)
-    unfolding packet_of
-    tried = e ∙ ap (trial_of t) q
+  module _ (h : i < length o) (c : List ℕ) (q : c ≡ packet_at (get_or o i 0 - 1) p) (v : Option Trial) (e : v ≡ trial_of t c) where
+    walked : reaches_from p wanted v (drop (i + 1) o) ≡ reaches p wanted t (drop i o)
+    unfolding reaches reaches_from packet_of
+    walked = ap (λ (y : Option Trial). reaches_from p wanted y (drop (i + 1) o)) (e ∙ ap (trial_of t) q) ∙ ap (reaches p wanted t) (sym (from_here i o h))
 
-    walked : reaches p wanted t (get_or o i 0 ∷ drop (i + 1) o) ≡ reaches p wanted t (drop i o)
-    walked = ap (reaches p wanted t) (sym (from_here i o h))
+    pub one_fails : v ≡ None → false ≡ reaches p wanted t (drop i o)
+    unfolding reaches_from
+    one_fails z = ap (λ (y : Option Trial). reaches_from p wanted y (drop (i + 1) o)) (sym z) ∙ walked
 
-    pub one_fails : not x.ok ≡ true → false ≡ reaches p wanted t (drop i o)
+    pub one_succeeds : (x : Trial) → v ≡ Some x → reaches p wanted x (drop (i + 1) o) ≡ reaches p wanted t (drop i o)
     unfolding reaches
-    one_fails z = if_not _ _ (ap (λ (y : Trial). y.ok) tried) z refl ∙ walked
-
-    pub one_succeeds : not x.ok ≡ false → reaches p wanted x (drop (i + 1) o) ≡ reaches p wanted t (drop i o)
-    unfolding reaches
-    one_succeeds z = else_not _ _ (ap (λ (y : Trial). y.ok) tried) z (ap (λ (y : Trial). reaches p wanted y (drop (i + 1) o)) tried) ∙ walked
+    one_succeeds x z = ap (λ (y : Option Trial). reaches_from p wanted y (drop (i + 1) o)) (sym z) ∙ walked

@@ -1,10 +1,12 @@
 -- Document 02, l: "A newcomer has up to five prepared OCC packets from HTMGT and wants state 2 or 3. Propose an order": what a packet tried, a proposal and the plan
 -- come to, for every session, packets and order.
-use Rattle.std.specs.Prelude.{ℕ, zero, suc, ◌+◌, ◌-◌, ◌*◌, ◌/◌, ◌%◌, Bool, true, false, cond, not, List, [], ◌∷◌, ◌≡◌, ltb, eqb, length, get_or, take, drop}
+use Rattle.std.specs.Result.{is_ok}
+use Rattle.std.specs.Prelude.{ℕ, zero, suc, ◌+◌, ◌-◌, ◌*◌, ◌/◌, ◌%◌, Bool, true, false, cond, not, Option, Some, None, List, [], ◌∷◌, ◌≡◌, ltb, eqb, length, get_or, take, drop}
 use Rattle.wire.specs.Conditions.{◌and◌}
 use Rattle.wire.specs.Wire.{pasted}
 use Rattle.record.specs.Record.{worked_of}
 use Rattle.change.specs.Change.{put_after}
+use Rattle.change.specs.declared.Change.{Change}
 use Rattle.change.specs.declared.Tables.{Tables}
 use Rattle.packet.specs.Packet.{packet_status, data_of}
 use Rattle.occ.specs.Judge.{judge_of}
@@ -34,27 +36,28 @@ packet_of number p = packet_at (number - 1) p
 
 -- what of "answer 0 and success" the packet's bytes alone decide: 4 bytes at least, and no status of the packet's own
 unfoldable pub sound : List ℕ → Bool
-sound c = cond (ltb (length c) 4) false (eqb (packet_status c) 0)
+sound c = cond (ltb (length c) 4) false (is_ok (packet_status c))
 
 -- of the five places at once: each packet is read and summed once
 unfoldable pub sounds : List ℕ → List Bool
 sounds p = sound (packet_at 0 p) ∷ sound (packet_at 1 p) ∷ sound (packet_at 2 p) ∷ sound (packet_at 3 p) ∷ sound (packet_at 4 p) ∷ []
 
-abbrev pub failed : Trial → Trial
-failed t = record { ok = false; held = t.held; next = t.next }
+-- a change carried out: the record, and the next id
+unfoldable pub trial_made : Trial → Tables → Change → Trial
+trial_made t tables change = record { held = put_after t.held (record { change = change; tables = tables }); next = t.next + made_of change }
 
-unfoldable pub trial_by : Trial → Tables → Verdict → Trial
-trial_by t tables (Refuse status) = failed t
-trial_by t tables Poll = t
-trial_by t tables (Make change) =
-    record { ok = true; held = put_after t.held (record { change = change; tables = tables }); next = t.next + made_of change }
+-- none where the packet is refused
+unfoldable pub trial_by : Trial → Tables → Verdict → Option Trial
+trial_by t tables (Refuse status) = None
+trial_by t tables Poll = Some t
+trial_by t tables (Make change) = Some (trial_made t tables change)
 
-unfoldable pub trial_judged : Trial → Judged → Trial
+unfoldable pub trial_judged : Trial → Judged → Option Trial
 trial_judged t j = trial_by t j.tables j.verdict
 
-unfoldable pub trial_of : Trial → List ℕ → Trial
+unfoldable pub trial_of : Trial → List ℕ → Option Trial
 trial_of t c =
-    cond (not (sound c)) (failed t) (trial_judged t (judge_of t.held (worked_of t.held) t.next 0x10 (get_or c 1 0) (data_of c)))
+    cond (not (sound c)) None (trial_judged t (judge_of t.held (worked_of t.held) t.next 0x10 (get_or c 1 0) (data_of c)))
 
 -- ---- "A small check accepts a proposal exactly when it is such an order and .. every packet gets answer 0 and success and the last state is the wanted one"
 
@@ -71,9 +74,14 @@ is_order count (x ∷ xs) =
     (cond (comes_in x xs) false
     (is_order count xs)))
 
+-- where a packet fails, all do
+unfoldable pub reaches_from : List ℕ → ℕ → Option Trial → List ℕ → Bool
+reaches_from p wanted None o = false
+reaches_from p wanted (Some t) [] = eqb t.held.state wanted
+reaches_from p wanted (Some t) (x ∷ xs) = reaches_from p wanted (trial_of t (packet_of x p)) xs
+
 unfoldable pub reaches : List ℕ → ℕ → Trial → List ℕ → Bool
-reaches p wanted t [] = eqb t.held.state wanted
-reaches p wanted t (x ∷ xs) = cond (not (trial_of t (packet_of x p)).ok) false (reaches p wanted (trial_of t (packet_of x p)) xs)
+reaches p wanted t o = reaches_from p wanted (Some t) o
 
 -- a proposal of more than five numbers names one twice, or one that is no packet's
 unfoldable pub plan_ok : List ℕ → ℕ → Trial → List ℕ → Bool
@@ -99,12 +107,12 @@ order_of n = trimmed (digits_of n)
 abbrev pub orders : ℕ
 orders = 7776
 
--- the first of k numbers from n on whose order passes; n + k where none does
-unfoldable pub least_from : List ℕ → ℕ → Trial → ℕ → ℕ → ℕ
-least_from p wanted t zero n = n
-least_from p wanted t (suc k) n = cond (plan_ok p wanted t (order_of n)) n (least_from p wanted t k (suc n))
+-- the first of k numbers from n on whose order passes
+unfoldable pub least_from : List ℕ → ℕ → Trial → ℕ → ℕ → Option ℕ
+least_from p wanted t zero n = None
+least_from p wanted t (suc k) n = cond (plan_ok p wanted t (order_of n)) (Some n) (least_from p wanted t k (suc n))
 
-unfoldable pub least_plan : List ℕ → ℕ → Trial → ℕ
+unfoldable pub least_plan : List ℕ → ℕ → Trial → Option ℕ
 least_plan p wanted t = least_from p wanted t orders 0
 
 -- ---- the calls, on a session: neither changes it
@@ -119,9 +127,13 @@ plan_refusal formed p wanted =
     (cond (ltb 5 (packets_in p)) 10
     (cond (not (wanted_ok wanted)) 10 0))
 
+-- what is answered by 10, once the session is well formed
+abbrev pub Plannable : List ℕ → ℕ → Bool → Type 0
+Plannable p wanted ok = plan_refusal true p wanted ≡ cond ok 0 10
+
 -- "run on the given record in a session with an empty journal and the same next id, full profile"
 unfoldable pub start_of : Session → Trial
-start_of s = record { ok = true; held = s.held; next = s.next }
+start_of s = record { held = s.held; next = s.next }
 
 abbrev pub answered : ℕ → Told
 answered n = record { answer = n; small = 0; beside = 0 }
@@ -141,10 +153,9 @@ pub record Planned : Type 0 where
   pub order : List ℕ
 
 -- 1 and the number of packets for a plan, which stands at the buffer's front; the bytes past it are kept
-unfoldable pub given : ℕ → List ℕ → Planned
-given n d =
-    cond (eqb n orders) (record { told = answered 0; order = d })
-    (record { told = record { answer = 0; small = 1; beside = length (order_of n) }; order = pasted 0 (order_of n) d })
+unfoldable pub given : Option ℕ → List ℕ → Planned
+given None d = record { told = answered 0; order = d }
+given (Some n) d = record { told = record { answer = 0; small = 1; beside = length (order_of n) }; order = pasted 0 (order_of n) d }
 
 -- 3: the buffer has no room for five numbers, after 1 and 10
 unfoldable pub plan_call : Session → List ℕ → ℕ → List ℕ → Planned

@@ -1,10 +1,9 @@
 // The calls `plan_ok` and `plan`: whether an order of prepared packets leads to a wanted state, and the first order that does. Packets are tried on a
 // record and a next id, by value; the session is only looked at.
-#![tactic(auto)]
+#![tactic(auto, unfolding(crate::specs::Plan::sound, crate::specs::Plan::sounds, crate::specs::Plan::wanted_ok, crate::specs::Plan::given, crate::specs::Plan::trial_by))]
 
-ghost use Rattle.std.specs.Prelude.{true, ◌≡◌, ◌≤◌, ◌<◌, length, drop};
-ghost use Rattle.occ.specs.declared.Verdict.TheVariants.{Make};
-ghost use Rattle.plan.specs.Plan.{packet_at, packets_in, sound, sounds, failed, trial_by, trial_of, comes_in, is_order, reaches, plan_ok, digits_of, trimmed, least_plan, wanted_ok, plan_refusal, given, plan_ok_on, PlanAllows};
+ghost use Rattle.std.specs.Prelude.{true, ◌≡◌, ◌≤◌, ◌<◌, length, drop, IfSome};
+ghost use Rattle.plan.specs.Plan.{packet_at, packets_in, sound, sounds, trial_made, trial_of, is_order, reaches, plan_ok, digits_of, trimmed, least_plan, wanted_ok, Plannable, given, plan_ok_on, PlanAllows};
 
 use change::Edit;
 use image::Head;
@@ -15,10 +14,9 @@ use record::Record;
 // Orders of five packets, by number: 6 ^ 5.
 const ORDERS: u16 = 7776;
 
-// Whether all went well so far, and the record and next id then.
+// The record and next id as the packets tried so far leave them.
 #[derive(Clone, Copy)]
 pub struct Trial {
-    pub ok: bool,
     pub held: Record,
     pub next: u16,
 }
@@ -48,7 +46,7 @@ fn sound(command: &[u8]) -> bool
     if command.len() < 4 {
         return false;
     }
-    packet::status(command) == 0
+    packet::check(command).is_ok()
 }
 
 // Of all five places: each packet is read and summed once.
@@ -65,36 +63,24 @@ fn sounds(packets: &[u8]) -> [bool; 5]
 
 // ---- a trial
 
-fn failed(t: Trial) -> Trial
-    ensures { result ≡ failed t }
-{
-    let held = t.held;
-    Trial {
-        ok: false,
-        held: held,
-        next: t.next,
-    }
-}
-
 // A change carried out: the record, and the next id where it makes a log.
 fn made(t: Trial, e: Edit) -> Trial
     requires { t.next ≤ 65534 }
-    ensures { result ≡ trial_by t e.tables (Make e.change) }
+    ensures { result ≡ trial_made t e.tables e.change }
 {
     Trial {
-        ok: true,
         held: change::put(t.held, e).unwrap_or(t.held),
         next: t.next + session::made(e.change),
     }
 }
 
 // A packet from HTMGT, whose bytes are known to be sound or not, tried where the trial stands.
-fn attempt(t: Trial, fine: bool, command: &[u8]) -> Trial
+fn attempt(t: Trial, fine: bool, command: &[u8]) -> Option<Trial>
     requires { (t.next ≤ 65534) × (fine ≡ sound command.now) }
     ensures { result ≡ trial_of t command.now }
 {
     if !fine {
-        return failed(t);
+        return None;
     }
     let held = t.held;
     let worked = record::work_out(held);
@@ -103,50 +89,29 @@ fn attempt(t: Trial, fine: bool, command: &[u8]) -> Trial
     let verdict = judged.verdict;
     let tables = judged.tables;
     match verdict {
-        Verdict::Refuse(_) => failed(t),
-        Verdict::Poll => t,
-        Verdict::Make(change) => made(
-            t,
-            Edit {
-                change: change,
-                tables: tables,
-            },
-        ),
+        Verdict::Refuse(_) => None,
+        Verdict::Poll => Some(t),
+        Verdict::Make(change) => Some(made(t, Edit { change, tables })),
     }
 }
 
 // ---- a proposal
 
-fn comes_in(x: u8, order: &[u8]) -> bool
-    ensures { result ≡ comes_in x order.now }
-{
-    let mut i = 0;
-    while i < order.len() {
-        if order[i] == x {
-            return true;
-        }
-        i += 1;
-    }
-    false
-}
-
 fn is_order(count: u8, order: &[u8]) -> bool
     ensures { result ≡ is_order count order.now }
 {
-    let mut i = 0;
-    while i < order.len() {
-        let x = order[i];
-        if x == 0 {
+    let mut left = order;
+    while let Some((x, rest)) = left.split_first() {
+        if *x == 0 {
             return false;
         }
-        if count < x {
+        if count < *x {
             return false;
         }
-        let rest = i + 1;
-        if comes_in(x, &order[rest..]) {
+        if rest.contains(x) {
             return false;
         }
-        i = rest;
+        left = rest;
     }
     true
 }
@@ -157,15 +122,12 @@ fn reaches(packets: &[u8], fine: [bool; 5], wanted: u8, start: Trial, order: &[u
     ensures { result ≡ reaches packets.now wanted start order.now }
 {
     let mut t = start;
-    let mut i = 0;
-    while i < order.len() {
-        let place = order[i] as usize - 1;
-        let after = attempt(t, fine[place], packet_at(packets, place));
-        if !after.ok {
+    for number in order {
+        let place = *number as usize - 1;
+        let Some(after) = attempt(t, fine[place], packet_at(packets, place)) else {
             return false;
-        }
+        };
         t = after;
-        i += 1;
     }
     let held = t.held;
     held.state == wanted
@@ -204,32 +166,28 @@ fn digits(n: u16) -> [u8; 5]
 fn zeros(digits: [u8; 5]) -> usize
     ensures { (result ≤ 5) × (drop result digits ≡ trimmed digits) }
 {
-    let mut i = 0;
-    while i < 5 {
-        if digits[i] != 0 {
+    for (i, digit) in digits.iter().enumerate() {
+        if *digit != 0 {
             return i;
         }
-        i += 1;
     }
-    i
+    5
 }
 
-// Its number; 7776 where none does.
-fn search(packets: &[u8], wanted: u8, start: Trial) -> u16
+// Its number.
+fn search(packets: &[u8], wanted: u8, start: Trial) -> Option<u16>
     requires { (start.next ≤ 256) × (packets_in packets.now ≤ 5) }
     ensures { result ≡ least_plan packets.now wanted start }
 {
     let fine = sounds(packets);
-    let mut n = 0;
-    while n < ORDERS {
+    for n in 0..ORDERS {
         let digits = digits(n);
         let from = zeros(digits);
         if passes(packets, fine, wanted, start, &digits[from..]) {
-            return n;
+            return Some(n);
         }
-        n += 1;
     }
-    n
+    None
 }
 
 // ---- the public calls, on a session that is lent as its image's bytes
@@ -243,28 +201,21 @@ fn wanted_ok(wanted: u8) -> bool
     wanted == 3
 }
 
-// Answers 1 and 10, in that order, 0 where none is due.
-fn refusal(formed: bool, packets: &[u8], wanted: u8) -> u8
-    ensures { result ≡ plan_refusal formed packets.now wanted }
+// Whether a well-formed session is not answered by 10.
+fn plannable(packets: &[u8], wanted: u8) -> bool
+    ensures { Plannable packets.now wanted result }
 {
-    if !formed {
-        return 1;
-    }
     if 20480 < packets.len() {
-        return 10;
+        return false;
     }
-    if !wanted_ok(wanted) {
-        return 10;
-    }
-    0
+    wanted_ok(wanted)
 }
 
 fn start_of(h: Head) -> Trial
-    ensures { result ≡ record { ok = true; held = h.held; next = h.next } }
+    ensures { result ≡ record { held = h.held; next = h.next } }
 {
     let held = h.held;
     Trial {
-        ok: true,
         held: held,
         next: h.next,
     }
@@ -274,13 +225,11 @@ fn start_of(h: Head) -> Trial
 pub fn plan_ok(lent: &[u8], packets: &[u8], wanted: u8, order: &[u8]) -> Told
     ensures { result ≡ plan_ok_on lent.now packets.now wanted order.now }
 {
-    if lent.len() != layout::IMAGE {
+    let Some(h) = inplace::open(lent) else {
         return inplace::answer_with(1, 0);
-    }
-    let h = image::read_head(lent);
-    let n = refusal(inplace::well_formed(lent, h), packets, wanted);
-    if n != 0 {
-        return inplace::answer_with(n, 0);
+    };
+    if !plannable(packets, wanted) {
+        return inplace::answer_with(10, 0);
     }
     let start = start_of(h);
     if !passes(packets, sounds(packets), wanted, start, order) {
@@ -294,14 +243,14 @@ pub fn plan_ok(lent: &[u8], packets: &[u8], wanted: u8, order: &[u8]) -> Told
 }
 
 // The plan of an order's number is written to the front of the buffer.
-fn give(n: u16, order: &mut [u8]) -> Told
-    requires { (n ≤ 7776) × (5 ≤ length order.old) }
-    ensures value { result ≡ (given n order.old).told }
-    ensures order_after { order.new ≡ (given n order.old).order }
+fn give(found: Option<u16>, order: &mut [u8]) -> Told
+    requires { IfSome found (λ n. n < 7776) × (5 ≤ length order.old) }
+    ensures value { result ≡ (given found order.old).told }
+    ensures order_after { order.new ≡ (given found order.old).order }
 {
-    if n == ORDERS {
+    let Some(n) = found else {
         return inplace::answer_with(0, 0);
-    }
+    };
     let digits = digits(n);
     let from = zeros(digits);
     wire::copy(order, 0, &digits[from..]);
@@ -316,13 +265,11 @@ fn give(n: u16, order: &mut [u8]) -> Told
 pub fn plan(lent: &[u8], packets: &[u8], wanted: u8, order: &mut [u8]) -> Told
     ensures { PlanAllows lent.now packets.now wanted order.old result order.new }
 {
-    if lent.len() != layout::IMAGE {
+    let Some(h) = inplace::open(lent) else {
         return inplace::answer_with(1, 0);
-    }
-    let h = image::read_head(lent);
-    let n = refusal(inplace::well_formed(lent, h), packets, wanted);
-    if n != 0 {
-        return inplace::answer_with(n, 0);
+    };
+    if !plannable(packets, wanted) {
+        return inplace::answer_with(10, 0);
     }
     if order.len() < 5 {
         return inplace::answer_with(3, 0);

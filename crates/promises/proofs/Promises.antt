@@ -20,7 +20,7 @@ use Rattle.session.specs.declared.Session.{Session}
 use Rattle.inplace.specs.declared.Told.{Told}
 use Rattle.places.specs.Faults.{CommandFaults, NotAfter}
 use Rattle.places.specs.declared.Fault.{Fault}
-use Rattle.places.specs.declared.Blame.TheVariants.{Wrong}
+use Rattle.std.specs.Prelude.{Option, Some, None}
 use Rattle.session.specs.Road.{used_of, watch_only, Said, done}
 use Rattle.session.proofs.laws.Watch.{watch_formed}
 use Rattle.inplace.specs.InPlace.{no_image}
@@ -164,10 +164,10 @@ status_of_sbe = sbe_statuses
 -- document 02, c: a data byte is told exactly where the status is 0x13; it is wrong, and no other that is wrong comes before it, by number
 -- and then by reason. All that can be wrong: places/specs/Faults.antt
 pub wrong_byte_exactly_when : (s : Session) → TypedSession s → (sender : ℕ) (c d : List ℕ)
-    → ((x : Fault) × (occ_why s sender c d ≡ Wrong x)) ↔ (OccDue s sender c d and (occ_call s sender c d ≡ occ_error s c d 0x13))
+    → ((x : Fault) × (occ_why s sender c d ≡ Some x)) ↔ (OccDue s sender c d and (occ_call s sender c d ≡ occ_error s c d 0x13))
 wrong_byte_exactly_when = byte_told
 
-pub wrong_byte_is_the_least : (s : Session) → TypedSession s → (sender : ℕ) (c d : List ℕ) (x : Fault) → occ_why s sender c d ≡ Wrong x
+pub wrong_byte_is_the_least : (s : Session) → TypedSession s → (sender : ℕ) (c d : List ℕ) (x : Fault) → occ_why s sender c d ≡ Some x
     → CommandFaults s.held (get_or c 1 0) (data_of c) x and ((y : Fault) → CommandFaults s.held (get_or c 1 0) (data_of c) y → NotAfter x y)
 wrong_byte_is_the_least = byte_least
 
@@ -647,14 +647,15 @@ pub the_plan_given_passes : (s : Session) (p : List ℕ) (wanted : ℕ) (d : Lis
 the_plan_given_passes s p wanted d g =
     let x = given_due s p wanted d g.1 in
     let some = given_some s p wanted d x.0 x.1 g.1 in
-    (given_passes s p wanted d x.0 x.1 some, given_front s p wanted d x.0 x.1 some, given_long s p wanted d x.0 x.1 some)
+    (given_passes s p wanted d x.0 x.1 some.0 some.1, given_front s p wanted d x.0 x.1 some.0 some.1, given_long s p wanted d x.0 x.1 some.0 some.1)
 
 -- it is the one with the fewest packets, then the least in index order, of all that pass
 pub the_plan_given_is_least : (s : Session) (p : List ℕ) (wanted : ℕ) (d : List ℕ) → Given (plan_call s p wanted d)
     → (o : List ℕ) → Accepted (plan_ok_call s p wanted o) → FewestThenLeast (plan_in (plan_call s p wanted d)) o
 the_plan_given_is_least s p wanted d g o a =
     let x = given_due s p wanted d g.1 in
-    given_least s p wanted d x.0 x.1 (given_some s p wanted d x.0 x.1 g.1) o ((accepted_exactly s p wanted o x.0).0 a)
+    let some = given_some s p wanted d x.0 x.1 g.1 in
+    given_least s p wanted d x.0 x.1 some.0 some.1 o ((accepted_exactly s p wanted o x.0).0 a)
 
 -- "\"No plan\" comes exactly when no such order exists"; the buffer is kept then
 pub no_plan_exactly_when_none : (s : Session) (p : List ℕ) (wanted : ℕ) → PlanDue s p wanted → (d : List ℕ) → 5 ≤ length d

@@ -1,5 +1,9 @@
 -- Document 02, g: "The thermal people share a session with the SBE people and want to know that they can." What OCC exchanges depend on is a small value, the bench, and what
 -- mailbox requests and time reports depend on is the timer; neither side moves the other's.
+use Rattle.std.specs.Prelude.{Ok}
+use Rattle.std.specs.Result.{is_ok}
+use Rattle.packet.specs.declared.Status.TheVariants.{InvalidCommand, InvalidLength, InvalidData, ChecksumFailure, InternalError, StateProhibits}
+use Rattle.places.specs.declared.Fault.{Fault}
 use Rattle.std.specs.Prelude.{ℕ, ◌+◌, true, cond, not, ◌≡◌, List, [], ◌∷◌, eqb, length, get_or}
 use Rattle.record.specs.Record.{no_area, worked_of}
 use Rattle.record.specs.declared.Record.{Record}
@@ -9,8 +13,7 @@ use Rattle.packet.specs.Packet.{data_of, replied}
 use Rattle.occ.specs.declared.Judged.{Judged}
 use Rattle.occ.specs.declared.Verdict.{Verdict}
 use Rattle.occ.specs.declared.Verdict.TheVariants.{Refuse, Poll, Make}
-use Rattle.places.specs.declared.Blame.{Blame}
-use Rattle.places.specs.declared.Blame.TheVariants.{Nothing}
+use Rattle.std.specs.Prelude.{Option, Some, None}
 use Rattle.sbe.specs.Mailbox.{bell_of, response_bytes}
 use Rattle.sbe.specs.declared.Ruling.{Ruling}
 use Rattle.sbe.specs.declared.Ruling.TheVariants.{Decline, Grant, Done, Read}
@@ -113,7 +116,7 @@ bench_of s = record { held = dry s.held; next = s.next }
 -- the answer and the wrong byte, the reply buffer and the bench after it
 pub record Alone : Type 0 where
   pub answer : ℕ
-  pub why : Blame
+  pub why : Option Fault
   pub reply : List ℕ
   pub after : Bench
 
@@ -127,11 +130,11 @@ alone_by b c d j (Refuse status) =
       after = b;
     }
 alone_by b c d j Poll =
-    record { answer = 0; why = Nothing; reply = occs.told_of Poll b.held (worked_of b.held) (get_or c 0 0) (get_or c 1 0) d; after = b }
+    record { answer = 0; why = None; reply = occs.told_of Poll b.held (worked_of b.held) (get_or c 0 0) (get_or c 1 0) d; after = b }
 alone_by b c d j (Make change) =
     record {
       answer = 0;
-      why = Nothing;
+      why = None;
       reply = replied (get_or c 0 0) (get_or c 1 0) 0x00 [] d;
       after = record { held = dry (put_after b.held (record { change = change; tables = j.tables })); next = b.next + made_of change };
     }
@@ -142,7 +145,7 @@ alone_judged b c d j = alone_by b c d j j.verdict
 unfoldable pub alone : Bench → ℕ → List ℕ → List ℕ → Alone
 alone b sender c d =
     cond (not (eqb (occs.refusal_of true sender (length c) (length d)) 0))
-    (record { answer = occs.refusal_of true sender (length c) (length d); why = Nothing; reply = d; after = b })
+    (record { answer = occs.refusal_of true sender (length c) (length d); why = None; reply = d; after = b })
     (alone_judged b c d (occs.asked_of b.held (worked_of b.held) b.next sender c))
 
 -- what exchanges hear alone, one after the other

@@ -1,5 +1,8 @@
 -- What "every later reply but for log ids" says: two worlds, in the first of which nobody tried. Ids from k on, the next id when somebody
 -- tried, are one higher in the second (Shifted.antt).
+use Rattle.std.specs.Prelude.{Ok}
+use Rattle.std.specs.Result.{is_ok}
+use Rattle.packet.specs.declared.Status.TheVariants.{InvalidCommand, InvalidLength, InvalidData, ChecksumFailure, InternalError, StateProhibits}
 use Rattle.std.specs.Prelude.{ℕ, suc, ◌<◌, cond, not, ◌⊎◌, ◌≡◌, List, [], ◌∷◌, eqb, length, get_or}
 use Rattle.change.specs.declared.Change.TheVariants.{Reset}
 use Rattle.packet.specs.Packet.{packet_status, data_of, replied}
@@ -18,7 +21,7 @@ use Rattle.promises.specs.Shifted.{shifted, shifted_record}
 -- the id that a good clear-log packet names; 0, which is no log's, for every other command
 unfoldable pub named : List ℕ → ℕ
 named c =
-    cond (not (eqb (packet_status c) 0)) 0
+    cond (not (is_ok (packet_status c))) 0
     (cond (not (eqb (get_or c 1 0) 0x12)) 0
     (cond (not (eqb (length (data_of c)) 1)) 0 (get_or (data_of c) 0 0)))
 
@@ -28,8 +31,8 @@ pub record Clears (k : ℕ) (c c' : List ℕ) : Type 0 where
   pub sequence : get_or c' 0 0 ≡ get_or c 0 0
   pub type : get_or c 1 0 ≡ 0x12
   pub type' : get_or c' 1 0 ≡ 0x12
-  pub good : packet_status c ≡ 0
-  pub good' : packet_status c' ≡ 0
+  pub good : packet_status c ≡ Ok tt
+  pub good' : packet_status c' ≡ Ok tt
   pub id : ℕ
   pub names : data_of c ≡ id ∷ []
   pub names' : data_of c' ≡ shifted k id ∷ []
@@ -77,7 +80,7 @@ pub record Alike (k : ℕ) (s : Session) (a b : Said) : Type 0 where
 pub data IdsEnd (s t : Session) : Call → Call → Type 0 where
   ids_end : (sender : ℕ) (c c' d : List ℕ) (reason : ℕ) → occ_refusal s sender (length c) (length d) ≡ 0 → s.next ≡ 255 → t.next ≡ 256
       → (asked_of s.held s.worked s.next sender c).verdict ≡ Make (Reset (record { id = 255; reason = reason }))
-      → (asked_of t.held t.worked t.next sender c').verdict ≡ Refuse 0x15 → IdsEnd s t (occ sender c d) (occ sender c' d)
+      → (asked_of t.held t.worked t.next sender c').verdict ≡ Refuse InternalError → IdsEnd s t (occ sender c d) (occ sender c' d)
 
 -- ---- any calls, one after the other: alike as long as ids last
 

@@ -7,7 +7,7 @@ use borrow.Author.Tests.{not-false, not-true, eqb-true, ltb-false}
 use lib.Dec.{eqb, ltb}
 use lib.ListN.{length, take, drop, length-drop}
 use Rattle.wire.specs.Wire.{pasted, Bytes}
-use Rattle.wire.proofs.laws.Cases.{if_b, else_b, if_ne, else_ne, if_not, else_not, if_lt, else_lt}
+use Rattle.wire.proofs.laws.Cases.{cond_cases, if_b, else_b, if_ne, else_ne, if_not, else_not, if_lt, else_lt}
 use Rattle.wire.proofs.laws.Wire.{tail_part}
 use Rattle.wire.proofs.laws.Chains.{passed}
 use Rattle.formed.proofs.laws.Formed.{both_hold}
@@ -20,6 +20,7 @@ use Rattle.image.specs.Image.{image_of, head_in, session_in, session_of, written
 use Rattle.image.proofs.laws.Image.{Typed, session_image, length_image}
 use Rattle.layout.specs.Layout.{image_length}
 use Rattle.inplace.specs.declared.Told.{Told}
+use Rattle.inplace.specs.InPlace.{Opens, Unopened}
 use Rattle.inplace.proofs.laws.InPlace.{as_read}
 use Rattle.saving.specs.Forms.{base_head, base_most, base_of, session_of_base, saved_length, saved_of, kinds_ok, used_in, session_of_saved}
 use Rattle.saving.specs.Moves.{base_holds, goes_down, base_reads, saved_reads, image_reads, Outcome, Allows, refused, put_into, save_to, restore_to, move_up_to, move_down_to}
@@ -132,21 +133,19 @@ module _ (b out : List ℕ) (t : Told) where
   unfolding save_to
   no_session h e = as_told (refused 1 out) (save_to b out) t out (if_b _ _ (ap not h) refl) (e, refl)
 
-  pub save_length : (length b ≡ image_length → ⊥) → t ≡ number_told 1 → Allows (save_to b out) t out
+  pub save_unopened : Unopened b → t ≡ number_told 1 → Allows (save_to b out) t out
   unfolding image_reads
-  save_length h = no_session (sym (if_ne _ _ h refl))
+  save_unopened shut =
+      no_session (cond_cases (λ (x : Bool). x ≡ false) (not (eqb (length b) image_length)) (λ e. refl) (λ e. (shut (eqb-true (length b) image_length (not-false _ e))).0))
 
-  module _ (long : length b ≡ image_length) (h : Head) (read : h ≡ head_in b) (g : Bool) (judged : g ≡ well_formed (session_in h b)) where
-    reads_as : image_reads b ≡ g
+  module _ (h : Head) (o : Opens b h) where
+    reads_it : image_reads b ≡ true
     unfolding image_reads
-    reads_as = sym (else_ne _ _ long (judged ∙ ap well_formed (as_read b long h read)))
+    reads_it = sym (else_ne _ _ o.long (sym o.formed ∙ ap well_formed (as_read b o.long h o.read)))
 
-    pub save_ill : not g ≡ true → t ≡ number_told 1 → Allows (save_to b out) t out
-    save_ill n = no_session (reads_as ∙ not-true g n)
-
-    pub save_put : not g ≡ false → (y : List ℕ) → Allows (put_into (saved_of (session_of b)) out) t y → Allows (save_to b out) t y
+    pub save_put : (y : List ℕ) → Allows (put_into (saved_of (session_of b)) out) t y → Allows (save_to b out) t y
     unfolding save_to
-    save_put n y = as_told (put_into (saved_of (session_of b)) out) (save_to b out) t y (else_b _ _ (ap not (reads_as ∙ not-false g n)) refl)
+    save_put y = as_told (put_into (saved_of (session_of b)) out) (save_to b out) t y (else_b _ _ (ap not reads_it) refl)
 
 module _ (b out : List ℕ) (t : Told) where
   pub restore_length : (length out ≡ image_length → ⊥) → t ≡ number_told 1 → Allows (restore_to b out) t out

@@ -360,13 +360,9 @@ fn blank() -> [u8; 4411]
 pub fn save(session: &[u8], out: &mut [u8]) -> Told
     ensures { Allows (save_to session.now out.old) result out.new }
 {
-    if session.len() != layout::IMAGE {
+    let Some(_) = inplace::open(session) else {
         return inplace::answer_with(1, 0);
-    }
-    let h = image::read_head(session);
-    if !inplace::well_formed(session, h) {
-        return inplace::answer_with(1, 0);
-    }
+    };
     put_new(session, out)
 }
 

@@ -6,7 +6,7 @@ use mathlib.Core.List.{List, [], ◌∷◌}
 use types.Run.{OneOf, miss}
 use native.Mathlib.Nat.{add-sub_cancel_left, le_trans}
 use native.Mathlib.Omega.{arith}
-use borrow.Author.Tests.{ltb-true, ltb-false}
+use borrow.Author.Tests.{ltb-true, ltb-false, eqb-true, not-false}
 use lib.Dec.{ltb, eqb}
 use lib.ListN.{length, take, drop, length-drop}
 use lib.Seq.{length-take-le}
@@ -24,10 +24,10 @@ use Rattle.session.proofs.laws.Road.{made_full, made_done}
 use Rattle.session.specs.declared.Session.{Session}
 use Rattle.sbe_call.specs.Sbe.{refusal_of, sbe_refusal, counted_in, read_status, read_at, judged_for, served_at, served_by, told_of, ruling_asks, sbe_ruling, by_profile, sbe_read, sbe_asks, sbe_call, ruled_left, sbe_on, data_for, sbe_data, data_on}
 use Rattle.image.specs.declared.Head.{Head}
-use Rattle.image.specs.Image.{head_in, session_in}
+use Rattle.image.specs.Image.{image_of, session_in, session_of}
 use Rattle.layout.specs.Layout.{image_length}
 use Rattle.inplace.specs.declared.Told.{Told}
-use Rattle.inplace.specs.InPlace.{Left, rung_left, HeadStands, carried_in}
+use Rattle.inplace.specs.InPlace.{Left, rung_left, HeadStands, Opens, Unopened, carried_in}
 use Rattle.inplace.proofs.laws.InPlace.{Parts, parts, as_read, stands, on_read, carried_kept, carried_new}
 use Rattle.inplace.proofs.laws.InPlace as inplace
 use Rattle.sbe.specs.contracts.Ruling.{the_type}
@@ -170,36 +170,35 @@ other_judged image room (Grant ch) h = refl
 other_judged image room Done h = refl
 other_judged image room (Read offset size) h = absurd (miss no_read 3 tt h)
 
--- ---- the whole call: f says whether the session is well formed, n is the refusal that is due
+-- ---- the whole call: n is the refusal that is due to a well-formed session
 
 abbrev pub All : Told → List ℕ → List ℕ → List ℕ → Left → List ℕ → Type 0
 All t y z w q served = (t ≡ q.told) × ((y ≡ q.image) × ((z ≡ q.reply) × (w ≡ served)))
 
-module _ (b : List ℕ) (long : length b ≡ image_length) (h : Head) (read : h ≡ head_in b) (r d m x : List ℕ) (f : Bool) (n : ℕ)
-    (formed : f ≡ well_formed (session_in h b)) (is : n ≡ refusal_of f (length r) (length d)) where
+module _ (b : List ℕ) (h : Head) (o : Opens b h) (r d m x : List ℕ) (n : ℕ) (is : n ≡ refusal_of true (length r) (length d)) where
   -- no refusal is due
-  pub met_in : n ≡ 0 → (well_formed (session_in h b) ≡ true) × (32 ≤ length r) × (32 ≤ length d)
-  met_in none = met (session_in h b) f n (length r) (length d) formed is none
+  pub met_in : n ≡ 0 → (32 ≤ length r) × (32 ≤ length d)
+  met_in none = let q = met (session_in h b) true n (length r) (length d) (sym o.formed) is none in (q.1, q.2)
 
   refusal_is : n ≡ sbe_refusal (session_in h b) (length r) (length d)
   unfolding sbe_refusal
-  refusal_is = is ∙ ap (λ (g : Bool). refusal_of g (length r) (length d)) formed
+  refusal_is = is ∙ ap (λ (g : Bool). refusal_of g (length r) (length d)) (sym o.formed)
 
   by_refusal : rung_left (settled (session_in h b) d (due n (sbe_read (session_in h b).profile r d m x))) ≡ sbe_on b r d m x
   unfolding sbe_on sbe_call sbe_asks
   by_refusal =
       ap (λ (k : ℕ). rung_left (settled (session_in h b) d (due k (sbe_read (session_in h b).profile r d m x)))) refusal_is
-      ∙ on_read (λ (s : Session). rung_left (sbe_call s r d m x)) d b long h read
+      ∙ on_read (λ (s : Session). rung_left (sbe_call s r d m x)) d b o.long h o.read
 
   data_is : (w : List ℕ) → w ≡ data_for n r m x → w ≡ data_on b r d m x
   unfolding data_on sbe_data
   data_is w e =
-      else_ne _ _ long (e ∙ ap (λ (k : ℕ). data_for k r m x) (refusal_is ∙ ap (λ (s : Session). sbe_refusal s (length r) (length d)) (as_read b long h read)))
+      else_ne _ _ o.long (e ∙ ap (λ (k : ℕ). data_for k r m x) (refusal_is ∙ ap (λ (s : Session). sbe_refusal s (length r) (length d)) (as_read b o.long h o.read)))
 
-  pub refused_in : Bytes b → (t : Told) → t ≡ record { answer = n; small = 0; beside = 0 } → (n ≡ 0 → ⊥) → All t b d x (sbe_on b r d m x) (data_on b r d m x)
+  pub refused_in : (t : Told) → t ≡ record { answer = n; small = 0; beside = 0 } → (n ≡ 0 → ⊥) → All t b d x (sbe_on b r d m x) (data_on b r d m x)
   unfolding due settled rung_left kept data_for
-  refused_in bytes t p z =
-      let k = parts t b d _ ((λ i. record { told = p i; image = (stands b long h read bytes).image i; reply = d })
+  refused_in t p z =
+      let k = parts t b d _ ((λ i. record { told = p i; image = o.stands.image i; reply = d })
       ∙ ap (λ (a : Asks). rung_left (settled (session_in h b) d a)) (if_ne (refuses n) (sbe_read (session_in h b).profile r d m x) z refl)
       ∙ by_refusal) in
       (k.0, (k.1.0, (k.1.1, data_is x (if_ne _ _ z refl))))
@@ -215,8 +214,19 @@ module _ (b : List ℕ) (long : length b ≡ image_length) (h : Head) (read : h 
       ∙ by_refusal) in
       (k.0, (k.1.0, (k.1.1, data_is w (else_ne _ _ none (sp ∙ ap (λ (u : Ruling). served_by u m x) a)))))
 
--- bytes that are no image
-pub no_image_lem : (b : List ℕ) → (length b ≡ image_length → ⊥) → (r d m x : List ℕ) (t : Told) → t ≡ record { answer = 1; small = 0; beside = 0 } → All t b d x (sbe_on b r d m x) (data_on b r d m x)
+ill_refused : (r d m x : List ℕ) (s : Session) → well_formed s ≡ false → record { told = record { answer = 1; small = 0; beside = 0 }; image = image_of s; reply = d } ≡ rung_left (sbe_call s r d m x)
+unfolding sbe_call sbe_asks sbe_refusal refusal_of due settled rung_left kept
+ill_refused r d m x s ill = ap (λ (g : Bool). rung_left (settled s d (due (refusal_of g (length r) (length d)) (sbe_read s.profile r d m x)))) (sym ill)
+
+ill_data : (r d m x : List ℕ) (s : Session) → well_formed s ≡ false → x ≡ sbe_data s r d m x
+unfolding sbe_data data_for sbe_refusal refusal_of
+ill_data r d m x s ill = ap (λ (g : Bool). data_for (refusal_of g (length r) (length d)) r m x) (sym ill)
+
+-- bytes that don't open keep the second buffer too
+pub unopened : (b : List ℕ) → Unopened b → (r d m x : List ℕ) (t : Told) → t ≡ record { answer = 1; small = 0; beside = 0 } → All t b d x (sbe_on b r d m x) (data_on b r d m x)
 unfolding sbe_on data_on
-no_image_lem b z r d m x t p =
-    let k = inplace.no_image_lem (λ (s : Session). rung_left (sbe_call s r d m x)) d b z t p in (k.0, (k.1.0, (k.1.1, if_ne _ _ z refl)))
+unopened b shut r d m x t p =
+    let k = inplace.unopened (λ (s : Session). rung_left (sbe_call s r d m x)) d (ill_refused r d m x) b shut t p in (k.0, (k.1.0, (k.1.1, kept_data)))
+  where
+    kept_data : x ≡ data_on b r d m x
+    kept_data = cond_cases (λ (y : List ℕ). x ≡ y) (not (eqb (length b) image_length)) (λ e. refl) (λ e. ill_data r d m x (session_of b) (shut (eqb-true (length b) image_length (not-false _ e))).0)

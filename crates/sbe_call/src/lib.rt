@@ -1,31 +1,28 @@
 // The call `sbe`: a mailbox request, answered on a lent session. Refuse first, judge, serve, carry out, respond and ring last.
-#![tactic(auto)]
+#![tactic(auto, unfolding(crate::specs::Sbe::refusal_of, crate::specs::Sbe::counted_in, crate::specs::Sbe::read_status, crate::specs::Sbe::read_at, crate::specs::Sbe::judged_for, crate::specs::Sbe::denied, crate::specs::Sbe::by_profile, crate::specs::Sbe::served_by, crate::specs::Sbe::served_at, crate::specs::Sbe::told_of))]
 
 ghost use Rattle.std.specs.Prelude.{true, ◌≡◌, ◌≤◌, length};
 ghost use Rattle.sbe_call.specs.Sbe.{refusal_of, counted_in, read_status, judged_for, denied, by_profile, served_by, told_of, ruled_left, SbeAllows, AloneAllows};
 ghost use Rattle.session.specs.Session.{well_formed};
 ghost use Rattle.image.specs.Image.{session_in};
-ghost use Rattle.inplace.specs.InPlace.{HeadStands};
+ghost use Rattle.inplace.specs.InPlace.{HeadStands, Refused};
 
 use change::Edit;
 use image::Head;
 use inplace::Told;
 use sbe::Ruling;
 
-// Answers 1, 3 and 4 in document 01's order, 0 where none is due.
-fn refusal(formed: bool, request: usize, reply: usize) -> u8
-    ensures { result ≡ refusal_of formed request reply }
+// Answers 3 and 4 in document 01's order, of a session that is well formed.
+fn refusal(request: usize, reply: usize) -> Option<u8>
+    ensures { Refused (refusal_of true request reply) result }
 {
-    if !formed {
-        return 1;
-    }
     if reply < 32 {
-        return 3;
+        return Some(3);
     }
     if request < 32 {
-        return 4;
+        return Some(4);
     }
-    0
+    None
 }
 
 // ---- D7 03, where the lent image and the second buffer are known
@@ -155,13 +152,10 @@ pub fn sbe(
 ) -> Told
     ensures { SbeAllows lent.old request.now reply.old seeprom.now served.old result lent.new reply.new served.new }
 {
-    if lent.len() != layout::IMAGE {
+    let Some(h) = inplace::open(&*lent) else {
         return inplace::answer_with(1, 0);
-    }
-    let h = image::read_head(&*lent);
-    let formed = inplace::well_formed(&*lent, h);
-    let n = refusal(formed, request.len(), reply.len());
-    if n != 0 {
+    };
+    if let Some(n) = refusal(request.len(), reply.len()) {
         return inplace::answer_with(n, 0);
     }
     let asked = sbe::judge(request);

@@ -1,3 +1,3 @@
 pub mod laws
 pub mod Stored
-pub mod Loops
+pub mod Reading

@@ -17,7 +17,7 @@ use Rattle.image.specs.declared.Head.{Head}
 use Rattle.image.specs.Image.{image_of, head_in, head_timed, session_in}
 use Rattle.layout.specs.Layout.{image_length}
 use Rattle.inplace.specs.declared.Told.{Told}
-use Rattle.inplace.specs.InPlace.{rung_left, HeadStands}
+use Rattle.inplace.specs.InPlace.{Opens, Unopened, rung_left, HeadStands}
 use Rattle.inplace.proofs.laws.Silent as silent
 use Rattle.time_call.specs.Time.{time_asks, time_call, timed_by, time_on}
 
@@ -46,15 +46,10 @@ module _ (h : Head) (b : List ℕ) (here : HeadStands h b) (n : ℕ) where
 -- ---- the whole call
 
 module _ (n : ℕ) where
-  pub no_image_lem : (b : List ℕ) → (length b ≡ image_length → ⊥) → (t : Told) → t ≡ record { answer = 1; small = 0; beside = 0 } → (t ≡ (time_on n b).told) × (b ≡ (time_on n b).image)
+  pub unopened : (b : List ℕ) → Unopened b → (t : Told) → t ≡ record { answer = 1; small = 0; beside = 0 } → (t ≡ (time_on n b).told) × (b ≡ (time_on n b).image)
   unfolding time_on time_call time_asks
-  no_image_lem = silent.other_length (λ (x : Session). passes n) rung_left silent.rung_refused
+  unopened = silent.unopened (λ (x : Session). passes n) rung_left silent.rung_refused
 
-  module _ (b : List ℕ) (long : length b ≡ image_length) (h : Head) (read : h ≡ head_in b) (g : Bool) (formed : g ≡ well_formed (session_in h b)) where
-    pub ill_formed : Bytes b → (t : Told) → t ≡ record { answer = 1; small = 0; beside = 0 } → not g ≡ true → (t ≡ (time_on n b).told) × (b ≡ (time_on n b).image)
-    unfolding time_on time_call time_asks
-    ill_formed = silent.ill_formed (λ (x : Session). passes n) rung_left silent.rung_refused b long h read g formed
-
-    pub passed_in_lem : (t : Told) (y : List ℕ) → not g ≡ false → Tells (session_in h b) t y n → (t ≡ (time_on n b).told) × (y ≡ (time_on n b).image)
-    unfolding time_on time_call time_asks timed_by
-    passed_in_lem = silent.formed_told (λ (x : Session). passes n) rung_left silent.rung_refused b long h read g formed
+  pub passed_in_lem : (b : List ℕ) (h : Head) → Opens b h → (t : Told) (y : List ℕ) → Tells (session_in h b) t y n → (t ≡ (time_on n b).told) × (y ≡ (time_on n b).image)
+  unfolding time_on time_call time_asks timed_by
+  passed_in_lem = silent.formed_told (λ (x : Session). passes n) rung_left silent.rung_refused

@@ -66,12 +66,8 @@ fn pass(lent: &mut [u8], h: Head, n: u64) -> Told
 pub fn time(lent: &mut [u8], n: u64) -> Told
     ensures { TimeAllows n lent.old result lent.new }
 {
-    if lent.len() != layout::IMAGE {
+    let Some(h) = inplace::open(&*lent) else {
         return inplace::answer_with(1, 0);
-    }
-    let h = image::read_head(&*lent);
-    if !inplace::well_formed(&*lent, h) {
-        return inplace::answer_with(1, 0);
-    }
+    };
     pass(lent, h, n)
 }

@@ -1,6 +1,6 @@
 -- What the steps of undo and redo give back, from what they call. Assumes nothing.
 use Prim.Native.Nat.{ℕ, ◌+◌, ◌-◌, ◌≤◌}
-use mathlib.Core.Bool.{Bool, true, false, not}
+use mathlib.Core.Bool.{cond, Bool, true, false, not}
 use mathlib.Core.Path.{◌≡◌, refl, sym, ap, subst, ◌∙◌}
 use mathlib.Core.List.{List, []}
 use Rattle.std.specs.Prelude.{Option, Some, None}
@@ -40,7 +40,7 @@ use Rattle.layout.specs.Layout.{journal_at, redo_at, image_length}
 use Rattle.image.proofs.laws.Stores.{store_low, store_long, store_back, store_above, store_below, store_marks}
 use Rattle.image.proofs.Standing.{length_store}
 use Rattle.inplace.specs.declared.Told.{Told}
-use Rattle.inplace.specs.InPlace.{Left, HeadStands}
+use Rattle.inplace.specs.InPlace.{Opens, Unopened, Left, HeadStands}
 use Rattle.inplace.proofs.laws.InPlace.{stands, on_read}
 use Rattle.inplace.proofs.laws.InPlace as inplace
 use Rattle.undo_call.specs.Undo.{put_asks, edit_asks, got_asks, entry_asks, read_asks, none_left, newest_asks, move_asks, move_call, head_moved, passed_by, moved_left, moved_by, move_on, NewestFound, Moved}
@@ -306,25 +306,19 @@ module _ (w : Way) (h : Head) (b : List ℕ) (here : HeadStands h b) where
 
 -- ---- the whole call
 
-pub no_image_lem : (w : Way) (b : List ℕ) → (length b ≡ image_length → ⊥) → (t : Told) → t ≡ record { answer = 1; small = 0; beside = 0 } → (t ≡ (move_on w b).told) × (b ≡ (move_on w b).image)
+ill_refused : (w : Way) (s : Session) → well_formed s ≡ false → record { told = record { answer = 1; small = 0; beside = 0 }; image = image_of s; reply = [] } ≡ moved_left (passed_by w s) (move_call w s)
+unfolding move_call move_asks moved_left settled kept
+ill_refused w s ill = ap (λ (x : Bool). moved_left (passed_by w s) (settled s [] (cond (not x) (refuses 1) (newest_asks w s)))) (sym ill)
+
+pub unopened : (w : Way) (b : List ℕ) → Unopened b → (t : Told) → t ≡ record { answer = 1; small = 0; beside = 0 } → (t ≡ (move_on w b).told) × (b ≡ (move_on w b).image)
 unfolding move_on
-no_image_lem w b z t p = let q = inplace.no_image_lem (λ (s : Session). moved_left (passed_by w s) (move_call w s)) [] b z t p in (q.0, q.1.0)
+unopened w b shut t p =
+    let q = inplace.unopened (λ (s : Session). moved_left (passed_by w s) (move_call w s)) [] (ill_refused w) b shut t p in (q.0, q.1.0)
 
-module _ (w : Way) (b : List ℕ) (long : length b ≡ image_length) (h : Head) (read : h ≡ head_in b) (g : Bool) (formed : g ≡ well_formed (session_in h b)) where
-  on_bytes : (t : Told) (y : List ℕ) {a : Asks} → a ≡ move_asks w (session_in h b) → Tells w (session_in h b) t y a → (t ≡ (move_on w b).told) × (y ≡ (move_on w b).image)
-  unfolding moved_by move_on move_call
-  on_bytes t y e q =
-      let p = tells_same w (session_in h b) t y e q in
-      let r = on_read (λ (s : Session). moved_left (passed_by w s) (move_call w s)) [] b long h read in
+module _ (w : Way) (b : List ℕ) (h : Head) (o : Opens b h) where
+  pub newest_taken : (t : Told) (y : List ℕ) → Tells w (session_in h b) t y (newest_asks w (session_in h b)) → (t ≡ (move_on w b).told) × (y ≡ (move_on w b).image)
+  unfolding moved_by move_on move_call move_asks
+  newest_taken t y q =
+      let p = tells_same w (session_in h b) t y (else_b _ _ (ap not o.formed) refl) q in
+      let r = on_read (λ (s : Session). moved_left (passed_by w s) (move_call w s)) [] b o.long h o.read in
       (p.0 ∙ ap (λ (l : Left). l.told) r, p.1 ∙ ap (λ (l : Left). l.image) r)
-
-  pub ill_formed : Bytes b → (t : Told) → t ≡ record { answer = 1; small = 0; beside = 0 } → not g ≡ true → (t ≡ (move_on w b).told) × (b ≡ (move_on w b).image)
-  unfolding move_asks
-  ill_formed bytes t p ill = on_bytes t b (if_b _ _ (sym (ap not formed) ∙ ill) refl) (by_number w h b (stands b long h read bytes) 1 t refl p refl)
-
-  pub well_formed_is : not g ≡ false → well_formed (session_in h b) ≡ true
-  well_formed_is ok = sym formed ∙ not-false g ok
-
-  pub newest_taken : (t : Told) (y : List ℕ) → not g ≡ false → Tells w (session_in h b) t y (newest_asks w (session_in h b)) → (t ≡ (move_on w b).told) × (y ≡ (move_on w b).image)
-  unfolding move_asks
-  newest_taken t y ok q = on_bytes t y (else_b _ _ (sym (ap not formed) ∙ ok) refl) q

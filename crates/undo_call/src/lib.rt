@@ -182,13 +182,9 @@ fn take_newest(lent: &mut [u8], h: Head, way: Way) -> Told
 fn take_from(lent: &mut [u8], way: Way) -> Told
     ensures { MoveAllows way lent.old result lent.new }
 {
-    if lent.len() != layout::IMAGE {
+    let Some(h) = inplace::open(&*lent) else {
         return inplace::answer_with(1, 0);
-    }
-    let h = image::read_head(&*lent);
-    if !inplace::well_formed(&*lent, h) {
-        return inplace::answer_with(1, 0);
-    }
+    };
     take_newest(lent, h, way)
 }
 

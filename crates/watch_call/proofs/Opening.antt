@@ -17,7 +17,7 @@ use Rattle.image.specs.declared.Head.{Head}
 use Rattle.image.specs.Image.{image_of, head_in, session_in, written_to}
 use Rattle.layout.specs.Layout.{image_length}
 use Rattle.inplace.specs.declared.Told.{Told}
-use Rattle.inplace.specs.InPlace.{rung_left}
+use Rattle.inplace.specs.InPlace.{Opens, Unopened, rung_left}
 use Rattle.inplace.proofs.laws.Silent as silent
 use Rattle.watch_call.specs.Watch.{watch_asks, watch_call, opened_by, watch_on}
 
@@ -40,15 +40,10 @@ module _ (h : Head) (b : List ℕ) (long : length b ≡ image_length) (w : Worke
 
 -- ---- the whole call
 
-pub no_image_lem : (b : List ℕ) → (length b ≡ image_length → ⊥) → (t : Told) → t ≡ record { answer = 1; small = 0; beside = 0 } → (t ≡ (watch_on b).told) × (b ≡ (watch_on b).image)
+pub unopened : (b : List ℕ) → Unopened b → (t : Told) → t ≡ record { answer = 1; small = 0; beside = 0 } → (t ≡ (watch_on b).told) × (b ≡ (watch_on b).image)
 unfolding watch_on watch_call watch_asks
-no_image_lem = silent.other_length (λ (x : Session). opens) rung_left silent.rung_refused
+unopened = silent.unopened (λ (x : Session). opens) rung_left silent.rung_refused
 
-module _ (b : List ℕ) (long : length b ≡ image_length) (h : Head) (read : h ≡ head_in b) (g : Bool) (formed : g ≡ well_formed (session_in h b)) where
-  pub ill_formed : Bytes b → (t : Told) → t ≡ record { answer = 1; small = 0; beside = 0 } → not g ≡ true → (t ≡ (watch_on b).told) × (b ≡ (watch_on b).image)
-  unfolding watch_on watch_call watch_asks
-  ill_formed = silent.ill_formed (λ (x : Session). opens) rung_left silent.rung_refused b long h read g formed
-
-  pub opened_in : (t : Told) (y : List ℕ) → not g ≡ false → Tells (session_in h b) t y → (t ≡ (watch_on b).told) × (y ≡ (watch_on b).image)
-  unfolding watch_on watch_call watch_asks opened_by
-  opened_in = silent.formed_told (λ (x : Session). opens) rung_left silent.rung_refused b long h read g formed
+pub opened_in : (b : List ℕ) (h : Head) → Opens b h → (t : Told) (y : List ℕ) → Tells (session_in h b) t y → (t ≡ (watch_on b).told) × (y ≡ (watch_on b).image)
+unfolding watch_on watch_call watch_asks opened_by
+opened_in = silent.formed_told (λ (x : Session). opens) rung_left silent.rung_refused

@@ -42,12 +42,8 @@ fn open_over(lent: &mut [u8], h: Head) -> Told
 pub fn watch(lent: &mut [u8]) -> Told
     ensures { WatchAllows lent.old result lent.new }
 {
-    if lent.len() != layout::IMAGE {
+    let Some(h) = inplace::open(&*lent) else {
         return inplace::answer_with(1, 0);
-    }
-    let h = image::read_head(&*lent);
-    if !inplace::well_formed(&*lent, h) {
-        return inplace::answer_with(1, 0);
-    }
+    };
     open_over(lent, h)
 }

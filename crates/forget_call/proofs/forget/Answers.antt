@@ -1,22 +1,11 @@
-use native.Mathlib.Omega.{arith}
-use Rattle.inplace.proofs.laws.InPlace.{stands}
-use Rattle.forget_call.proofs.Freeing.{no_image_lem, ill_formed, well_formed_is, oldest_forgotten}
+use Rattle.forget_call.proofs.Freeing.{unopened, oldest_forgotten}
 use Rattle.forget_call.proofs.forget.Goals as goal
 
-pub returns-then-lent-ne-IMAGE : goal.returns-then-lent-ne-IMAGE
-returns-then-lent-ne-IMAGE c = no_image_lem c.args.n c.args.lent.now c.if-lent-ne-IMAGE.true _ c.answer_with.ensures
-
-pub read_head-h-requires : goal.read_head-h-requires
-read_head-h-requires c = omega (arith, c.if-lent-ne-IMAGE.false)
-
-pub well_formed-requires : goal.well_formed-requires
-well_formed-requires c = c.if-lent-ne-IMAGE.false
-
-pub returns-then-not-well_formed : goal.returns-then-not-well_formed
-returns-then-not-well_formed c = ill_formed c.args.n c.args.lent.now c.if-lent-ne-IMAGE.false _ c.read_head-h.ensures.value _ c.well_formed-2.ensures c.read_head-h.ensures.bytes _ c.answer_with-then-not-well_formed.ensures c.if-not-well_formed.true-raw
+pub returns-in_default : goal.returns-in_default
+returns-in_default c = unopened c.args.n c.args.lent.now c.in_default.ensures _ c.answer_with.ensures
 
 pub forget_oldest-requires : goal.forget_oldest-requires
-forget_oldest-requires c = (stands c.args.lent.now c.if-lent-ne-IMAGE.false _ c.read_head-h.ensures.value c.read_head-h.ensures.bytes, well_formed_is c.args.n c.args.lent.now c.if-lent-ne-IMAGE.false _ c.read_head-h.ensures.value _ c.well_formed-2.ensures c.if-not-well_formed.false-raw)
+forget_oldest-requires c = let opens = c.in-Some.ensures in (opens.stands, opens.formed)
 
 pub returns : goal.returns
-returns c = oldest_forgotten c.args.n c.args.lent.now c.if-lent-ne-IMAGE.false _ c.read_head-h.ensures.value _ c.well_formed-2.ensures _ _ c.if-not-well_formed.false-raw (c.forget_oldest.ensures.value, c.forget_oldest.ensures.lent_after)
+returns c = oldest_forgotten c.args.n c.args.lent.now _ c.in-Some.ensures _ _ (c.forget_oldest.ensures.value, c.forget_oldest.ensures.lent_after)

@@ -1,7 +1,7 @@
 -- What a call tells and leaves, part by part. Assumes nothing.
-use Rattle.std.specs.Prelude.{ℕ, Bool, true, false, ◌≡◌, List, length}
+use Rattle.std.specs.Prelude.{ℕ, Bool, true, false, cond, not, ◌≡◌, List, length, eqb}
 use Rattle.std.proofs.Math.Path.{refl, sym, ap}
-use Rattle.std.proofs.Common.{◌∙◌}
+use Rattle.std.proofs.Common.{◌∙◌, eqb-true}
 use Rattle.inplace.specs.declared.Told.{Told}
 use Rattle.wire.specs.Wire.{Bytes}
 use Rattle.image.specs.declared.Head.{Head}
@@ -11,8 +11,9 @@ use Rattle.image.proofs.laws.Image.{Typed, image_session, length_image, session_
 use Rattle.change.specs.declared.Edit.{Edit}
 use Rattle.session.specs.Session.{carried_of}
 use Rattle.session.specs.declared.Session.{Session}
-use Rattle.wire.proofs.laws.Cases.{if_ne, else_ne, if_b, else_b}
-use Rattle.inplace.specs.InPlace.{Left, HeadStands, carried_in, on_image}
+use Rattle.wire.proofs.laws.Cases.{else_ne, if_b, else_b}
+use Rattle.inplace.specs.InPlace.{Left, HeadStands, Unopened, carried_in, no_image, on_image}
+use Rattle.session.specs.Session.{well_formed}
 
 abbrev pub Parts : Told → List ℕ → List ℕ → Left → Type 0
 Parts t y z q = (t ≡ q.told) × ((y ≡ q.image) × (z ≡ q.reply))
@@ -33,10 +34,15 @@ module _ (b : List ℕ) (long : length b ≡ image_length) (h : Head) (read : h 
 -- ---- a call on lent bytes, whatever the call is
 
 module _ (call : Session → Left) (d : List ℕ) where
-  -- bytes that are no image
-  pub no_image_lem : (b : List ℕ) → (length b ≡ image_length → ⊥) → (t : Told) → t ≡ record { answer = 1; small = 0; beside = 0 } → Parts t b d (on_image b d call)
+  -- bytes that don't open: a session that isn't well formed is refused by answer 1, and is kept
+  pub unopened : ((s : Session) → well_formed s ≡ false → record { told = record { answer = 1; small = 0; beside = 0 }; image = image_of s; reply = d } ≡ call s)
+      → (b : List ℕ) → Unopened b → (t : Told) → t ≡ record { answer = 1; small = 0; beside = 0 } → Parts t b d (on_image b d call)
   unfolding on_image
-  no_image_lem b z t p = parts t b d _ (if_ne _ _ z (λ i. record { told = p i; image = b; reply = d }))
+  unopened refuses b shut t p = parts t b d _ (go (eqb (length b) image_length) refl)
+    where
+      go : (x : Bool) → eqb (length b) image_length ≡ x → record { told = t; image = b; reply = d } ≡ cond (not x) (no_image b d) (call (session_of b))
+      go false e = λ i. record { told = p i; image = b; reply = d }
+      go true e = let q = shut (eqb-true (length b) image_length e) in (λ i. record { told = p i; image = q.1 i; reply = d }) ∙ refuses (session_of b) q.0
 
   -- bytes that are one: the call on the session of the head that was read
   pub on_read : (b : List ℕ) (long : length b ≡ image_length) (h : Head) (read : h ≡ head_in b) → call (session_in h b) ≡ on_image b d call

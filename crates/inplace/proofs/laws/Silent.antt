@@ -13,8 +13,9 @@ use Rattle.image.specs.declared.Head.{Head}
 use Rattle.image.specs.Image.{image_of, head_in, session_in}
 use Rattle.layout.specs.Layout.{image_length}
 use Rattle.inplace.specs.declared.Told.{Told}
-use Rattle.inplace.specs.InPlace.{Left, rung_left, on_image}
-use Rattle.inplace.proofs.laws.InPlace.{stands, no_image_lem, on_read}
+use Rattle.inplace.specs.InPlace.{Left, rung_left, on_image, Opens, Unopened}
+use Rattle.inplace.proofs.laws.InPlace as laws
+use Rattle.inplace.proofs.laws.InPlace.{on_read}
 
 -- a refusal of a call that rings
 pub rung_refused : (n : ℕ) (s : Session) → rung_left (kept n s []) ≡ record { told = record { answer = n; small = 0; beside = 0 }; image = image_of s; reply = [] }
@@ -36,25 +37,16 @@ module _ (more : Session → Asks) (left : Said → Left) (refused : (n : ℕ) (
   abbrev pub Allows : List ℕ → Told → List ℕ → Type 0
   Allows b t y = (t ≡ (on b).told) × (y ≡ (on b).image)
 
-  pub other_length : (b : List ℕ) → (length b ≡ image_length → ⊥) → (t : Told) → t ≡ record { answer = 1; small = 0; beside = 0 } → Allows b t b
-  other_length b z t p = let q = no_image_lem (λ (s : Session). left (settled s [] (asked s))) [] b z t p in (q.0, q.1.0)
+  pub unopened : (b : List ℕ) → Unopened b → (t : Told) → t ≡ record { answer = 1; small = 0; beside = 0 } → Allows b t b
+  unfolding settled
+  unopened b shut t p =
+      let q = laws.unopened (λ (s : Session). left (settled s [] (asked s))) []
+      (λ s ill. sym (refused 1 s) ∙ ap (λ (x : Bool). left (settled s [] (cond (not x) (refuses 1) (more s)))) (sym ill)) b shut t p in (q.0, q.1.0)
 
-  module _ (b : List ℕ) (long : length b ≡ image_length) (h : Head) (read : h ≡ head_in b) (g : Bool) (formed : g ≡ well_formed (session_in h b)) where
-    on_bytes : (t : Told) (y : List ℕ) {a : Asks} → a ≡ asked (session_in h b) → Tells (session_in h b) t y a → Allows b t y
-    on_bytes t y e q =
-        let r = on_read (λ (s : Session). left (settled s [] (asked s))) [] b long h read in
-        let same = ap (λ (x : Asks). left (settled (session_in h b) [] x)) e ∙ r in
+  module _ (b : List ℕ) (h : Head) (o : Opens b h) where
+    pub formed_told : (t : Told) (y : List ℕ) → Tells (session_in h b) t y (more (session_in h b)) → Allows b t y
+    formed_told t y q =
+        let s = session_in h b in
+        let r = on_read (λ (s : Session). left (settled s [] (asked s))) [] b o.long h o.read in
+        let same = ap (λ (x : Asks). left (settled s [] x)) (else_b _ _ (ap not o.formed) refl) ∙ r in
         (q.0 ∙ ap (λ (l : Left). l.told) same, q.1 ∙ ap (λ (l : Left). l.image) same)
-
-    pub ill_formed : Bytes b → (t : Told) → t ≡ record { answer = 1; small = 0; beside = 0 } → not g ≡ true → Allows b t b
-    unfolding settled
-    ill_formed bytes t p ill =
-        let told = refused 1 (session_in h b) in
-        on_bytes t b (if_b _ _ (sym (ap not formed) ∙ ill) refl)
-        (p ∙ ap (λ (l : Left). l.told) (sym told), (stands b long h read bytes).image ∙ ap (λ (l : Left). l.image) (sym told))
-
-    pub well_formed_is : not g ≡ false → well_formed (session_in h b) ≡ true
-    well_formed_is ok = sym formed ∙ not-false g ok
-
-    pub formed_told : (t : Told) (y : List ℕ) → not g ≡ false → Tells (session_in h b) t y (more (session_in h b)) → Allows b t y
-    formed_told t y ok q = on_bytes t y (else_b _ _ (sym (ap not formed) ∙ ok) refl) q

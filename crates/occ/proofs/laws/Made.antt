@@ -1,5 +1,12 @@
 -- Laws of judged commands that other crates build on: what is known of a change that a command makes. Assumes nothing.
-use Rattle.std.specs.Prelude.{ℕ, ◌<◌, ◌≤◌, Bool, true, cond, not, ◌≡◌, List, Option, ◌⊎◌, eqb, length, drop, replicate}
+use Rattle.std.specs.Prelude.{ℕ, ◌<◌, ◌≤◌, Bool, true, cond, not, ◌≡◌, List, Option, ◌⊎◌, eqb, length, drop, replicate, Result, Ok, Err, Some, None}
+use Rattle.std.specs.Result.{is_ok}
+use Rattle.packet.specs.Packet.{Checked, status_number}
+use Rattle.packet.proofs.laws.Exactly.{ok_is, checked_cases}
+use Rattle.packet.specs.declared.Status.{Status}
+use Rattle.packet.specs.declared.Status.TheVariants.{InvalidCommand, InvalidLength, InvalidData, ChecksumFailure, InternalError, StateProhibits}
+use Rattle.std.specs.Option.{IfSome}
+use Rattle.std.proofs.lemmas.Option.{IfSome_then}
 use Rattle.std.proofs.Math.Path.{refl, subst}
 use Rattle.std.specs.Option.{unwrap_or}
 use Rattle.std.proofs.Common.{sym, ◌∙◌, ⊎_elim, le-leb}
@@ -21,13 +28,13 @@ use Rattle.change.specs.declared.Change.{Change}
 use Rattle.change.specs.declared.Change.TheVariants.{Clear, Unclear, SetState, SetRole, SetCaps, SetUser, SetThermal, SetThrottles, Reset, Unreset, SetMask, SetDeadman, SetAreas, SetTimer}
 use Rattle.formed.specs.Formed.{state_ok, flag_ok, role_ok, caps_ok, thermal_ok, thermal_rule, throttles_ok, absent_zero, next_ok, reason_ok, record_ok, made_ok, change_ok}
 use Rattle.formed.proofs.laws.Formed.{Sound, sound, pends_cleared}
-use Rattle.sets.specs.Sets.{empty_sets, sets_of, empty_frus, frus_of}
+use Rattle.sets.specs.Sets.{throttles_of, thermal_of}
 use Rattle.sets.proofs.laws.Sets.{sets_formed, frus_formed}
 use Rattle.occ.specs.declared.Verdict.{Verdict}
 use Rattle.occ.specs.declared.Verdict.TheVariants.{Refuse, Poll, Make}
 use Rattle.occ.specs.declared.Judged.{Judged}
 use Rattle.occ.specs.Commands.{poll_verdict, clear_verdict, state_verdict, role_verdict, caps_verdict, user_verdict, log_due, reset_verdict}
-use Rattle.occ.specs.Judge.{plainly, sets_status, sets_judged, throttles_for, throttles_judged, frus_judged, thermal_for, thermal_judged, format_judged, configure_judged, type_judged, judge_of}
+use Rattle.occ.specs.Judge.{plainly, sets_status, sets_read, read_judged, throttles_made, throttles_read, throttles_judged, thermal_made, thermal_read, thermal_judged, format_judged, configure_judged, type_judged, judge_of}
 use Rattle.occ.specs.Open.{open_to}
 use Rattle.wire.proofs.laws.Chains.{holds, eq_holds, le_holds, eq_passes, lt_passes, not_passes, unless, or_else, Ends}
 use Rattle.wire.specs.Conditions.{◌and◌}
@@ -68,7 +75,7 @@ Makes P (Refuse status) = Unit {0}
 Makes P Poll = Unit {0}
 Makes P (Make ch) = P ch
 
-refuse_makes : (P : Change → Type 0) (status : ℕ) → Makes P (Refuse status)
+refuse_makes : (P : Change → Type 0) (status : Status) → Makes P (Refuse status)
 unfolding Makes
 refuse_makes P status = tt
 
@@ -186,7 +193,7 @@ module _ (r : Record) (next : ℕ) (s : Sound r next) (four : length r.logs ≡ 
   unfolding Rightly plainly
   plain_right v h = h
 
-  refused_right : (status : ℕ) → Rightly (plainly (Refuse status))
+  refused_right : (status : Status) → Rightly (plainly (Refuse status))
   refused_right status = plain_right (Refuse status) (refuse_makes Plain status)
 
   set_throttles : (t : Throttles) → absent_zero t.present t.sets ≡ true
@@ -199,39 +206,41 @@ module _ (r : Record) (next : ℕ) (s : Sound r next) (four : length r.logs ≡ 
   unfolding Rightly Makes Right Known change_ok thermal_ok flag_ok
   set_thermal t h = (h, tt)
 
-  sets_right : (status : ℕ) (ok : Bool) (j : Judged) → Rightly j
-      → Rightly (cond (not (eqb status 0)) (plainly (Refuse status)) (cond (not ok) (plainly (Refuse 0x13)) j))
-  sets_right status ok j h = cond_elim Rightly (not (eqb status 0)) (refused_right status) (cond_elim Rightly (not ok) (refused_right 0x13) h)
+  read_right : {A : Type 0} (status : Checked) (made : A → Judged) (v : Option A) → IfSome v (λ t. Rightly (made t)) → Rightly (read_judged made (sets_read status v))
+  unfolding read_judged sets_read
+  read_right (Err e) made v h = refused_right e
+  read_right (Ok x) made None h = refused_right InvalidData
+  read_right (Ok x) made (Some t) h = h
 
   throttles_right : (d : List ℕ) → Rightly (throttles_judged d)
-  unfolding throttles_judged throttles_for sets_judged
-  throttles_right d = sets_right (sets_status 12 d) (sets_of (get_or d 2 0) empty_sets (drop 3 d)).ok _ (set_throttles _ (sets_formed (get_or d 2 0) (drop 3 d)).absent)
+  unfolding throttles_judged throttles_read
+  throttles_right d = read_right (sets_status 12 d) throttles_made _ (IfSome_then _ (sets_formed (get_or d 2 0) (drop 3 d)) (λ t f. set_throttles t f.absent))
 
   thermal_right : (d : List ℕ) → Rightly (thermal_judged d)
-  unfolding thermal_judged thermal_for frus_judged
-  thermal_right d = sets_right (sets_status 4 d) (frus_of (get_or d 2 0) empty_frus (drop 3 d)).ok _ (set_thermal _ (frus_formed (get_or d 2 0) (drop 3 d)).0)
+  unfolding thermal_judged thermal_read
+  thermal_right d = read_right (sets_status 4 d) thermal_made _ (IfSome_then _ (frus_formed (get_or d 2 0) (drop 3 d)) (λ t f. set_thermal t f.0))
 
   configure_right : (state role : ℕ) (d : List ℕ) → Rightly (configure_judged state role d)
   unfolding configure_judged format_judged
   configure_right state role d =
-      cond_elim Rightly (eqb (length d) 0) (refused_right 0x12)
+      cond_elim Rightly (eqb (length d) 0) (refused_right InvalidLength)
       (cond_elim Rightly (eqb (get_or d 0 0) 0x03) (plain_right _ (role_right state d))
       (cond_elim Rightly (eqb (get_or d 0 0) 0x07) (plain_right _ (caps_right role d))
       (cond_elim Rightly (eqb (get_or d 0 0) 0x12) (throttles_right d)
-      (cond_elim Rightly (eqb (get_or d 0 0) 0x13) (thermal_right d) (refused_right 0x13)))))
+      (cond_elim Rightly (eqb (get_or d 0 0) 0x13) (thermal_right d) (refused_right InvalidData)))))
 
   -- ---- every command
 
   judge_right : (w : Worked) (sender kind : ℕ) (d : List ℕ) → Rightly (judge_of r w next sender kind d)
   unfolding judge_of type_judged
   judge_right w sender kind d =
-      cond_elim Rightly (not (open_to sender kind)) (refused_right 0x11)
+      cond_elim Rightly (not (open_to sender kind)) (refused_right InvalidCommand)
       (cond_elim Rightly (eqb kind 0x00) (plain_right _ (poll_right d))
       (cond_elim Rightly (eqb kind 0x12) (plain_right _ (clear_right d))
       (cond_elim Rightly (eqb kind 0x20) (plain_right _ (state_right w d))
       (cond_elim Rightly (eqb kind 0x21) (configure_right r.state r.role d)
       (cond_elim Rightly (eqb kind 0x22) (plain_right _ (user_right r.role r.received.caps r.caps d))
-      (cond_elim Rightly (eqb kind 0x25) (plain_right _ (reset_right r.role d)) (refused_right 0x11)))))))
+      (cond_elim Rightly (eqb kind 0x25) (plain_right _ (reset_right r.role d)) (refused_right InvalidCommand)))))))
 
 module _ (r : Record) (w : Worked) (next sender kind : ℕ) (d : List ℕ) (ok : record_ok r next ≡ true) (four : length r.logs ≡ 4) where
   made_right : (ch : Change) → (judge_of r w next sender kind d).verdict ≡ Make ch → Right r next (judge_of r w next sender kind d).tables ch

@@ -1,5 +1,10 @@
 -- The columns of the table of what is open, as conditions; and what a watch-only session lets through. Assumes nothing.
-use Rattle.std.specs.Prelude.{ℕ, Bool, true, false, not, ◌↔◌, ◌⊎◌, ◌≡◌, refl, List, Some, None, eqb, length, get_or}
+use Rattle.std.specs.Prelude.{ℕ, Bool, true, false, not, ◌↔◌, ◌⊎◌, ◌≡◌, refl, List, Some, None, eqb, length, get_or, Result, Ok, Err}
+use Rattle.std.specs.Result.{is_ok}
+use Rattle.packet.specs.Packet.{Checked, status_number}
+use Rattle.packet.proofs.laws.Exactly.{ok_is, checked_cases}
+use Rattle.packet.specs.declared.Status.{Status}
+use Rattle.packet.specs.declared.Status.TheVariants.{InvalidCommand, InvalidLength, InvalidData, ChecksumFailure, InternalError, StateProhibits}
 use Rattle.std.proofs.Math.Bool.{cond}
 use Rattle.std.proofs.lemmas.Bool.{false≢true}
 use Rattle.std.proofs.Common.{inl, inr, ⊎_elim, sym, ◌∙◌, arith, eqb-true}
@@ -8,7 +13,7 @@ use Rattle.wire.proofs.laws.Cases.{cond_elim, cond_cases}
 use Rattle.wire.proofs.laws.Chains.{holds, eq_holds, or_else}
 use Rattle.occ.specs.Commands.{poll_verdict, clear_at, clear_verdict}
 use Rattle.occ.specs.Judge.{plainly, type_judged, judge_of}
-use Rattle.occ.specs.Open.{row_of, open_to, open_in, shut, by_profile}
+use Rattle.occ.specs.Open.{row_of, open_to, open_in, shut_status, shut, by_profile}
 use Rattle.record.specs.declared.Record.{Record}
 use Rattle.record.specs.declared.Worked.{Worked}
 use Rattle.change.specs.Change.{kind_of}
@@ -63,7 +68,7 @@ open_in_exactly profile kind =
 
 -- a verdict's status, 0 where it refuses nothing
 unfoldable status_in : Verdict → ℕ
-status_in (Refuse status) = status
+status_in (Refuse status) = status_number status
 status_in Poll = 0
 status_in (Make change) = 0
 
@@ -72,15 +77,15 @@ is_made (Refuse status) = false
 is_made Poll = false
 is_made (Make change) = true
 
-sixteen : Refuse 0x16 ≡ Refuse 0x13 → ⊥
+sixteen : Refuse StateProhibits ≡ Refuse InvalidData → ⊥
 unfolding status_in
 sixteen e = let z : ◌≡◌ {A = ℕ} 0x16 0x13 = ap status_in e in absurd (omega (arith, z))
 
-poll : Poll ≡ Refuse 0x13 → ⊥
+poll : Poll ≡ Refuse InvalidData → ⊥
 unfolding status_in
 poll e = let z : ◌≡◌ {A = ℕ} 0 0x13 = ap status_in e in absurd (omega (arith, z))
 
-make : (ch : Change) → Make ch ≡ Refuse 0x13 → ⊥
+make : (ch : Change) → Make ch ≡ Refuse InvalidData → ⊥
 unfolding status_in
 make ch e = let z : ◌≡◌ {A = ℕ} 0 0x13 = ap status_in e in absurd (omega (arith, z))
 
@@ -94,26 +99,37 @@ module _ (profile kind : ℕ) (v : Verdict) where
   shuts o = ap (λ (b : Bool). cond b v (shut v)) o
 
 -- 0x13 stays, and nothing else becomes it
-shut_wrong : (v : Verdict) → (shut v ≡ Refuse 0x13) ↔ (v ≡ Refuse 0x13)
-unfolding shut status_in
-shut_wrong (Refuse n) =
-    cond_cases (λ (x : Verdict). (x ≡ Refuse 0x13) ↔ (Refuse n ≡ Refuse 0x13)) (eqb n 0x15)
-    (λ t. ((λ e. absurd (other 0x16 e (λ z. omega (arith, z)))), (λ e. absurd (other n e (λ z. omega (arith, z, eqb-true n 0x15 t))))))
-    (λ t. ((λ e. e), (λ e. e)))
-  where
-    other : (k : ℕ) → Refuse k ≡ Refuse 0x13 → (k ≡ 0x13 → ⊥) → ⊥
-    other k e z = z (ap status_in e)
+pub only_wrong : (x : Status) → status_number x ≡ 0x13 → x ≡ InvalidData
+only_wrong InvalidCommand e = absurd (omega (arith, e))
+only_wrong InvalidLength e = absurd (omega (arith, e))
+only_wrong InvalidData e = refl
+only_wrong ChecksumFailure e = absurd (omega (arith, e))
+only_wrong InternalError e = absurd (omega (arith, e))
+only_wrong StateProhibits e = absurd (omega (arith, e))
+
+wrong_before : (x : Status) → status_number (shut_status x) ≡ 0x13 → x ≡ InvalidData
+unfolding shut_status
+wrong_before InvalidCommand e = absurd (omega (arith, e))
+wrong_before InvalidLength e = absurd (omega (arith, e))
+wrong_before InvalidData e = refl
+wrong_before ChecksumFailure e = absurd (omega (arith, e))
+wrong_before InternalError e = absurd (omega (arith, e))
+wrong_before StateProhibits e = absurd (omega (arith, e))
+
+shut_wrong : (v : Verdict) → (shut v ≡ Refuse InvalidData) ↔ (v ≡ Refuse InvalidData)
+unfolding shut shut_status status_in
+shut_wrong (Refuse x) = (λ e. ap Refuse (wrong_before x (ap status_in e)), λ e. ap (λ (y : Status). Refuse (shut_status y)) (only_wrong x (ap status_in e)))
 shut_wrong Poll = ((λ e. absurd (sixteen e)), (λ e. absurd (poll e)))
 shut_wrong (Make ch) = ((λ e. absurd (sixteen e)), (λ e. absurd (make ch e)))
 
-pub wrong_stays : (profile kind : ℕ) (v : Verdict) → (by_profile profile kind v ≡ Refuse 0x13) ↔ (v ≡ Refuse 0x13)
+pub wrong_stays : (profile kind : ℕ) (v : Verdict) → (by_profile profile kind v ≡ Refuse InvalidData) ↔ (v ≡ Refuse InvalidData)
 unfolding by_profile
-wrong_stays profile kind v = cond_elim (λ (x : Verdict). (x ≡ Refuse 0x13) ↔ (v ≡ Refuse 0x13)) (open_in profile kind) ((λ e. e), (λ e. e)) (shut_wrong v)
+wrong_stays profile kind v = cond_elim (λ (x : Verdict). (x ≡ Refuse InvalidData) ↔ (v ≡ Refuse InvalidData)) (open_in profile kind) ((λ e. e), (λ e. e)) (shut_wrong v)
 
 -- a change is made only where the type is open, as it was judged
 shut_makes : (v : Verdict) (ch : Change) → shut v ≡ Make ch → ⊥
 unfolding shut status_in is_made
-shut_makes (Refuse n) ch = cond_elim (λ (x : Verdict). x ≡ Make ch → ⊥) (eqb n 0x15) (λ e. false≢true (ap is_made e)) (λ e. false≢true (ap is_made e))
+shut_makes (Refuse x) ch = λ e. false≢true (ap is_made e)
 shut_makes Poll ch = λ e. false≢true (ap is_made e)
 shut_makes (Make x) ch = λ e. false≢true (ap is_made e)
 

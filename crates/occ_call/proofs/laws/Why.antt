@@ -1,5 +1,11 @@
 -- Document 02, c: beside the answer a wrong byte stands exactly where the command was read and judged 0x13, and it is the least of all
 -- faults. Assumes nothing.
+use Rattle.std.specs.Prelude.{Result, Ok, Err}
+use Rattle.std.specs.Result.{is_ok}
+use Rattle.packet.specs.Packet.{Checked, status_number}
+use Rattle.packet.proofs.laws.Exactly.{ok_is, checked_cases}
+use Rattle.packet.specs.declared.Status.{Status}
+use Rattle.packet.specs.declared.Status.TheVariants.{InvalidCommand, InvalidLength, InvalidData, ChecksumFailure, InternalError, StateProhibits}
 use Rattle.std.specs.Prelude.{ℕ, ◌+◌, true, not, List, ◌↔◌, ltb, eqb, length, get_or, take, drop}
 use Rattle.std.proofs.Math.Path.{◌≡◌, refl, ap}
 use Rattle.std.proofs.Common.{sym, subst, ◌∙◌, arith}
@@ -15,78 +21,77 @@ use Rattle.occ.proofs.laws.Open.{wrong_stays}
 use Rattle.occ.specs.declared.Verdict.{Verdict}
 use Rattle.occ.specs.declared.Verdict.TheVariants.{Refuse, Poll, Make}
 use Rattle.occ.specs.declared.Judged.{Judged}
+use Rattle.std.proofs.lemmas.Option.{none-some}
 use Rattle.places.specs.Places.{fault_of}
 use Rattle.places.specs.Faults.{Faults, CommandFaults, NotAfter, Least, least}
-use Rattle.places.proofs.laws.Exactly.{exactly_wrong, is_wrong, status_of}
+use Rattle.places.proofs.laws.Exactly.{exactly_wrong, status_of}
 use Rattle.places.proofs.laws.Least.{least_fault}
 use Rattle.places.specs.declared.Fault.{Fault}
-use Rattle.places.specs.declared.Blame.{Blame}
-use Rattle.places.specs.declared.Blame.TheVariants.{Nothing, Wrong}
+use Rattle.std.specs.Prelude.{Option, Some, None}
 use Rattle.session.specs.declared.Session.{Session}
-use Rattle.occ_call.specs.Occ.{asked_for, asked_of, fault_for, why_read, beside_of}
-
-pub nothing_wrong : {A : Type 0} (x : Fault) → Nothing ≡ Wrong x → A
-nothing_wrong x e = let z : ◌≡◌ {A = ℕ} 0 1 = ap is_wrong e in absurd (omega arith)
+use Rattle.packet.proofs.laws.Exactly.{by_row, number_in, status_overlong, status_summed, status_unsummed}
+use Rattle.occ.proofs.laws.Open.{only_wrong}
+use Rattle.occ_call.specs.Occ.{asked_for, asked_of, fault_by, fault_for, why_read, beside_of}
 
 -- the answer is what it is
-pub answer_beside : (n : ℕ) (f : Blame) → (beside_of n f).answer ≡ n
+pub answer_beside : (n : ℕ) (f : Option Fault) → (beside_of n f).answer ≡ n
 unfolding beside_of
-answer_beside n Nothing = refl
-answer_beside n (Wrong x) = refl
+answer_beside n None = refl
+answer_beside n (Some x) = refl
 
 -- a fault stands beside 0x13 only, and is the one of the data
-beside_only : (v : Verdict) (held : Record) (kind : ℕ) (d : List ℕ) (x : Fault) → fault_for v held kind d ≡ Wrong x → (v ≡ Refuse 0x13) × (fault_of held kind d ≡ Wrong x)
-unfolding fault_for
-beside_only (Refuse n) held kind d x =
-    cond_cases (λ (f : Blame). f ≡ Wrong x → (Refuse n ≡ Refuse 0x13) × (fault_of held kind d ≡ Wrong x)) (not (eqb n 0x13)) (λ t. nothing_wrong x)
-    (λ t e. (ap Refuse (eqb-true n 0x13 (not-false _ t)), e))
-beside_only Poll held kind d x = nothing_wrong x
-beside_only (Make ch) held kind d x = nothing_wrong x
+beside_only : (v : Verdict) (held : Record) (kind : ℕ) (d : List ℕ) (x : Fault) → fault_for v held kind d ≡ Some x → (v ≡ Refuse InvalidData) × (fault_of held kind d ≡ Some x)
+unfolding fault_for fault_by
+beside_only (Refuse InvalidData) held kind d x = λ e. (refl, e)
+beside_only (Refuse InvalidCommand) held kind d x = λ e. absurd (none-some x e)
+beside_only (Refuse InvalidLength) held kind d x = λ e. absurd (none-some x e)
+beside_only (Refuse ChecksumFailure) held kind d x = λ e. absurd (none-some x e)
+beside_only (Refuse InternalError) held kind d x = λ e. absurd (none-some x e)
+beside_only (Refuse StateProhibits) held kind d x = λ e. absurd (none-some x e)
+beside_only Poll held kind d x = λ e. absurd (none-some x e)
+beside_only (Make ch) held kind d x = λ e. absurd (none-some x e)
 
-never_13 : (c : List ℕ) → packet_status c ≡ 0x13 → ⊥
-unfolding packet_status status_at
-never_13 c =
-    let P : ℕ → Type 0 = λ (n : ℕ). n ≡ 0x13 → ⊥ in
-    cond_elim P (ltb 4090 (data_length c)) (λ e. omega (arith, e))
-    (cond_elim P (ltb (length c) (data_length c + 6)) (λ e. omega (arith, e))
-    (cond_elim P (not (eqb (be_nat (take 2 (drop (data_length c + 4) c))) (packet_sum (take (data_length c + 4) c)))) (λ e. omega (arith, e)) (λ e. omega (arith, e))))
+never_13 : (c : List ℕ) → packet_status c ≡ Err InvalidData → ⊥
+never_13 c e =
+    by_row c (λ o. omega (arith, ap number_in (sym e ∙ status_overlong c o))) (λ f k. omega (arith, ap number_in (sym e ∙ status_summed c f k)))
+    (λ f k. omega (arith, ap number_in (sym e ∙ status_unsummed c f k)))
 
-is_least : {F : Faults} {x : Fault} → Least F (Wrong x) → F x and ((y : Fault) → F y → NotAfter x y)
+is_least : {F : Faults} {x : Fault} → Least F (Some x) → F x and ((y : Fault) → F y → NotAfter x y)
 is_least (least x h low) = (h, low)
 
 module _ (s : Session) (sender : ℕ) (c : List ℕ) where
   abbrev judged : Judged
   judged = judge_of s.held s.worked s.next sender (get_or c 1 0) (data_of c)
 
-  abbrev found : Blame
+  abbrev found : Option Fault
   found = fault_of s.held (get_or c 1 0) (data_of c)
 
   -- a sender that may not send the type gets 0x11
-  may_send : judged.verdict ≡ Refuse 0x13 → open_to sender (get_or c 1 0) ≡ true
+  may_send : judged.verdict ≡ Refuse InvalidData → open_to sender (get_or c 1 0) ≡ true
   unfolding judge_of plainly
   may_send =
-      cond_cases (λ (j : Judged). j.verdict ≡ Refuse 0x13 → open_to sender (get_or c 1 0) ≡ true) (not (open_to sender (get_or c 1 0)))
+      cond_cases (λ (j : Judged). j.verdict ≡ Refuse InvalidData → open_to sender (get_or c 1 0) ≡ true) (not (open_to sender (get_or c 1 0)))
       (λ t e. let z : ◌≡◌ {A = ℕ} 0x11 0x13 = ap status_of e in absurd (omega arith)) (λ t e. not-false _ t)
 
   -- a packet's own status isn't 0x13
-  pub asked_read : (asked_of s.held s.worked s.next sender c).verdict ≡ Refuse 0x13 → (packet_status c ≡ 0) × (judged.verdict ≡ Refuse 0x13)
+  pub asked_read : (asked_of s.held s.worked s.next sender c).verdict ≡ Refuse InvalidData → (packet_status c ≡ Ok tt) × (judged.verdict ≡ Refuse InvalidData)
   unfolding asked_of asked_for plainly
   asked_read =
-      cond_cases (λ (j : Judged). j.verdict ≡ Refuse 0x13 → (packet_status c ≡ 0) × (judged.verdict ≡ Refuse 0x13)) (not (eqb (packet_status c) 0))
-      (λ t e. absurd (never_13 c (ap status_of e))) (λ t e. (eqb-true _ 0 (not-false _ t), e))
+      checked_cases (λ (v : Checked). (asked_for v s.held s.worked s.next sender c).verdict ≡ Refuse InvalidData → (packet_status c ≡ Ok tt) × (judged.verdict ≡ Refuse InvalidData))
+      (packet_status c) (λ x f e. absurd (never_13 c (f ∙ ap Err (only_wrong x (ap status_of e))))) (λ f e. (f, e))
 
-  pub why_exactly : ((x : Fault) × (why_read s sender c ≡ Wrong x)) ↔ ((packet_status c ≡ 0) and (judged.verdict ≡ Refuse 0x13))
-  unfolding why_read asked_of asked_for fault_for
+  pub why_exactly : ((x : Fault) × (why_read s sender c ≡ Some x)) ↔ ((packet_status c ≡ Ok tt) and (judged.verdict ≡ Refuse InvalidData))
+  unfolding why_read asked_of asked_for fault_for fault_by
   why_exactly = (
     λ h. asked_read ((wrong_stays s.profile (get_or c 1 0) _).0 (beside_only _ s.held (get_or c 1 0) (data_of c) h.0 h.1).0),
     λ h.
         let q = (exactly_wrong s.held s.worked s.next sender (get_or c 1 0) (data_of c) (may_send h.1)).0 h.1 in
-        let asked : judged ≡ asked_of s.held s.worked s.next sender c = else_ne _ _ h.0 refl in
+        let asked : judged ≡ asked_of s.held s.worked s.next sender c = ap (λ (v : Checked). asked_for v s.held s.worked s.next sender c) (sym h.0) in
         let still = (wrong_stays s.profile (get_or c 1 0) _).1 (ap (λ (j : Judged). j.verdict) (sym asked) ∙ h.1) in
         (q.0, ap (λ (v : Verdict). fault_for v s.held (get_or c 1 0) (data_of c)) still ∙ q.1),
   )
 
-  pub why_least : length s.held.logs ≡ 4 → (x : Fault) → why_read s sender c ≡ Wrong x
+  pub why_least : length s.held.logs ≡ 4 → (x : Fault) → why_read s sender c ≡ Some x
       → CommandFaults s.held (get_or c 1 0) (data_of c) x and ((y : Fault) → CommandFaults s.held (get_or c 1 0) (data_of c) y → NotAfter x y)
   unfolding why_read
   why_least four x e =

@@ -1,22 +1,20 @@
-use native.Mathlib.Omega.{arith}
-use Rattle.inplace.proofs.laws.InPlace.{stands}
-use Rattle.occ_call.proofs.Answering.{no_image_lem, met_in, refused_in, heard_in}
+use mathlib.Core.Path.{refl, sym}
+use Rattle.occ_call.proofs.Answering.{unopened, met_in, refused_in, heard_in}
 use Rattle.occ_call.proofs.occ.Goals as goal
 
-pub returns-then-lent-ne-IMAGE : goal.returns-then-lent-ne-IMAGE
-returns-then-lent-ne-IMAGE c = no_image_lem c.args.lent.now c.if-lent-ne-IMAGE.true _ _ _ _ c.answer_with.ensures
+pub returns-in_default : goal.returns-in_default
+returns-in_default c = unopened c.args.lent.now c.in_default.ensures _ _ _ _ c.answer_with.ensures
 
-pub read_head-h-requires : goal.read_head-h-requires
-read_head-h-requires c = omega (arith, c.if-lent-ne-IMAGE.false)
-
-pub well_formed-formed-requires : goal.well_formed-formed-requires
-well_formed-formed-requires c = c.if-lent-ne-IMAGE.false
-
-pub returns-then-n-ne0 : goal.returns-then-n-ne0
-returns-then-n-ne0 c = refused_in c.args.lent.now c.if-lent-ne-IMAGE.false _ c.read_head-h.ensures.value _ c.args.command.now c.args.reply.now _ _ c.well_formed-formed.ensures c.refusal-n.ensures c.read_head-h.ensures.bytes _ c.answer_with-then-n-ne0.ensures c.if-n-ne0.true
+pub returns-in-Some-refusal : goal.returns-in-Some-refusal
+returns-in-Some-refusal c =
+    let due = c.in-Some-refusal.ensures in
+    refused_in c.args.lent.now _ c.in-Some.ensures _ _ _ _ due.0 _ c.answer_with-in-Some-refusal.ensures due.1
 
 pub hear-requires : goal.hear-requires
-hear-requires c = let m = met_in c.args.lent.now c.if-lent-ne-IMAGE.false _ c.read_head-h.ensures.value _ c.args.command.now c.args.reply.now _ _ c.well_formed-formed.ensures c.refusal-n.ensures c.if-n-ne0.false in (stands c.args.lent.now c.if-lent-ne-IMAGE.false _ c.read_head-h.ensures.value c.read_head-h.ensures.bytes, m.0, m.1)
+hear-requires c =
+    let opens = c.in-Some.ensures in
+    (opens.stands, opens.formed, met_in c.args.lent.now _ opens _ _ c.args.reply.now _ refl c.in_default-refusal.ensures)
 
 pub returns : goal.returns
-returns c = heard_in c.args.lent.now c.if-lent-ne-IMAGE.false _ c.read_head-h.ensures.value _ c.args.command.now c.args.reply.now _ _ c.well_formed-formed.ensures c.refusal-n.ensures c.if-n-ne0.false _ _ _ (c.hear.ensures.value, (c.hear.ensures.lent_after, c.hear.ensures.reply_after))
+returns c =
+    heard_in c.args.lent.now _ c.in-Some.ensures _ _ _ _ refl c.in_default-refusal.ensures _ _ _ (c.hear.ensures.value, (c.hear.ensures.lent_after, c.hear.ensures.reply_after))

@@ -1,4 +1,5 @@
 -- Laws of packets that other crates build on. Assumes nothing.
+use Rattle.std.specs.Prelude.{Ok}
 use Rattle.std.specs.Prelude.{ℕ, ◌+◌, ◌-◌, ◌≤◌, ◌≡◌, refl, List, take, drop}
 use Rattle.std.proofs.Math.Path.{sym}
 use Rattle.std.proofs.Common.{ap, ◌∙◌, length-append, length-drop, length-take-le}
@@ -12,7 +13,7 @@ use Rattle.packet.proofs.laws.Exactly.{good_exactly}
 
 -- ---- a good command
 
-module _ (c : List ℕ) (good : packet_status c ≡ 0x00) where
+module _ (c : List ℕ) (good : packet_status c ≡ Ok tt) where
   pub status_fits : (data_length c + 6 ≤ length c) × (data_length c ≤ 4090)
   status_fits = let f = ((good_exactly c).0 good).0 in (f.1, f.0)
 

@@ -7,8 +7,7 @@ use Rattle.std.proofs.Math.Path.{refl, sym, ap}
 use Rattle.std.proofs.Common.{◌∙◌, not-suc-le-zero, add-one, leb-true, leb-false}
 use native.Mathlib.Omega.{arith}
 use Rattle.places.specs.declared.Fault.{Fault}
-use Rattle.places.specs.declared.Blame.{Blame}
-use Rattle.places.specs.declared.Blame.TheVariants.{Nothing, Wrong}
+use Rattle.std.specs.Prelude.{Option, Some, None}
 use Rattle.places.specs.Places.{any_below, or_else, first_below}
 use Rattle.wire.proofs.laws.Cases.{cond_cases}
 
@@ -38,19 +37,19 @@ module _ (p : ℕ → Bool) where
   unfolding any_below
   any_more k h e = ap (any_below p) (add-one k) ∙ ap (λ (b : Bool). cond b true (p k)) h ∙ e
 
-module _ (f : ℕ → Blame) where
-  pub first_none : first_below f 0 ≡ Nothing
+module _ (f : ℕ → Option Fault) where
+  pub first_none : first_below f 0 ≡ None
   unfolding first_below
   first_none = refl
 
-  pub first_more : (k : ℕ) → first_below f k ≡ Nothing → f k ≡ Nothing → first_below f (k + 1) ≡ Nothing
+  pub first_more : (k : ℕ) → first_below f k ≡ None → f k ≡ None → first_below f (k + 1) ≡ None
   unfolding first_below or_else
-  first_more k h e = ap (first_below f) (add-one k) ∙ ap (λ (x : Blame). or_else x (f k)) h ∙ e
+  first_more k h e = ap (first_below f) (add-one k) ∙ ap (λ (x : Option Fault). or_else x (f k)) h ∙ e
 
   -- what is found first stays
-  pub first_found : (x : Fault) (k n : ℕ) → k < n → first_below f k ≡ Nothing → f k ≡ Wrong x → first_below f n ≡ Wrong x
+  pub first_found : (x : Fault) (k n : ℕ) → k < n → first_below f k ≡ None → f k ≡ Some x → first_below f n ≡ Some x
   unfolding first_below or_else
   first_found x k zero h none e = absurd (not-suc-le-zero h)
   first_found x k (suc n) h none e =
-      by_order k n h (λ l. ap (λ (y : Blame). or_else y (f n)) (first_found x k n l none e))
-      (λ q. ap (λ (y : Blame). or_else y (f n)) (sym (ap (first_below f) q) ∙ none) ∙ sym (ap f q) ∙ e)
+      by_order k n h (λ l. ap (λ (y : Option Fault). or_else y (f n)) (first_found x k n l none e))
+      (λ q. ap (λ (y : Option Fault). or_else y (f n)) (sym (ap (first_below f) q) ∙ none) ∙ sym (ap f q) ∙ e)

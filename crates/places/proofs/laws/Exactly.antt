@@ -1,7 +1,12 @@
 -- Document 02, c: a fault is found exactly where the status is 0x13. d is the data. Assumes nothing.
-use Rattle.std.specs.Prelude.{ℕ, zero, suc, ◌+◌, ◌-◌, ◌*◌, ◌<◌, ◌≤◌, Bool, true, false, cond, not, ◌≡◌, refl, List, Some, None, ◌↔◌, ltb, leb, eqb, length, get_or, take, drop}
+use Rattle.std.specs.Prelude.{ℕ, zero, suc, ◌+◌, ◌-◌, ◌*◌, ◌<◌, ◌≤◌, Bool, true, false, cond, not, ◌≡◌, refl, List, Some, None, ◌↔◌, ltb, leb, eqb, length, get_or, take, drop, Result, Ok, Err, Option}
 use Rattle.std.specs.Option.{is_some}
+use Rattle.std.specs.Result.{is_ok}
+use Rattle.packet.specs.Packet.{Checked, status_number}
+use Rattle.packet.specs.declared.Status.{Status}
+use Rattle.packet.specs.declared.Status.TheVariants.{InvalidCommand, InvalidLength, InvalidData, ChecksumFailure, InternalError, StateProhibits}
 use Rattle.std.proofs.lemmas.Bool.{false≢true}
+use Rattle.std.proofs.lemmas.Option.{none-some}
 use Rattle.std.proofs.Math.Bool.{true≢false}
 use Rattle.std.proofs.Math.Path.{sym}
 use Rattle.std.proofs.Common.{ap, subst, ◌∙◌, lt_of_not-le, arith, get_or-take, get_or-drop}
@@ -17,20 +22,18 @@ use Rattle.change.specs.declared.Change.{Change}
 use Rattle.change.specs.declared.Tables.{Tables}
 use Rattle.formed.specs.Formed.{in_order}
 use Rattle.formed.proofs.laws.Thresholds.{order_exactly, out_of_order}
-use Rattle.sets.specs.Sets.{empty_sets, sets_of, empty_frus, frus_of}
+use Rattle.sets.specs.Sets.{throttles_of, thermal_of}
 use Rattle.sets.specs.Conditions.{set_at, InPairs, InFrus, SetsOk, FrusOk}
 use Rattle.sets.proofs.laws.Exactly.{sets_exactly, frus_exactly}
 use Rattle.occ.specs.declared.Verdict.{Verdict}
 use Rattle.occ.specs.declared.Verdict.TheVariants.{Refuse, Poll, Make}
 use Rattle.occ.specs.declared.Judged.{Judged}
 use Rattle.occ.specs.Commands.{poll_verdict, clear_at, clear_verdict, state_fits, not_ready, state_verdict, role_verdict, sent_caps, caps_for, caps_verdict, user_allowed, user_for, user_verdict, log_due, reset_for, reset_verdict}
-use Rattle.occ.specs.Judge.{plainly, count_status, sets_status, sets_judged, throttles_for, throttles_judged, frus_judged, thermal_for, thermal_judged, format_judged, configure_judged, type_judged, judge_of}
+use Rattle.occ.specs.Judge.{plainly, count_status, sets_status, sets_read, read_judged, throttles_made, throttles_read, throttles_judged, thermal_made, thermal_read, thermal_judged, format_judged, configure_judged, type_judged, judge_of}
 use Rattle.occ.specs.Open.{open_to}
 use Rattle.places.specs.declared.Reason.{Reason}
 use Rattle.places.specs.declared.Reason.TheVariants.{BadVersion, BadCount, OutOfRange, Clash, NotPending}
 use Rattle.places.specs.declared.Fault.{Fault}
-use Rattle.places.specs.declared.Blame.{Blame}
-use Rattle.places.specs.declared.Blame.TheVariants.{Nothing, Wrong}
 use Rattle.places.specs.declared.SetTable.TheVariants.{Throttles, Thermal}
 use Rattle.places.specs.Places.{wrong, poll_fault, clear_fault, state_fault, role_fault, caps_fault, user_fault, reset_fault, width_of, first_set, count_fault, sets_fault, format_fault, configure_fault, fault_of}
 use Rattle.places.specs.Faults.{Faults, ThrottleFaults, ThermalFaults, each_of, Least, no_fault, least}
@@ -38,47 +41,43 @@ use Rattle.places.proofs.laws.Least.{throttles_least, thermals_least}
 
 -- ---- a verdict refuses with 0x13 exactly where a fault is found
 
-pub record Alike (v : Verdict) (found : Blame) : Type 0 where
-  pub exactly : (v ≡ Refuse 0x13) ↔ ((x : Fault) × (found ≡ Wrong x))
+pub record Alike (v : Verdict) (found : Option Fault) : Type 0 where
+  pub exactly : (v ≡ Refuse InvalidData) ↔ ((x : Fault) × (found ≡ Some x))
 
--- whether a fault is found, and the status where one refuses
-abbrev pub is_wrong : Blame → ℕ
-is_wrong Nothing = 0
-is_wrong (Wrong x) = 1
-
+-- the status where one refuses
 abbrev pub status_of : Verdict → ℕ
-status_of (Refuse n) = n
+status_of (Refuse n) = status_number n
 status_of Poll = 0
 status_of (Make ch) = 0
 
-wrongs : (reason : Reason) (at : ℕ) → Alike (Refuse 0x13) (wrong reason at)
+wrongs : (reason : Reason) (at : ℕ) → Alike (Refuse InvalidData) (wrong reason at)
 unfolding wrong
 wrongs reason at = record { exactly = (λ e. (record { reason = reason; at = at }, refl), λ e. refl) }
 
-other : (v : Verdict) → (status_of v ≡ 0x13 → ⊥) → Alike v Nothing
-other v n = record { exactly = (λ e. absurd (n (ap status_of e)), λ e. let z : ◌≡◌ {A = ℕ} 0 1 = ap is_wrong e.1 in absurd (omega arith)) }
+other : (v : Verdict) → (status_of v ≡ 0x13 → ⊥) → Alike v None
+other v n = record { exactly = (λ e. absurd (n (ap status_of e)), λ e. absurd (none-some e.0 e.1)) }
 
-short : Alike (Refuse 0x12) Nothing
-short = other (Refuse 0x12) (λ e. omega (arith, e))
+short : Alike (Refuse InvalidLength) None
+short = other (Refuse InvalidLength) (λ e. omega (arith, e))
 
-state : Alike (Refuse 0x16) Nothing
-state = other (Refuse 0x16) (λ e. omega (arith, e))
+state : Alike (Refuse StateProhibits) None
+state = other (Refuse StateProhibits) (λ e. omega (arith, e))
 
-made : (ch : Change) → Alike (Make ch) Nothing
+made : (ch : Change) → Alike (Make ch) None
 made ch = other (Make ch) (λ e. omega (arith, e))
 
 -- a test that both make, and one that the judge of statuses alone makes
-both : {A : Type 0} (Q : A → Blame → Type 0) (t : Bool) {v w : A} {a b : Blame} → Q v a → Q w b → Q (cond t v w) (cond t a b)
+both : {A : Type 0} (Q : A → Option Fault → Type 0) (t : Bool) {v w : A} {a b : Option Fault} → Q v a → Q w b → Q (cond t v w) (cond t a b)
 both Q t p q = by_both Q t (λ e. p) (λ e. q)
 
-alone : (t : Bool) {v w : Verdict} {a : Blame} → Alike v a → Alike w a → Alike (cond t v w) a
+alone : (t : Bool) {v w : Verdict} {a : Option Fault} → Alike v a → Alike w a → Alike (cond t v w) a
 alone true p q = p
 alone false p q = q
 
 -- ---- the small commands
 
 -- the length that a type asks for
-sized : (d : List ℕ) (n : ℕ) {v : Verdict} {a : Blame} → Alike v a → Alike (cond (not (eqb (length d) n)) (Refuse 0x12) v) (cond (not (eqb (length d) n)) Nothing a)
+sized : (d : List ℕ) (n : ℕ) {v : Verdict} {a : Option Fault} → Alike v a → Alike (cond (not (eqb (length d) n)) (Refuse InvalidLength) v) (cond (not (eqb (length d) n)) None a)
 sized d n p = both Alike (not (eqb (length d) n)) short p
 
 poll_alike : (d : List ℕ) → Alike (poll_verdict d) (poll_fault d)
@@ -93,9 +92,9 @@ clear_alike logs d =
     [ None ↦ wrongs NotPending 1 | Some p ↦ made _ ])
 
 -- the four tests of set state's bytes are one to the judge of statuses
-fits_alike : (a b c e : Bool) {v : Verdict} → Alike v Nothing
-    → Alike (cond (not (cond a false (cond b false (cond c false e)))) (Refuse 0x13) v)
-    (cond a (wrong BadVersion 1) (cond b (wrong OutOfRange 2) (cond c (wrong OutOfRange 2) (cond (not e) (wrong OutOfRange 3) Nothing))))
+fits_alike : (a b c e : Bool) {v : Verdict} → Alike v None
+    → Alike (cond (not (cond a false (cond b false (cond c false e)))) (Refuse InvalidData) v)
+    (cond a (wrong BadVersion 1) (cond b (wrong OutOfRange 2) (cond c (wrong OutOfRange 2) (cond (not e) (wrong OutOfRange 3) None))))
 fits_alike true b c e p = wrongs _ _
 fits_alike false true c e p = wrongs _ _
 fits_alike false false true e p = wrongs _ _
@@ -126,10 +125,10 @@ unfolding user_verdict user_for user_fault
 user_alike role got caps d = sized d 2 (both Alike (not (user_allowed got caps (be_nat (take 2 d)))) (wrongs OutOfRange 1) (alone (eqb role 0) state (made _)))
 
 -- a log that isn't due or has no room
-log_alike : (role : ℕ) (logs : List Log) (next reason : ℕ) → Alike (reset_for role logs next reason) Nothing
+log_alike : (role : ℕ) (logs : List Log) (next reason : ℕ) → Alike (reset_for role logs next reason) None
 unfolding reset_for
 log_alike role logs next reason =
-    let full = other (Refuse 0x15) (λ e. omega (arith, e)) in
+    let full = other (Refuse InternalError) (λ e. omega (arith, e)) in
     alone (not (log_due role reason)) (made _) (alone (leb 4 (pending_of logs)) full (alone (leb 256 next) full (made _)))
 
 reset_alike : (role : ℕ) (logs : List Log) (next : ℕ) (d : List ℕ) → Alike (reset_verdict role logs next d) (reset_fault d)
@@ -222,62 +221,61 @@ module _ (d : List ℕ) where
         f.2
 
 -- nothing is found exactly where there is nothing to find
-none_found : {F : Faults} {found : Blame} → Least F found → (found ≡ Nothing) ↔ ((x : Fault) → F x → ⊥)
+none_found : {F : Faults} {found : Option Fault} → Least F found → (found ≡ None) ↔ ((x : Fault) → F x → ⊥)
 none_found (no_fault h) = (λ e. h, λ e. refl)
-none_found (least x h low) = (λ e. let z : ◌≡◌ {A = ℕ} 1 0 = ap is_wrong e in absurd (omega arith), λ k. absurd (k x h))
+none_found (least x h low) = (λ e. absurd (none-some x (sym e)), λ k. absurd (k x h))
 
-throttles_found : (d : List ℕ) (n : ℕ) → ((sets_of n empty_sets (drop 3 d)).ok ≡ true) ↔ (first_set Throttles d n ≡ Nothing)
+throttles_found : (d : List ℕ) (n : ℕ) → (is_some (throttles_of n (drop 3 d)) ≡ true) ↔ (first_set Throttles d n ≡ None)
 throttles_found d n =
     let none = none_found (throttles_least d n) in
     let ok = sets_exactly n (drop 3 d) in
     (λ h. none.1 (throttles_sound d n (ok.0 h)), λ h. ok.1 (sound_throttles d n (none.0 h)))
 
-frus_found : (d : List ℕ) (n : ℕ) → ((frus_of n empty_frus (drop 3 d)).ok ≡ true) ↔ (first_set Thermal d n ≡ Nothing)
+frus_found : (d : List ℕ) (n : ℕ) → (is_some (thermal_of n (drop 3 d)) ≡ true) ↔ (first_set Thermal d n ≡ None)
 frus_found d n =
     let none = none_found (thermals_least d n) in
     let ok = frus_exactly n (drop 3 d) in
     (λ h. none.1 (frus_sound d n (ok.0 h)), λ h. ok.1 (sound_frus d n (none.0 h)))
 
 -- the same of what is judged, with tables beside it
-record Judges (j : Judged) (found : Blame) : Type 0 where
+record Judges (j : Judged) (found : Option Fault) : Type 0 where
   alike : Alike j.verdict found
 
-plain : {v : Verdict} {a : Blame} → Alike v a → Judges (plainly v) a
+plain : {v : Verdict} {a : Option Fault} → Alike v a → Judges (plainly v) a
 unfolding plainly
 plain p = record { alike = p }
 
 -- the sets were read, or one of them was wrong
-read_alike : (ok : Bool) (found : Blame) → (ok ≡ true) ↔ (found ≡ Nothing) → (ch : Change) (t : Tables)
-    → Judges (cond (not ok) (plainly (Refuse 0x13)) (record { verdict = Make ch; tables = t })) found
-read_alike true Nothing e ch t = record { alike = made ch }
-read_alike false (Wrong x) e ch t = plain (record { exactly = (λ h. (x, refl), λ h. refl) })
-read_alike true (Wrong x) e ch t = let z : ◌≡◌ {A = ℕ} 1 0 = ap is_wrong (e.0 refl) in absurd (omega arith)
-read_alike false Nothing e ch t = absurd (false≢true (e.1 refl))
+read_alike : {A : Type 0} (on : A → Judged) (v : Option A) (found : Option Fault) → (is_some v ≡ true) ↔ (found ≡ None)
+    → ((t : A) → Judges (on t) None) → Judges (read_judged on (sets_read (Ok tt) v)) found
+unfolding read_judged sets_read
+read_alike on (Some t) None e h = h t
+read_alike on None (Some x) e h = plain (record { exactly = (λ h. (x, refl), λ h. refl) })
+read_alike on (Some t) (Some x) e h = absurd (none-some x (sym (e.0 refl)))
+read_alike on None None e h = absurd (false≢true (e.1 refl))
 
--- the tests that both formats with sets begin with, and j after them
-abbrev counted : Judged → ℕ → Judged
-counted j status = cond (not (eqb status 0)) (plainly (Refuse status)) j
-
-counted_alike : (a b c e : Bool) (j : Judged) (found : Blame) → Judges j found
-    → Judges (counted j (cond a 0x12 (cond b 0x12 (cond c 0x13 (cond e 0x13 0x00)))))
-    (cond a Nothing (cond b Nothing (cond c (wrong BadVersion 2) (cond e (wrong BadCount 3) found))))
-counted_alike true b c e j f p = plain short
-counted_alike false true c e j f p = plain short
-counted_alike false false true e j f p = plain (wrongs BadVersion 2)
-counted_alike false false false true j f p = plain (wrongs BadCount 3)
-counted_alike false false false false j f p = p
+-- the tests that both formats with sets begin with, and the sets after them
+counted_alike : {A : Type 0} (on : A → Judged) (v : Option A) (a b c e : Bool) (found : Option Fault) → Judges (read_judged on (sets_read (Ok tt) v)) found
+    → Judges (read_judged on (sets_read (cond a (Err InvalidLength) (cond b (Err InvalidLength) (cond c (Err InvalidData) (cond e (Err InvalidData) (Ok tt))))) v))
+    (cond a None (cond b None (cond c (wrong BadVersion 2) (cond e (wrong BadCount 3) found))))
+unfolding read_judged sets_read
+counted_alike on v true b c e f p = plain short
+counted_alike on v false true c e f p = plain short
+counted_alike on v false false true e f p = plain (wrongs BadVersion 2)
+counted_alike on v false false false true f p = plain (wrongs BadCount 3)
+counted_alike on v false false false false f p = p
 
 throttles_alike : (d : List ℕ) → Judges (throttles_judged d) (sets_fault Throttles d)
-unfolding throttles_judged throttles_for sets_judged sets_status count_status sets_fault count_fault width_of
+unfolding throttles_judged throttles_read sets_status count_status sets_fault count_fault width_of
 throttles_alike d =
-    counted_alike (ltb (length d) 3) (not (eqb (length d - 3) (get_or d 2 0 * 12))) (not (eqb (get_or d 1 0) 0x10)) (eqb (get_or d 2 0) 0)
-    (sets_judged (sets_of (get_or d 2 0) empty_sets (drop 3 d))) _ (read_alike _ _ (throttles_found d (get_or d 2 0)) _ _)
+    counted_alike throttles_made (throttles_of (get_or d 2 0) (drop 3 d)) (ltb (length d) 3) (not (eqb (length d - 3) (get_or d 2 0 * 12))) (not (eqb (get_or d 1 0) 0x10)) (eqb (get_or d 2 0) 0)
+    _ (read_alike throttles_made _ _ (throttles_found d (get_or d 2 0)) (λ t. record { alike = made _ }))
 
 thermal_alike : (d : List ℕ) → Judges (thermal_judged d) (sets_fault Thermal d)
-unfolding thermal_judged thermal_for frus_judged sets_status count_status sets_fault count_fault width_of
+unfolding thermal_judged thermal_read sets_status count_status sets_fault count_fault width_of
 thermal_alike d =
-    counted_alike (ltb (length d) 3) (not (eqb (length d - 3) (get_or d 2 0 * 4))) (not (eqb (get_or d 1 0) 0x10)) (eqb (get_or d 2 0) 0)
-    (frus_judged (frus_of (get_or d 2 0) empty_frus (drop 3 d))) _ (read_alike _ _ (frus_found d (get_or d 2 0)) _ _)
+    counted_alike thermal_made (thermal_of (get_or d 2 0) (drop 3 d)) (ltb (length d) 3) (not (eqb (length d - 3) (get_or d 2 0 * 4))) (not (eqb (get_or d 1 0) 0x10)) (eqb (get_or d 2 0) 0)
+    _ (read_alike thermal_made _ _ (frus_found d (get_or d 2 0)) (λ t. record { alike = made _ }))
 
 -- ---- every command
 
@@ -300,11 +298,11 @@ type_alike r w next kind d =
     (both Judges (eqb kind 0x21) (configure_alike r.state r.role d)
     (both Judges (eqb kind 0x22) (plain (user_alike r.role r.received.caps r.caps d))
     (both Judges (eqb kind 0x25) (plain (reset_alike r.role r.logs next d))
-    (plain (other (Refuse 0x11) (λ e. omega (arith, e)))))))))
+    (plain (other (Refuse InvalidCommand) (λ e. omega (arith, e)))))))))
 
 -- a fault is found exactly where the status is 0x13, of the types that are open to the sender
 pub exactly_wrong : (r : Record) (w : Worked) (next sender kind : ℕ) (d : List ℕ) → open_to sender kind ≡ true
-    → ((judge_of r w next sender kind d).verdict ≡ Refuse 0x13) ↔ ((x : Fault) × (fault_of r kind d ≡ Wrong x))
+    → ((judge_of r w next sender kind d).verdict ≡ Refuse InvalidData) ↔ ((x : Fault) × (fault_of r kind d ≡ Some x))
 unfolding judge_of
 exactly_wrong r w next sender kind d may =
-    (subst (λ (b : Bool). Judges (cond (not b) (plainly (Refuse 0x11)) (type_judged kind r w next d)) (fault_of r kind d)) (sym may) (type_alike r w next kind d)).alike.exactly
+    (subst (λ (b : Bool). Judges (cond (not b) (plainly (Refuse InvalidCommand)) (type_judged kind r w next d)) (fault_of r kind d)) (sym may) (type_alike r w next kind d)).alike.exactly

@@ -20,8 +20,7 @@ use Rattle.occ.proofs.laws.Exactly.{found_exactly, user_allowed_exactly, counted
 use Rattle.places.specs.declared.Reason.{Reason}
 use Rattle.places.specs.declared.Reason.TheVariants.{BadVersion, BadCount, OutOfRange, Repeated, Clash, NotPending}
 use Rattle.places.specs.declared.Fault.{Fault}
-use Rattle.places.specs.declared.Blame.{Blame}
-use Rattle.places.specs.declared.Blame.TheVariants.{Nothing}
+use Rattle.std.specs.Prelude.{Option, Some, None}
 use Rattle.places.specs.declared.SetTable.{SetTable}
 use Rattle.places.specs.declared.SetTable.TheVariants.{Throttles, Thermal}
 use Rattle.places.specs.Reasons.{named}
@@ -31,23 +30,23 @@ use Rattle.places.specs.Faults.{Faults, byte, ◌or◌, each_of, of_length, Poll
 
 -- ---- the least of some faults
 
-least_none : Least none Nothing
+least_none : Least none None
 least_none = no_fault (λ x h. h)
 
 -- the same faults in other words
-least_same : {F G : Faults} {found : Blame} → ((x : Fault) → F x ↔ G x) → Least F found → Least G found
+least_same : {F G : Faults} {found : Option Fault} → ((x : Fault) → F x ↔ G x) → Least F found → Least G found
 least_same e (no_fault h) = no_fault (λ x g. h x ((e x).1 g))
 least_same e (least x h low) = least x ((e x).0 h) (λ y g. low y ((e y).1 g))
 
 -- of two sorts of which none of the second stands before one of the first
-least_or : {F G : Faults} {a b : Blame} → Least F a → Least G b → ((x y : Fault) → F x → G y → NotAfter x y) → Least (F or G) (or_else a b)
+least_or : {F G : Faults} {a b : Option Fault} → Least F a → Least G b → ((x y : Fault) → F x → G y → NotAfter x y) → Least (F or G) (or_else a b)
 unfolding or_else
 least_or (no_fault f) (no_fault g) after = no_fault (λ x. ⊎_elim (f x) (g x))
 least_or (no_fault f) (least x g low) after = least x (inr g) (λ y. ⊎_elim (λ h. absurd (f y h)) (low y))
 least_or (least x f low) g after = least x (inl f) (λ y. ⊎_elim (low y) (after x y f))
 
 -- where P holds those of one sort, else those of another
-least_rows : {P : Type 0} {F G : Faults} {a b : Blame} {t : Bool} → (t ≡ true) ↔ P → Least F a → Least G b → Least (Rows P F G) (cond t a b)
+least_rows : {P : Type 0} {F G : Faults} {a b : Option Fault} {t : Bool} → (t ≡ true) ↔ P → Least F a → Least G b → Least (Rows P F G) (cond t a b)
 least_rows {P} {F} {G} {a} {b} {t} p f g = cond_cases (Least (Rows P F G)) t is isn't
   where
     held : {x : Fault} → P → Rows P F G x → F x
@@ -74,10 +73,10 @@ module _ {right : Type 0} {F : Faults} where
   judged x (here k y) = y
   judged x (later k y) = absurd y
 
-  least_unsized : (right → ⊥) → Least (of_length right F) Nothing
+  least_unsized : (right → ⊥) → Least (of_length right F) None
   least_unsized h = no_fault (λ x. unjudged x h)
 
-  least_sized : {found : Blame} {t : Bool} → (t ≡ false) ↔ right → Least F found → Least (of_length right F) (cond t Nothing found)
+  least_sized : {found : Option Fault} {t : Bool} → (t ≡ false) ↔ right → Least F found → Least (of_length right F) (cond t None found)
   least_sized {found} {t} p f =
       cond_cases (Least (of_length right F)) t (λ e. least_unsized (λ k. true≢false (sym e ∙ p.1 k))) (λ e. least_same (λ x. (here (p.0 e), judged x)) f)
 
@@ -106,7 +105,7 @@ itself x y e = subst (λ (z : Fault). NotAfter x z) (sym e) (inr (refl, omega ar
 
 -- a test of one byte; the code may write its place in another way
 module _ {P : Type 0} {t : Bool} (at : ℕ) (reason : Reason) (p : (t ≡ true) ↔ P) where
-  least_byte : {k : ℕ} → k ≡ at → Least (byte at reason P) (cond t (wrong reason k) Nothing)
+  least_byte : {k : ℕ} → k ≡ at → Least (byte at reason P) (cond t (wrong reason k) None)
   unfolding wrong
   least_byte {k} e =
       cond_cases (Least (byte at reason P)) t
@@ -114,12 +113,12 @@ module _ {P : Type 0} {t : Bool} (at : ℕ) (reason : Reason) (p : (t ≡ true) 
       least _ (same, p.0 h) (λ y f. itself _ y (f.0 ∙ sym same)))
       (λ h. no_fault (λ x f. true≢false (sym (p.1 f.1) ∙ h)))
 
-  least_test : {F : Faults} {found : Blame} {k : ℕ} → k ≡ at → ((x y : Fault) → byte at reason P x → F y → NotAfter x y) → Least F found
+  least_test : {F : Faults} {found : Option Fault} {k : ℕ} → k ≡ at → ((x y : Fault) → byte at reason P x → F y → NotAfter x y) → Least F found
       → Least (byte at reason P or F) (cond t (wrong reason k) found)
   unfolding or_else wrong
   least_test {F} {found} {k} e after rest = subst (Least (byte at reason P or F)) (chosen t) (least_or (least_byte e) rest after)
     where
-      chosen : (b : Bool) → or_else (cond b (wrong reason k) Nothing) found ≡ cond b (wrong reason k) found
+      chosen : (b : Bool) → or_else (cond b (wrong reason k) None) found ≡ cond b (wrong reason k) found
       chosen true = refl
       chosen false = refl
 
@@ -227,7 +226,7 @@ thermal_least d i =
 
 -- ---- the sets one after the other
 
-module _ (f : ℕ → Blame) (F : ℕ → Faults) (each : (i : ℕ) → Least (F i) (f i)) (rising : (i j : ℕ) → i < j → (x y : Fault) → F i x → F j y → NotAfter x y) where
+module _ (f : ℕ → Option Fault) (F : ℕ → Faults) (each : (i : ℕ) → Least (F i) (f i)) (rising : (i j : ℕ) → i < j → (x y : Fault) → F i x → F j y → NotAfter x y) where
   -- those of the sets before one, and its own
   with_last : (n : ℕ) (x : Fault) → (each_of n F or F n) x ↔ each_of (suc n) F x
   with_last n x = (

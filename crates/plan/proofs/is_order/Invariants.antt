@@ -1,11 +1,10 @@
-use Rattle.plan.specs.Plan.{is_order}
 use mathlib.Core.Path.{◌≡◌}
-use Prim.Native.Nat.{◌-◌}
-use lib.ListN.{length, drop}
+use lib.ListN.{length}
+use Rattle.plan.specs.Plan.{is_order}
 use Rattle.plan.proofs.is_order.Given as goal
 
-abbrev pub invariant-loop-i : goal.invariant-loop-i
-invariant-loop-i l = is_order l.count (drop l.i l.order) ≡ is_order l.count l.order
+abbrev pub invariant-loop-x : goal.invariant-loop-x
+invariant-loop-x l = is_order l.count l.left ≡ is_order l.count l.order
 
-abbrev pub decreases-loop-i : goal.decreases-loop-i
-decreases-loop-i l = length l.order - l.i
+abbrev pub decreases-loop-x : goal.decreases-loop-x
+decreases-loop-x l = length l.left

@@ -1,17 +1,20 @@
-use Rattle.plan.proofs.Orders.{zero_goes, digit_stays, none_left_lem}
-use mathlib.Core.Path.{◌∙◌, refl}
+use mathlib.Core.Path.{◌≡◌, ap, ◌∙◌}
+use mathlib.Core.List.{List}
+use Prim.Native.Nat.{ℕ}
 use native.Mathlib.Omega.{arith}
 use borrow.Author.Rules.{rules}
+use lib.ListN.{drop}
+use Rattle.plan.specs.Plan.{trimmed}
+use Rattle.plan.proofs.Orders.{zero_goes, digit_stays, none_left_lem}
 use Rattle.plan.proofs.zeros.Goals as goal
 
-pub loop-i-init : goal.loop-i-init
-loop-i-init c = (search rules, search rules, refl)
-
-pub returns-then-digits-i-ne0 : goal.returns-then-digits-i-ne0
-returns-then-digits-i-ne0 c = (c.loop-i.invariant.0, digit_stays _ _ c.loop-i.invariant.1 c.loop-i-test.true c.if-digits-i-ne0.true ∙ c.loop-i.invariant.2)
+pub returns-then-digit-ne0 : goal.returns-then-digit-ne0
+returns-then-digit-ne0 c = (c.loop-i.auto.i-end, digit_stays _ _ (search rules) c.loop-i-test.true c.if-digit-ne0.true ∙ c.loop-i.invariant)
 
 pub loop-i-preserved : goal.loop-i-preserved
-loop-i-preserved c = (omega (arith, c.loop-i-test.true), c.loop-i.invariant.1, zero_goes _ _ c.loop-i.invariant.1 c.loop-i-test.true c.if-digits-i-ne0.false ∙ c.loop-i.invariant.2)
+loop-i-preserved c = zero_goes _ _ (search rules) c.loop-i-test.true c.if-digit-ne0.false ∙ c.loop-i.invariant
 
 pub returns : goal.returns
-returns c = (c.loop-i.invariant.0, none_left_lem _ _ c.loop-i.invariant.1 c.loop-i-test.false ∙ c.loop-i.invariant.2)
+returns c =
+    let end : 5 ≡ c.loop-i.i = omega (arith, c.loop-i-test.false, c.loop-i.auto.i-end) in
+    (omega arith, none_left_lem 5 c.args.digits (search rules) (omega arith) ∙ ap (λ (k : ℕ). trimmed (drop k c.args.digits)) end ∙ c.loop-i.invariant)

@@ -18,7 +18,7 @@ use Rattle.session.proofs.laws.Road.{Speaks}
 use Rattle.session.proofs.laws.Timer.{Clock}
 use Rattle.session.specs.declared.Session.{Session}
 use Rattle.packet.specs.Packet.{data_of}
-use Rattle.places.specs.declared.Blame.TheVariants.{Nothing}
+use Rattle.std.specs.Prelude.{Option, Some, None}
 use Rattle.occ.specs.Open.{by_profile}
 use Rattle.occ_call.specs.Occ as occs
 use Rattle.occ_call.proofs.laws.Speaks.{occ_speaks}
@@ -236,7 +236,7 @@ module _ (base : Record) (first : ℕ) where
     why_same : (sender : ℕ) (c d : List ℕ) → occs.occ_why q.session sender c d ≡ occs.occ_why p.session sender c d
     unfolding occs.occ_why occs.occ_refusal occs.why_from occs.why_read
     why_same sender c d = λ i.
-        cond (not (eqb (occs.refusal_of (formed_same i) sender (length c) (length d)) 0)) Nothing
+        cond (not (eqb (occs.refusal_of (formed_same i) sender (length c) (length d)) 0)) None
         (occs.fault_for (by_profile (b.profile_is i) (get_or c 1 0) (occs.asked_of (held_same i) (worked_same i) (next_same i) sender c).verdict) (held_same i) (get_or c 1 0) (data_of c))
 
     -- as many entries are passed

@@ -1,5 +1,12 @@
 -- A change that a command of bytes makes is one that links can undo: its values pass, its numbers are of their widths. Assumes nothing.
-use Rattle.std.specs.Prelude.{ℕ, ◌+◌, ◌≤◌, Bool, true, cond, not, ◌⊎◌, ◌≡◌, List, ltb, leb, eqb, length, take, drop, Some, None}
+use Rattle.std.specs.Prelude.{ℕ, ◌+◌, ◌≤◌, Bool, true, cond, not, ◌⊎◌, ◌≡◌, List, ltb, leb, eqb, length, take, drop, Some, None, Result, Ok, Err, Option}
+use Rattle.std.specs.Result.{is_ok}
+use Rattle.packet.specs.Packet.{Checked, status_number}
+use Rattle.packet.proofs.laws.Exactly.{ok_is, checked_cases}
+use Rattle.packet.specs.declared.Status.{Status}
+use Rattle.packet.specs.declared.Status.TheVariants.{InvalidCommand, InvalidLength, InvalidData, ChecksumFailure, InternalError, StateProhibits}
+use Rattle.std.specs.Option.{IfSome}
+use Rattle.std.proofs.lemmas.Option.{IfSome_then}
 use Rattle.std.proofs.Common.{inl, inr, ⊎_elim, sym, arith, ltb-false, eq-eqb}
 use Rattle.std.proofs.Math.Path.{refl, subst}
 use Rattle.std.proofs.Math.ListN.{get_or, replicate}
@@ -24,10 +31,10 @@ use Rattle.formed.proofs.laws.Formed.{sound}
 use Rattle.record.specs.Widths.{CapsFit}
 use Rattle.journal.proofs.laws.Bodies.{Writable}
 use Rattle.journal.specs.declared.Way.TheVariants.{After}
-use Rattle.sets.specs.Sets.{empty_sets, sets_of, empty_frus, frus_of}
-use Rattle.sets.proofs.laws.Sets.{sets_formed, frus_formed}
+use Rattle.sets.specs.Sets.{throttles_of, thermal_of}
+use Rattle.sets.proofs.laws.Sets.{PairsFormed, sets_formed, ThermalFormed, frus_formed}
 use Rattle.occ.specs.Commands.{poll_verdict, clear_at, clear_verdict, state_fits, not_ready, state_verdict, role_verdict, caps_for, sent_caps, caps_verdict, user_allowed, user_for, user_verdict, log_due, reset_for, reset_verdict}
-use Rattle.occ.specs.Judge.{plainly, sets_status, sets_judged, throttles_for, throttles_judged, frus_judged, thermal_for, thermal_judged, format_judged, configure_judged, type_judged, judge_of}
+use Rattle.occ.specs.Judge.{plainly, sets_status, sets_read, read_judged, throttles_made, throttles_read, throttles_judged, thermal_made, thermal_read, thermal_judged, format_judged, configure_judged, type_judged, judge_of}
 use Rattle.occ.specs.Open.{open_to}
 use Rattle.occ.proofs.laws.Made.{Drawn, made_ok_lem, clear_pends, reset_drawn}
 use Rattle.occ.specs.declared.Verdict.{Verdict}
@@ -73,7 +80,7 @@ Plain = Makes no_tables
 unfoldable Shaped : Judged → Type 0
 Shaped j = Makes j.tables j.verdict
 
-refusal : (t : Tables) (status : ℕ) → Makes t (Refuse status)
+refusal : (t : Tables) (status : Status) → Makes t (Refuse status)
 unfolding Makes
 refusal t status = tt
 
@@ -96,43 +103,43 @@ module _ (d : List ℕ) (bytes : Bytes d) where
 
   clear_shape : (logs : List Log) → Plain (clear_verdict logs d)
   unfolding clear_verdict clear_at
-  clear_shape logs = cond_elim Plain (longer 1) (refusal _ 0x12) (elim (find_of (get_or d 0 0) logs) as (λ o. Plain (clear_at o logs)) [ None ↦ refusal _ 0x13 | Some place ↦ make _ _ refl ])
+  clear_shape logs = cond_elim Plain (longer 1) (refusal _ InvalidLength) (elim (find_of (get_or d 0 0) logs) as (λ o. Plain (clear_at o logs)) [ None ↦ refusal _ InvalidData | Some place ↦ make _ _ refl ])
 
   state_shape : (w : Worked) → Plain (state_verdict w d)
   unfolding state_verdict
   state_shape w =
-      cond_elim Plain (longer 3) (refusal _ 0x12)
-      (cond_elim Plain (not (state_fits (get_or d 0 0) (get_or d 1 0) (get_or d 2 0))) (refusal _ 0x13) (cond_elim Plain (not_ready w (get_or d 1 0)) (refusal _ 0x16) (make _ _ refl)))
+      cond_elim Plain (longer 3) (refusal _ InvalidLength)
+      (cond_elim Plain (not (state_fits (get_or d 0 0) (get_or d 1 0) (get_or d 2 0))) (refusal _ InvalidData) (cond_elim Plain (not_ready w (get_or d 1 0)) (refusal _ StateProhibits) (make _ _ refl)))
 
   role_shape : (state : ℕ) → Plain (role_verdict state d)
   unfolding role_verdict
   role_shape state =
-      cond_elim Plain (longer 2) (refusal _ 0x12) (cond_elim Plain (ltb 1 (get_or d 1 0)) (refusal _ 0x13) (cond_elim Plain (not (eqb state 1)) (refusal _ 0x16) (make _ _ refl)))
+      cond_elim Plain (longer 2) (refusal _ InvalidLength) (cond_elim Plain (ltb 1 (get_or d 1 0)) (refusal _ InvalidData) (cond_elim Plain (not (eqb state 1)) (refusal _ StateProhibits) (make _ _ refl)))
 
   caps_shape : (role : ℕ) → Plain (caps_verdict role d)
   unfolding caps_verdict caps_for
   caps_shape role =
-      cond_elim Plain (longer 8) (refusal _ 0x12)
-      (cond_elim Plain (not (eqb (get_or d 1 0) 0x10)) (refusal _ 0x13)
-      (cond_elim Plain (ltb (sent_caps d).max (sent_caps d).min) (refusal _ 0x13)
-      (cond_elim Plain (eqb role 0) (refusal _ 0x16) (make _ (SetCaps 1 (sent_caps d)) (caps_fit, refl)))))
+      cond_elim Plain (longer 8) (refusal _ InvalidLength)
+      (cond_elim Plain (not (eqb (get_or d 1 0) 0x10)) (refusal _ InvalidData)
+      (cond_elim Plain (ltb (sent_caps d).max (sent_caps d).min) (refusal _ InvalidData)
+      (cond_elim Plain (eqb role 0) (refusal _ StateProhibits) (make _ (SetCaps 1 (sent_caps d)) (caps_fit, refl)))))
 
   user_shape : (role got : ℕ) (caps : Caps) → Plain (user_verdict role got caps d)
   unfolding user_verdict user_for
   user_shape role got caps =
-      cond_elim Plain (longer 2) (refusal _ 0x12)
-      (cond_elim Plain (not (user_allowed got caps (be_nat (take 2 (drop 0 d))))) (refusal _ 0x13)
-      (cond_elim Plain (eqb role 0) (refusal _ 0x16) (make _ (SetUser (be_nat (take 2 (drop 0 d)))) (part_fits 2 0 d bytes, refl))))
+      cond_elim Plain (longer 2) (refusal _ InvalidLength)
+      (cond_elim Plain (not (user_allowed got caps (be_nat (take 2 (drop 0 d))))) (refusal _ InvalidData)
+      (cond_elim Plain (eqb role 0) (refusal _ StateProhibits) (make _ (SetUser (be_nat (take 2 (drop 0 d)))) (part_fits 2 0 d bytes, refl))))
 
   reset_shape : (role : ℕ) (logs : List Log) (next : ℕ) → (next ≡ 0 → ⊥) → Plain (reset_verdict role logs next d)
   unfolding reset_verdict reset_for
   reset_shape role logs next some =
-      cond_elim Plain (longer 2) (refusal _ 0x12)
-      (cond_elim Plain (not (eqb (get_or d 0 0) 0)) (refusal _ 0x13)
-      (cond_elim Plain (ltb 2 (get_or d 1 0)) (refusal _ 0x13)
+      cond_elim Plain (longer 2) (refusal _ InvalidLength)
+      (cond_elim Plain (not (eqb (get_or d 0 0) 0)) (refusal _ InvalidData)
+      (cond_elim Plain (ltb 2 (get_or d 1 0)) (refusal _ InvalidData)
       (cond_elim Plain (not (log_due role (get_or d 1 0))) (make _ (Reset no_log) (inl refl, refl))
-      (cond_elim Plain (leb 4 (pending_of logs)) (refusal _ 0x15)
-      (cond_elim Plain (leb 256 next) (refusal _ 0x15) (make _ (Reset (record { id = next; reason = get_or d 1 0 })) (inr some, refl)))))))
+      (cond_elim Plain (leb 4 (pending_of logs)) (refusal _ InternalError)
+      (cond_elim Plain (leb 256 next) (refusal _ InternalError) (make _ (Reset (record { id = next; reason = get_or d 1 0 })) (inr some, refl)))))))
 
   -- ---- with the tables beside the change
 
@@ -140,7 +147,7 @@ module _ (d : List ℕ) (bytes : Bytes d) where
   unfolding Shaped plainly
   plain_shape v h = h
 
-  refuse_shape : (status : ℕ) → Shaped (plainly (Refuse status))
+  refuse_shape : (status : Status) → Shaped (plainly (Refuse status))
   refuse_shape status = plain_shape (Refuse status) (refusal _ status)
 
   made_shape : (t : Tables) (ch : Change) → Shape t ch → Shaped (record { verdict = Make ch; tables = t })
@@ -148,42 +155,43 @@ module _ (d : List ℕ) (bytes : Bytes d) where
   made_shape t ch h = make t ch h
 
   -- sets that are refused by their count, or by one of them
-  sets_shape : (status : ℕ) (ok : Bool) (j : Judged) → Shaped j
-      → Shaped (cond (not (eqb status 0)) (plainly (Refuse status)) (cond (not ok) (plainly (Refuse 0x13)) j))
-  sets_shape status ok j h = cond_elim Shaped (not (eqb status 0)) (refuse_shape status) (cond_elim Shaped (not ok) (refuse_shape 0x13) h)
+  read_shape : {A : Type 0} (status : Checked) (made : A → Judged) (v : Option A) → IfSome v (λ t. Shaped (made t)) → Shaped (read_judged made (sets_read status v))
+  unfolding read_judged sets_read
+  read_shape (Err x) made v h = refuse_shape x
+  read_shape (Ok x) made None h = refuse_shape InvalidData
+  read_shape (Ok x) made (Some t) h = h
 
   throttles_shape : Shaped (throttles_judged d)
-  unfolding throttles_judged throttles_for sets_judged
+  unfolding throttles_judged throttles_read
   throttles_shape =
-      let t = sets_of (get_or d 2 0) empty_sets (drop 3 d) in
-      let f = sets_formed (get_or d 2 0) (drop 3 d) in
-      sets_shape (sets_status 12 d) t.ok _ (made_shape (record { thermal = replicate 9 0; throttles = t.table }) (SetThrottles 1) (omega (arith, f.small), f.long, refl))
+      read_shape (sets_status 12 d) throttles_made _
+      (IfSome_then _ {P = PairsFormed} (sets_formed (get_or d 2 0) (drop 3 d)) (λ t f. made_shape (record { thermal = replicate 9 0; throttles = t }) (SetThrottles 1) (omega (arith, f.small), f.long, refl)))
 
   thermal_shape : Shaped (thermal_judged d)
-  unfolding thermal_judged thermal_for frus_judged
+  unfolding thermal_judged thermal_read
   thermal_shape =
-      let t = frus_of (get_or d 2 0) empty_frus (drop 3 d) in
-      sets_shape (sets_status 4 d) t.ok _ (made_shape (record { thermal = t.bytes; throttles = no_throttles }) (SetThermal 1) ((frus_formed (get_or d 2 0) (drop 3 d)).1, refl))
+      read_shape (sets_status 4 d) thermal_made _
+      (IfSome_then _ {P = ThermalFormed} (frus_formed (get_or d 2 0) (drop 3 d)) (λ t f. made_shape (record { thermal = t; throttles = no_throttles }) (SetThermal 1) (f.1, refl)))
 
   configure_shape : (state role : ℕ) → Shaped (configure_judged state role d)
   unfolding configure_judged format_judged
   configure_shape state role =
-      cond_elim Shaped (eqb (length d) 0) (refuse_shape 0x12)
+      cond_elim Shaped (eqb (length d) 0) (refuse_shape InvalidLength)
       (cond_elim Shaped (eqb (get_or d 0 0) 0x03) (plain_shape _ (role_shape state))
       (cond_elim Shaped (eqb (get_or d 0 0) 0x07) (plain_shape _ (caps_shape role))
       (cond_elim Shaped (eqb (get_or d 0 0) 0x12) throttles_shape
-      (cond_elim Shaped (eqb (get_or d 0 0) 0x13) thermal_shape (refuse_shape 0x13)))))
+      (cond_elim Shaped (eqb (get_or d 0 0) 0x13) thermal_shape (refuse_shape InvalidData)))))
 
   judge_shape : (r : Record) (w : Worked) (next sender kind : ℕ) → (next ≡ 0 → ⊥) → Shaped (judge_of r w next sender kind d)
   unfolding judge_of type_judged
   judge_shape r w next sender kind some =
-      cond_elim Shaped (not (open_to sender kind)) (refuse_shape 0x11)
+      cond_elim Shaped (not (open_to sender kind)) (refuse_shape InvalidCommand)
       (cond_elim Shaped (eqb kind 0x00) (plain_shape _ poll_shape)
       (cond_elim Shaped (eqb kind 0x12) (plain_shape _ (clear_shape r.logs))
       (cond_elim Shaped (eqb kind 0x20) (plain_shape _ (state_shape w))
       (cond_elim Shaped (eqb kind 0x21) (configure_shape r.state r.role)
       (cond_elim Shaped (eqb kind 0x22) (plain_shape _ (user_shape r.role r.received.caps r.caps))
-      (cond_elim Shaped (eqb kind 0x25) (plain_shape _ (reset_shape r.role r.logs next some)) (refuse_shape 0x11)))))))
+      (cond_elim Shaped (eqb kind 0x25) (plain_shape _ (reset_shape r.role r.logs next some)) (refuse_shape InvalidCommand)))))))
 
 -- ---- OCC: the change is one that can be undone
 

@@ -45,7 +45,7 @@ use Rattle.promises.proofs.laws.Asked.{data_bytes, next_some, occ_made, sbe_made
 use Rattle.promises.proofs.laws.WellFormed.{back_writable, room, session_is}
 use Rattle.promises.proofs.laws.OccAsks as occ-asks
 use Rattle.promises.proofs.laws.OccWays as occ-ways
-use Rattle.promises.proofs.laws.OccDemands.{well_read, not_refused, polled_type, made_judged, made_as, made_type, done_is, heard_exactly}
+use Rattle.promises.proofs.laws.OccDemands.{ill_well,  not_refused, polled_type, made_judged, made_as, made_type, done_is, heard_exactly}
 use Rattle.promises.proofs.laws.Served.{change_granted, plain_exactly, never_changes}
 use Rattle.promises.proofs.laws.SbeDemands as sbe-demands
 use Rattle.promises.proofs.laws.Replies.{front_is}
@@ -192,8 +192,8 @@ module _ (s : Session) (typed : TypedSession s) (sender : ℕ) (c d : List ℕ) 
 
   heard_effect : Bytes c → OccDue s sender c d → (q : Said) (e : Deed) → occ-ways.Heard s sender c d q e → Done q → OccLeft q.session
   unfolding kept done
-  heard_effect b p q e (occ-ways.ill_read z) ok =
-      absurd (z (well_read s typed sender c d p ((heard_exactly s typed sender c d p q e (occ-ways.ill_read z)).0 ok).0))
+  heard_effect b p q e (occ-ways.ill_read x z) ok =
+      absurd (ill_well s typed sender c d p x z ((heard_exactly s typed sender c d p q e (occ-ways.ill_read x z)).0 ok).0)
   heard_effect b p q e (occ-ways.declined z n v) ok =
       absurd (not_refused s typed sender c d p n v ((heard_exactly s typed sender c d p q e (occ-ways.declined z n v)).0 ok).0)
   heard_effect b p q e (occ-ways.polled z v) ok = poll (polled_type s typed sender c d p v)
@@ -229,8 +229,8 @@ module _ (s : Session) (typed : TypedSession s) (sender : ℕ) (c d : List ℕ) 
   called_deed q e (occ-ways.unknown w h) = (kept_never, λ x. absurd (omega (arith, x.0.0)))
   called_deed q e (occ-ways.short_reply w k h) = (kept_never, λ x. absurd (omega (arith, x.0.0)))
   called_deed q e (occ-ways.short_command w k g h) = (kept_never, λ x. absurd (omega (arith, x.0.0)))
-  called_deed q e (occ-ways.answered p y g (occ-ways.ill_read z)) =
-      (kept_never, λ x. absurd (z (well_read s typed sender c d p ((heard_exactly s typed sender c d p y g (occ-ways.ill_read z)).0 x.0).0)))
+  called_deed q e (occ-ways.answered p y g (occ-ways.ill_read n z)) =
+      (kept_never, λ x. absurd (ill_well s typed sender c d p n z ((heard_exactly s typed sender c d p y g (occ-ways.ill_read n z)).0 x.0).0))
   called_deed q e (occ-ways.answered p y g (occ-ways.declined z n v)) =
       (kept_never, λ x. absurd (not_refused s typed sender c d p n v ((heard_exactly s typed sender c d p y g (occ-ways.declined z n v)).0 x.0).0))
   called_deed q e (occ-ways.answered p y g (occ-ways.polled z v)) = (kept_never, λ x. absurd (x.1 (polled_type s typed sender c d p v)))

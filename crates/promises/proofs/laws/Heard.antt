@@ -1,4 +1,11 @@
 -- One call on two sessions that are the same but for ids: both say the same but for ids, and do the same. Assumes nothing.
+use Rattle.std.specs.Prelude.{Result, Ok, Err}
+use Rattle.std.specs.Result.{is_ok}
+use Rattle.packet.specs.Packet.{Checked, status_number}
+use Rattle.packet.proofs.laws.Exactly.{ok_is, checked_cases}
+use Rattle.packet.specs.declared.Status.{Status}
+use Rattle.packet.specs.declared.Status.TheVariants.{InvalidCommand, InvalidLength, InvalidData, ChecksumFailure, InternalError, StateProhibits}
+use Rattle.places.specs.declared.Fault.{Fault}
 use Rattle.std.specs.Prelude.{ℕ, suc, ◌≤◌, Bool, true, false, not, ◌⊎◌, ◌≡◌, eqb, length, get_or}
 use Rattle.std.proofs.Math.Bool.{cond}
 use Rattle.std.proofs.lemmas.Bool.{false≢true, not-false}
@@ -22,8 +29,7 @@ use Rattle.occ.specs.declared.Judged.{Judged}
 use Rattle.occ.specs.declared.Verdict.{Verdict}
 use Rattle.occ.specs.declared.Verdict.TheVariants.{Refuse, Poll, Make}
 use Rattle.places.specs.Places.{fault_of}
-use Rattle.places.specs.declared.Blame.{Blame}
-use Rattle.places.specs.declared.Blame.TheVariants.{Nothing}
+use Rattle.std.specs.Prelude.{Option, Some, None}
 use Rattle.sbe.specs.Mailbox as mailbox
 use Rattle.sbe.specs.Conditions.{grants}
 use Rattle.sbe.proofs.laws.Made.{change_fits}
@@ -157,28 +163,28 @@ module _ (k : ℕ) (low : 1 ≤ k) (s t : Session) (tw : Twins k s t) (from_k : 
 
     -- the same data byte is told, if one is
     module _ (fault-is : j' ≡ shifted_judged k j → occs.fault_for j'.verdict t.held (get_or c' 1 0) (data_of c') ≡ occs.fault_for j.verdict s.held (get_or c 1 0) (data_of c)) where
-      abbrev here_told : Blame
+      abbrev here_told : Option Fault
       here_told = occs.fault_for j.verdict s.held (get_or c 1 0) (data_of c)
 
-      abbrev there_told : Blame
+      abbrev there_told : Option Fault
       there_told = occs.fault_for j'.verdict t.held (get_or c' 1 0) (data_of c')
 
-      abbrev Alikes : Asks → Asks → Blame → Blame → Type 0
+      abbrev Alikes : Asks → Asks → Option Fault → Option Fault → Type 0
       Alikes a b x y = IdsEnd s t (occ sender c d) (occ sender c' d) ⊎ (AlikeAsks k s a b × (y ≡ x))
 
       by_refusal : (b : Bool) → not (eqb n 0) ≡ b → Likewise k s.next j j'
-          → Alikes (cond b (refuses n) here) (cond b (refuses n) there) (cond b Nothing here_told) (cond b Nothing there_told)
+          → Alikes (cond b (refuses n) here) (cond b (refuses n) there) (cond b None here_told) (cond b None there_told)
       by_refusal true e same = inr (both_refuse n, refl)
       by_refusal false e same =
           ⊎_elim (λ h. inr (judged_alike (get_or c 0 0) (get_or c 1 0) d j j' h, fault-is h)) (λ h. inl (ended (eqb-true n 0 (not-false _ e)) h)) same
 
-      why_there : cond (not (eqb n 0)) Nothing there_told ≡ occs.occ_why t sender c' d
+      why_there : cond (not (eqb n 0)) None there_told ≡ occs.occ_why t sender c' d
       unfolding occs.occ_why occs.why_from occs.why_read by_profile open_in
-      why_there = λ i. cond (not (eqb (sym refusal_is i) 0)) Nothing (occs.fault_for (by_profile (sym tw.full' i) (get_or c' 1 0) j'.verdict) t.held (get_or c' 1 0) (data_of c'))
+      why_there = λ i. cond (not (eqb (sym refusal_is i) 0)) None (occs.fault_for (by_profile (sym tw.full' i) (get_or c' 1 0) j'.verdict) t.held (get_or c' 1 0) (data_of c'))
 
-      why_here : cond (not (eqb n 0)) Nothing here_told ≡ occs.occ_why s sender c d
+      why_here : cond (not (eqb n 0)) None here_told ≡ occs.occ_why s sender c d
       unfolding occs.occ_why occs.why_from occs.why_read by_profile open_in
-      why_here = λ i. cond (not (eqb n 0)) Nothing (occs.fault_for (by_profile (sym tw.full i) (get_or c 1 0) j.verdict) s.held (get_or c 1 0) (data_of c))
+      why_here = λ i. cond (not (eqb n 0)) None (occs.fault_for (by_profile (sym tw.full i) (get_or c 1 0) j.verdict) s.held (get_or c 1 0) (data_of c))
 
       occ_alike : Likewise k s.next j j' → Alikes (occs.occ_asks s sender c d) (occs.occ_asks t sender c' d) (occs.occ_why s sender c d) (occs.occ_why t sender c' d)
       unfolding due
@@ -270,7 +276,7 @@ module _ (k : ℕ) (low : 1 ≤ k) (s t : Session) (tw : Twins k s t) (from_k : 
         inr (o.0, o.1, (λ i. occs.beside_of (o.0.answer i) (h.1 i))))
 
     -- the data byte beside 0x13, by its verdict: of a packet that both send, and of the two clears of one log
-    fault_there : (sender : ℕ) (c c' : List ℕ) → ((occs.asked_of s.held s.worked s.next sender c).verdict ≡ Refuse 0x13
+    fault_there : (sender : ℕ) (c c' : List ℕ) → ((occs.asked_of s.held s.worked s.next sender c).verdict ≡ Refuse InvalidData
         → fault_of (shifted_record k s.held) (get_or c' 1 0) (data_of c') ≡ fault_of s.held (get_or c 1 0) (data_of c))
         → occs.asked_of t.held t.worked t.next sender c' ≡ shifted_judged k (occs.asked_of s.held s.worked s.next sender c)
         → occs.fault_for (occs.asked_of t.held t.worked t.next sender c').verdict t.held (get_or c' 1 0) (data_of c')

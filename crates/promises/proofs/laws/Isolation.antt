@@ -1,6 +1,12 @@
 -- Document 02, g: what each side hears is what it would hear alone. Assumes nothing.
 use Rattle.std.specs.Option.{unwrap_or}
-use Rattle.std.specs.Prelude.{ℕ, ◌+◌, Bool, cond, not, ◌≡◌, ltb, leb, length, get_or, Option, Some, None}
+use Rattle.std.specs.Prelude.{ℕ, ◌+◌, Bool, cond, not, ◌≡◌, ltb, leb, length, get_or, Option, Some, None, Result, Ok, Err}
+use Rattle.std.specs.Result.{is_ok}
+use Rattle.packet.specs.Packet.{Checked, status_number, packet_status}
+use Rattle.packet.proofs.laws.Exactly.{ok_is, checked_cases}
+use Rattle.packet.specs.declared.Status.{Status}
+use Rattle.packet.specs.declared.Status.TheVariants.{InvalidCommand, InvalidLength, InvalidData, ChecksumFailure, InternalError, StateProhibits}
+use Rattle.places.specs.declared.Fault.{Fault}
 use Rattle.std.proofs.Math.Bool.{true, false}
 use Rattle.std.proofs.Common.{true≢false, ◌∙◌, eqb-true}
 use Rattle.std.proofs.Math.Logic.{⊎_elim}
@@ -35,8 +41,7 @@ use Rattle.sbe.specs.Mailbox.{request_ruling, response_bytes}
 use Rattle.sbe.specs.declared.Ruling.{Ruling}
 use Rattle.sbe.specs.declared.Ruling.TheVariants.{Decline, Grant, Done, Read}
 use Rattle.places.specs.Places.{fault_of}
-use Rattle.places.specs.declared.Blame.{Blame}
-use Rattle.places.specs.declared.Blame.TheVariants.{Nothing}
+use Rattle.std.specs.Prelude.{Option, Some, None}
 use Rattle.session.specs.Session.{fresh_session, well_formed, made_of, renewed, with_timer, carried_to, carried_of}
 use Rattle.session.specs.Road.{Asks, refuses, makes, passes, due, time_passed, Said, kept, done, carried_says, settled}
 use Rattle.session.proofs.laws.Road.{refusal_keeps, error_keeps}
@@ -71,7 +76,8 @@ worked_dry r = refl
 
 asked_dry : (r : Record) (w : Worked) (next sender : ℕ) (c : List ℕ) → occs.asked_of (dry r) w next sender c ≡ occs.asked_of r w next sender c
 unfolding occs.asked_of occs.asked_for judge_of type_judged dry
-asked_dry r w next sender c = refl
+asked_dry r w next sender c =
+    checked_cases (λ (v : Checked). occs.asked_for v (dry r) w next sender c ≡ occs.asked_for v r w next sender c) (packet_status c) (λ x e. refl) (λ e. refl)
 
 poll_dry : (r : Record) (w : Worked) → poll_data (dry r) w ≡ poll_data r w
 unfolding poll_data dry
@@ -105,7 +111,7 @@ put_dry r t (SetTimer timer) = refl
 
 -- ---- an OCC exchange on a well-formed full session, and on its bench
 
-pub record AsAlone (q : Said) (why : Blame) (x : Alone) : Type 0 where
+pub record AsAlone (q : Said) (why : Option Fault) (x : Alone) : Type 0 where
   pub answer_is : q.answer ≡ x.answer
   pub why_is : why ≡ x.why
   pub reply_is : q.reply ≡ x.reply
@@ -140,17 +146,17 @@ module _ (s : Session) (ok : well_formed s ≡ true) (full : s.profile ≡ 0) (s
       go (Some used) f = carried_at e used
       go None f = absurd (true≢false f)
 
-  abbrev why_by : Verdict → Blame
+  abbrev why_by : Verdict → Option Fault
   why_by v = occs.fault_for v s.held (get_or c 1 0) (data_of c)
 
-  abbrev Same : Said → Blame → Alone → Type 0
+  abbrev Same : Said → Option Fault → Alone → Type 0
   Same q why x = (q.answer ≡ 5 → ⊥) → AsAlone q why x
 
   made_alone : (x : Judged) (ch : Change) → Same (settled s d (asked_by s sender c d x.tables (Make ch))) (why_by (Make ch)) (alone_by b c d x (Make ch))
   unfolding alone_by settled carried_says kept done occs.verdict_asks occs.fault_for
   made_alone x ch =
       let e : Edit = record { change = ch; tables = x.tables } in
-      cond_cases (λ (q : Said). Same q Nothing (alone_by b c d x (Make ch))) (carried_of s e).full (λ f h. absurd (h refl))
+      cond_cases (λ (q : Said). Same q None (alone_by b c d x (Make ch))) (carried_of s e).full (λ f h. absurd (h refl))
       (λ f h. record { answer_is = refl; why_is = refl; reply_is = refl; bench_is = carried_bench e f })
 
   by_verdict : (x : Judged) (v : Verdict) → Same (settled s d (asked_by s sender c d x.tables v)) (why_by v) (alone_by b c d x v)
@@ -187,8 +193,8 @@ module _ (s : Session) (ok : well_formed s ≡ true) (full : s.profile ≡ 0) (s
   refusal_is = ap (λ (f : Bool). occs.refusal_of f sender (length c) (length d)) ok
 
   by_refusal : (t : Bool)
-      → Same (settled s d (cond t (refuses n) (occs.occ_read s sender c d))) (cond t Nothing (occs.why_read s sender c))
-      (cond t (record { answer = n; why = Nothing; reply = d; after = b }) (alone_judged b c d (occs.asked_of b.held (worked_of b.held) b.next sender c)))
+      → Same (settled s d (cond t (refuses n) (occs.occ_read s sender c d))) (cond t None (occs.why_read s sender c))
+      (cond t (record { answer = n; why = None; reply = d; after = b }) (alone_judged b c d (occs.asked_of b.held (worked_of b.held) b.next sender c)))
   unfolding settled kept
   by_refusal true = λ h. record { answer_is = refl; why_is = refl; reply_is = refl; bench_is = refl }
   by_refusal false = read_alone

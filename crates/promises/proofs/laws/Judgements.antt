@@ -1,5 +1,10 @@
 -- A command judged in both worlds: the same verdict but for ids, or the ids ended in the second. Assumes nothing.
-use Rattle.std.specs.Prelude.{ℕ, suc, ◌≤◌, ◌<◌, Bool, true, false, not, ◌⊎◌, ◌≡◌, List, [], ◌∷◌, map, ltb, eqb, length, take, drop, Option, Some, None}
+use Rattle.std.specs.Prelude.{ℕ, suc, ◌≤◌, ◌<◌, Bool, true, false, not, ◌⊎◌, ◌≡◌, List, [], ◌∷◌, map, ltb, eqb, length, take, drop, Option, Some, None, Result, Ok, Err}
+use Rattle.std.specs.Result.{is_ok}
+use Rattle.packet.specs.Packet.{Checked, status_number}
+use Rattle.packet.proofs.laws.Exactly.{ok_is, checked_cases}
+use Rattle.packet.specs.declared.Status.{Status}
+use Rattle.packet.specs.declared.Status.TheVariants.{InvalidCommand, InvalidLength, InvalidData, ChecksumFailure, InternalError, StateProhibits}
 use Rattle.std.proofs.Math.Bool.{cond}
 use Rattle.std.proofs.Math.Logic.{inl, inr}
 use Rattle.std.proofs.Math.Path.{refl, sym, ap, subst}
@@ -8,7 +13,7 @@ use borrow.Author.Tests.{leb-true, leb-false, eqb-true, not-false, le-leb}
 use Rattle.std.proofs.Math.Dec.{leb}
 use Rattle.std.proofs.Math.ListN.{get_or}
 use Rattle.wire.specs.Wire.{be_nat}
-use Rattle.wire.proofs.laws.Cases.{else_ne, cond_elim, cond_cases, by_both}
+use Rattle.wire.proofs.laws.Cases.{else_b, else_ne, cond_elim, cond_cases, by_both}
 use Rattle.record.specs.Record.{no_log}
 use Rattle.record.specs.declared.Log.{Log}
 use Rattle.record.specs.declared.Caps.{Caps}
@@ -17,11 +22,10 @@ use Rattle.record.specs.declared.Worked.{Worked}
 use Rattle.change.specs.Logs.{pending_of, find_of}
 use Rattle.change.specs.With.{with_logs}
 use Rattle.change.specs.declared.Change.TheVariants.{Clear, Reset}
-use Rattle.sets.specs.Sets.{empty_sets, sets_of, empty_frus, frus_of}
-use Rattle.sets.specs.declared.Sets.{Sets}
-use Rattle.sets.specs.declared.Frus.{Frus}
+use Rattle.sets.specs.Sets.{throttles_of, thermal_of}
+use Rattle.record.specs.declared.Throttles.{Throttles}
 use Rattle.occ.specs.Commands.{poll_verdict, clear_at, clear_verdict, state_fits, not_ready, state_verdict, role_verdict, caps_for, sent_caps, caps_verdict, user_allowed, user_for, user_verdict, log_due, reset_for, reset_verdict}
-use Rattle.occ.specs.Judge.{plainly, sets_status, sets_judged, throttles_for, throttles_judged, frus_judged, thermal_for, thermal_judged, format_judged, configure_judged, type_judged, judge_of}
+use Rattle.occ.specs.Judge.{plainly, sets_status, sets_read, read_judged, throttles_made, throttles_read, throttles_judged, thermal_made, thermal_read, thermal_judged, format_judged, configure_judged, type_judged, judge_of}
 use Rattle.occ.specs.Open.{open_to}
 use Rattle.occ.specs.declared.Verdict.{Verdict}
 use Rattle.occ.specs.declared.Verdict.TheVariants.{Refuse, Poll, Make}
@@ -45,20 +49,20 @@ pub record Ended (next : ℕ) (j j' : Judged) : Type 0 where
   pub last : next ≡ 255
   pub reason : ℕ
   pub makes : j.verdict ≡ Make (Reset (record { id = next; reason = reason }))
-  pub refuses : j'.verdict ≡ Refuse 0x15
+  pub refuses : j'.verdict ≡ Refuse InternalError
 
 abbrev pub Likewise : ℕ → ℕ → Judged → Judged → Type 0
 Likewise k next j j' = (j' ≡ shifted_judged k j) ⊎ Ended next j j'
 
 -- a good packet is judged by its type and data
-read : (r : Record) (w : Worked) (next sender : ℕ) (c : List ℕ) → packet_status c ≡ 0 → asked_of r w next sender c ≡ judge_of r w next sender (get_or c 1 0) (data_of c)
+read : (r : Record) (w : Worked) (next sender : ℕ) (c : List ℕ) → packet_status c ≡ Ok tt → asked_of r w next sender c ≡ judge_of r w next sender (get_or c 1 0) (data_of c)
 unfolding asked_of asked_for
-read r w next sender c good = sym (else_ne _ _ good refl)
+read r w next sender c good = ap (λ (v : Checked). asked_for v r w next sender c) good
 
 -- a clear that both worlds send names an old id
-pub old_id : (k : ℕ) (c : List ℕ) → named c < k → packet_status c ≡ 0 → get_or c 1 0 ≡ 0x12 → length (data_of c) ≡ 1 → get_or (data_of c) 0 0 < k
+pub old_id : (k : ℕ) (c : List ℕ) → named c < k → packet_status c ≡ Ok tt → get_or c 1 0 ≡ 0x12 → length (data_of c) ≡ 1 → get_or (data_of c) 0 0 < k
 unfolding named
-old_id k c h good type one = subst (λ (i : ℕ). i < k) (sym (else_ne 0 _ good (else_ne 0 _ type (else_ne 0 _ one refl)))) h
+old_id k c h good type one = subst (λ (i : ℕ). i < k) (sym (else_b 0 _ (ap (λ (v : Checked). not (is_ok v)) good) (else_ne 0 _ type (else_ne 0 _ one refl)))) h
 
 module _ (k : ℕ) (low : 1 ≤ k) where
   -- ---- commands that have to do with no log are judged the same
@@ -69,7 +73,7 @@ module _ (k : ℕ) (low : 1 ≤ k) where
   abbrev FixedJudged : Judged → Type 0
   FixedJudged j = j ≡ shifted_judged k j
 
-  refusal : (status : ℕ) → Fixed (Refuse status)
+  refusal : (status : Status) → Fixed (Refuse status)
   unfolding shifted_verdict
   refusal status = refl
 
@@ -105,36 +109,31 @@ module _ (k : ℕ) (low : 1 ≤ k) where
   unfolding plainly shifted_judged
   plain_fixed v e = ap plainly e
 
-  refused_fixed : (status : ℕ) → FixedJudged (plainly (Refuse status))
+  refused_fixed : (status : Status) → FixedJudged (plainly (Refuse status))
   refused_fixed status = plain_fixed (Refuse status) (refusal status)
 
-  sets_fixed : (status : ℕ) (j : Judged) → FixedJudged j → FixedJudged (cond (not (eqb status 0)) (plainly (Refuse status)) j)
-  sets_fixed status j h = cond_elim FixedJudged (not (eqb status 0)) (refused_fixed status) h
-
-  pairs_fixed : (t : Sets) → FixedJudged (sets_judged t)
-  unfolding sets_judged shifted_judged shifted_verdict shifted_change
-  pairs_fixed t = cond_elim FixedJudged (not t.ok) (refused_fixed 0x13) refl
-
-  frus_fixed : (t : Frus) → FixedJudged (frus_judged t)
-  unfolding frus_judged shifted_judged shifted_verdict shifted_change
-  frus_fixed t = cond_elim FixedJudged (not t.ok) (refused_fixed 0x13) refl
+  read_fixed : {A : Type 0} (status : Checked) (made : A → Judged) (v : Option A) → ((t : A) → FixedJudged (made t)) → FixedJudged (read_judged made (sets_read status v))
+  unfolding read_judged sets_read
+  read_fixed (Err x) made v h = refused_fixed x
+  read_fixed (Ok x) made None h = refused_fixed InvalidData
+  read_fixed (Ok x) made (Some t) h = h t
 
   throttles_fixed : (d : List ℕ) → FixedJudged (throttles_judged d)
-  unfolding throttles_judged throttles_for
-  throttles_fixed d = sets_fixed (sets_status 12 d) _ (pairs_fixed (sets_of (get_or d 2 0) empty_sets (drop 3 d)))
+  unfolding throttles_judged throttles_read shifted_judged shifted_verdict shifted_change
+  throttles_fixed d = read_fixed (sets_status 12 d) throttles_made (throttles_of (get_or d 2 0) (drop 3 d)) (λ t. refl)
 
   thermal_fixed : (d : List ℕ) → FixedJudged (thermal_judged d)
-  unfolding thermal_judged thermal_for
-  thermal_fixed d = sets_fixed (sets_status 4 d) _ (frus_fixed (frus_of (get_or d 2 0) empty_frus (drop 3 d)))
+  unfolding thermal_judged thermal_read shifted_judged shifted_verdict shifted_change
+  thermal_fixed d = read_fixed (sets_status 4 d) thermal_made (thermal_of (get_or d 2 0) (drop 3 d)) (λ t. refl)
 
   configure_fixed : (state role : ℕ) (d : List ℕ) → FixedJudged (configure_judged state role d)
   unfolding configure_judged format_judged
   configure_fixed state role d =
-      cond_elim FixedJudged (eqb (length d) 0) (refused_fixed 0x12)
+      cond_elim FixedJudged (eqb (length d) 0) (refused_fixed InvalidLength)
       (cond_elim FixedJudged (eqb (get_or d 0 0) 0x03) (plain_fixed _ (role_fixed state d))
       (cond_elim FixedJudged (eqb (get_or d 0 0) 0x07) (plain_fixed _ (caps_fixed role d))
       (cond_elim FixedJudged (eqb (get_or d 0 0) 0x12) (throttles_fixed d)
-      (cond_elim FixedJudged (eqb (get_or d 0 0) 0x13) (thermal_fixed d) (refused_fixed 0x13)))))
+      (cond_elim FixedJudged (eqb (get_or d 0 0) 0x13) (thermal_fixed d) (refused_fixed InvalidData)))))
 
   -- ---- clear log: the log with that id, or with the shifted id, is at the same place
 
@@ -154,7 +153,7 @@ module _ (k : ℕ) (low : 1 ≤ k) where
   unfolding clear_verdict
   clear_same l d old =
       let i = get_or d 0 0 in
-      by_both (λ (v' v : Verdict). v' ≡ shifted_verdict k v) (not (eqb (length d) 1)) (λ g. refusal 0x12)
+      by_both (λ (v' v : Verdict). v' ≡ shifted_verdict k v) (not (eqb (length d) 1)) (λ g. refusal InvalidLength)
       (λ g. ap (λ (j : ℕ). clear_at (find_of j (map f l)) (map f l)) (sym (shifted_low k i (old (eqb-true (length d) 1 (not-false _ g))))) ∙ clear_shifted i l)
 
   -- ---- reset prep: the log draws the next id of its world, as long as there is one
@@ -167,21 +166,21 @@ module _ (k : ℕ) (low : 1 ≤ k) where
     fixed j e = inl e
 
     drawn : (reason : ℕ) → (leb 256 next ≡ false)
-        → Same (plainly (Make (Reset (record { id = next; reason = reason })))) (plainly (cond (leb 256 (suc next)) (Refuse 0x15) (Make (Reset (record { id = suc next; reason = reason })))))
+        → Same (plainly (Make (Reset (record { id = next; reason = reason })))) (plainly (cond (leb 256 (suc next)) (Refuse InternalError) (Make (Reset (record { id = suc next; reason = reason })))))
     unfolding plainly shifted_judged shifted_verdict shifted_change shifted_log
     drawn reason room =
         cond_cases (λ (v : Verdict). Same (plainly (Make (Reset (record { id = next; reason = reason })))) (plainly v)) (leb 256 (suc next))
         (λ g. inr (record { last = omega (arith, leb-true 256 (suc next) g, leb-false 256 next room); reason = reason; makes = refl; refuses = refl }))
         (λ g. inl (λ i. plainly (Make (Reset (record { id = sym (shifted_high k next from_k) i; reason = reason })))))
 
-    due : (reason : ℕ) → Same (plainly (cond (leb 256 next) (Refuse 0x15) (Make (Reset (record { id = next; reason = reason })))))
-        (plainly (cond (leb 256 (suc next)) (Refuse 0x15) (Make (Reset (record { id = suc next; reason = reason })))))
+    due : (reason : ℕ) → Same (plainly (cond (leb 256 next) (Refuse InternalError) (Make (Reset (record { id = next; reason = reason })))))
+        (plainly (cond (leb 256 (suc next)) (Refuse InternalError) (Make (Reset (record { id = suc next; reason = reason })))))
     due reason = go (leb 256 next) refl
       where
-        go : (b : Bool) → leb 256 next ≡ b → Same (plainly (cond b (Refuse 0x15) (Make (Reset (record { id = next; reason = reason })))))
-            (plainly (cond (leb 256 (suc next)) (Refuse 0x15) (Make (Reset (record { id = suc next; reason = reason })))))
-        go true g = subst (λ (b : Bool). Same (plainly (Refuse 0x15)) (plainly (cond b (Refuse 0x15) (Make (Reset (record { id = suc next; reason = reason }))))))
-            (sym (le-leb 256 (suc next) (omega (arith, leb-true 256 next g)))) (fixed _ (refused_fixed 0x15))
+        go : (b : Bool) → leb 256 next ≡ b → Same (plainly (cond b (Refuse InternalError) (Make (Reset (record { id = next; reason = reason })))))
+            (plainly (cond (leb 256 (suc next)) (Refuse InternalError) (Make (Reset (record { id = suc next; reason = reason })))))
+        go true g = subst (λ (b : Bool). Same (plainly (Refuse InternalError)) (plainly (cond b (Refuse InternalError) (Make (Reset (record { id = suc next; reason = reason }))))))
+            (sym (le-leb 256 (suc next) (omega (arith, leb-true 256 next g)))) (fixed _ (refused_fixed InternalError))
         go false g = drawn reason g
 
     no_log_made : FixedJudged (plainly (Make (Reset no_log)))
@@ -198,18 +197,18 @@ module _ (k : ℕ) (low : 1 ≤ k) where
     reset_same : (role : ℕ) (l : List Log) (d : List ℕ) → Same (plainly (reset_verdict role l next d)) (plainly (reset_verdict role (map f l) (suc next) d))
     unfolding reset_verdict reset_for
     reset_same role l d =
-        by_both SamePlain (not (eqb (length d) 2)) (λ g. fixed _ (refused_fixed 0x12))
-        (λ g. by_both SamePlain (not (eqb (get_or d 0 0) 0)) (λ g. fixed _ (refused_fixed 0x13))
-        (λ g. by_both SamePlain (ltb 2 (get_or d 1 0)) (λ g. fixed _ (refused_fixed 0x13))
+        by_both SamePlain (not (eqb (length d) 2)) (λ g. fixed _ (refused_fixed InvalidLength))
+        (λ g. by_both SamePlain (not (eqb (get_or d 0 0) 0)) (λ g. fixed _ (refused_fixed InvalidData))
+        (λ g. by_both SamePlain (ltb 2 (get_or d 1 0)) (λ g. fixed _ (refused_fixed InvalidData))
         (λ g. by_both SamePlain (not (log_due role (get_or d 1 0))) (λ g. fixed _ no_log_made)
-        (λ g. subst (λ (n : ℕ). SamePlain (cond (leb 4 (pending_of l)) (Refuse 0x15) one) (cond (leb 4 n) (Refuse 0x15) other)) (sym (pending_shifted k low l))
-        (by_both SamePlain (leb 4 (pending_of l)) (λ g. fixed _ (refused_fixed 0x15)) (λ g. due (get_or d 1 0)))))))
+        (λ g. subst (λ (n : ℕ). SamePlain (cond (leb 4 (pending_of l)) (Refuse InternalError) one) (cond (leb 4 n) (Refuse InternalError) other)) (sym (pending_shifted k low l))
+        (by_both SamePlain (leb 4 (pending_of l)) (λ g. fixed _ (refused_fixed InternalError)) (λ g. due (get_or d 1 0)))))))
       where
         one : Verdict
-        one = cond (leb 256 next) (Refuse 0x15) (Make (Reset (record { id = next; reason = get_or d 1 0 })))
+        one = cond (leb 256 next) (Refuse InternalError) (Make (Reset (record { id = next; reason = get_or d 1 0 })))
 
         other : Verdict
-        other = cond (leb 256 (suc next)) (Refuse 0x15) (Make (Reset (record { id = suc next; reason = get_or d 1 0 })))
+        other = cond (leb 256 (suc next)) (Refuse InternalError) (Make (Reset (record { id = suc next; reason = get_or d 1 0 })))
 
     -- ---- any command
 
@@ -225,26 +224,26 @@ module _ (k : ℕ) (low : 1 ≤ k) where
           (λ g. by_both Same (eqb kind 0x20) (λ g. fixed _ (plain_fixed _ (state_fixed w d)))
           (λ g. by_both Same (eqb kind 0x21) (λ g. fixed _ (configure_fixed r.state r.role d))
           (λ g. by_both Same (eqb kind 0x22) (λ g. fixed _ (plain_fixed _ (user_fixed r.role r.received.caps r.caps d)))
-          (λ g. by_both Same (eqb kind 0x25) (λ g. reset_same r.role r.logs d) (λ g. fixed _ (refused_fixed 0x11)))))))
+          (λ g. by_both Same (eqb kind 0x25) (λ g. reset_same r.role r.logs d) (λ g. fixed _ (refused_fixed InvalidCommand)))))))
 
       pub judge_same : (sender kind : ℕ) (d : List ℕ) → (kind ≡ 0x12 → length d ≡ 1 → get_or d 0 0 < k)
           → Same (judge_of r w next sender kind d) (judge_of R w (suc next) sender kind d)
       unfolding judge_of
-      judge_same sender kind d old = by_both Same (not (open_to sender kind)) (λ g. fixed _ (refused_fixed 0x11)) (λ g. type_same kind d old)
+      judge_same sender kind d old = by_both Same (not (open_to sender kind)) (λ g. fixed _ (refused_fixed InvalidCommand)) (λ g. type_same kind d old)
 
       -- each world's clear names its own id
       pub judge_clears : (sender i : ℕ) → Same (judge_of r w next sender 0x12 (i ∷ [])) (judge_of R w (suc next) sender 0x12 (shifted k i ∷ []))
       unfolding judge_of type_judged clear_verdict shifted_record with_logs
       judge_clears sender i =
-          by_both Same (not (open_to sender 0x12)) (λ g. fixed _ (refused_fixed 0x11)) (λ g. plain_same _ _ (clear_shifted i r.logs))
+          by_both Same (not (open_to sender 0x12)) (λ g. fixed _ (refused_fixed InvalidCommand)) (λ g. plain_same _ _ (clear_shifted i r.logs))
 
       -- ---- any packet
 
       pub asked_same : (sender : ℕ) (c : List ℕ) → named c < k → Same (asked_of r w next sender c) (asked_of R w (suc next) sender c)
       unfolding asked_of asked_for
       asked_same sender c h =
-          by_both Same (not (eqb (packet_status c) 0)) (λ g. fixed _ (refused_fixed (packet_status c)))
-          (λ g. judge_same sender (get_or c 1 0) (data_of c) (old_id k c h (eqb-true (packet_status c) 0 (not-false _ g))))
+          checked_cases (λ (v : Checked). Same (asked_for v r w next sender c) (asked_for v R w (suc next) sender c)) (packet_status c) (λ x e. fixed _ (refused_fixed x))
+          (λ e. judge_same sender (get_or c 1 0) (data_of c) (old_id k c h e))
 
       pub asked_clears : (sender : ℕ) (c c' : List ℕ) → Clears k c c' → Same (asked_of r w next sender c) (asked_of R w (suc next) sender c')
       asked_clears sender c c' h =

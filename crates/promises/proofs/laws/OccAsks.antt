@@ -1,5 +1,10 @@
 -- What each OCC command asks for, with what is known of it where it is accepted. Assumes nothing.
-use Rattle.std.specs.Prelude.{ℕ, ◌*◌, ◌<◌, ◌≤◌, false, not, ◌≡◌, List, eqb, ltb, leb, length, take, drop, replicate, Option, Some, None}
+use Rattle.std.specs.Prelude.{ℕ, ◌*◌, ◌<◌, ◌≤◌, false, not, ◌≡◌, List, eqb, ltb, leb, length, take, drop, replicate, Option, Some, None, Result, Ok, Err}
+use Rattle.std.specs.Result.{is_ok}
+use Rattle.packet.specs.Packet.{Checked, status_number}
+use Rattle.packet.proofs.laws.Exactly.{ok_is, checked_cases}
+use Rattle.packet.specs.declared.Status.{Status}
+use Rattle.packet.specs.declared.Status.TheVariants.{InvalidCommand, InvalidLength, InvalidData, ChecksumFailure, InternalError, StateProhibits}
 use Rattle.std.proofs.Math.Bool.{true≢false}
 use Rattle.std.proofs.Math.Path.{refl}
 use Rattle.std.proofs.Common.{sym, ap, ◌∙◌, arith, length-drop}
@@ -17,14 +22,14 @@ use Rattle.change.specs.Change.{no_tables, kind_of}
 use Rattle.change.specs.declared.Tables.{Tables}
 use Rattle.change.specs.declared.Change.{Change}
 use Rattle.change.specs.declared.Change.TheVariants.{Clear, SetState, SetRole, SetCaps, SetUser, SetThermal, SetThrottles, Reset}
-use Rattle.sets.specs.Sets.{empty_sets, sets_of, empty_frus, frus_of}
+use Rattle.sets.specs.Sets.{throttles_of, thermal_of}
 use Rattle.sets.specs.Conditions.{SentPairs, SentFrus}
 use Rattle.sets.proofs.laws.Sent.{sets_sent, frus_sent}
 use Rattle.occ.specs.declared.Verdict.{Verdict}
 use Rattle.occ.specs.declared.Verdict.TheVariants.{Refuse, Poll, Make}
 use Rattle.occ.specs.declared.Judged.{Judged}
 use Rattle.occ.specs.Commands.{poll_verdict, clear_at, clear_verdict, state_fits, not_ready, state_verdict, role_verdict, caps_for, sent_caps, caps_verdict, user_allowed, user_for, user_verdict, log_due, reset_for, reset_verdict}
-use Rattle.occ.specs.Judge.{plainly, sets_status, sets_judged, throttles_for, throttles_judged, frus_judged, thermal_for, thermal_judged, format_judged, configure_judged, type_judged, judge_of}
+use Rattle.occ.specs.Judge.{plainly, sets_status, sets_read, read_judged, throttles_made, throttles_read, throttles_judged, thermal_made, thermal_read, thermal_judged, format_judged, configure_judged, type_judged, judge_of}
 use Rattle.occ.specs.Open.{open_to}
 use Rattle.occ.proofs.laws.Exactly.{log_due_exactly, sets_status_exactly}
 use Rattle.promises.specs.Demand2.{kind_for}
@@ -32,7 +37,7 @@ use Rattle.promises.specs.Effects.{LogDue}
 
 module _ (r : Record) (next type : ℕ) (d : List ℕ) where
   pub data CommandAsks : Verdict → Tables → Type 0 where
-    refuses : (n : ℕ) → CommandAsks (Refuse n) no_tables
+    refuses : (x : Status) → CommandAsks (Refuse x) no_tables
     polls : type ≡ 0x00 → CommandAsks Poll no_tables
     clears : type ≡ 0x12 → (place : ℕ) → find_of (get_or d 0 0) r.logs ≡ Some place → CommandAsks (Make (Clear place (get_or r.logs place no_log))) no_tables
     sets_state : type ≡ 0x20 → CommandAsks (Make (SetState (get_or d 1 0))) no_tables
@@ -54,55 +59,55 @@ module _ (r : Record) (next type : ℕ) (d : List ℕ) where
 
   poll_asks : type ≡ 0x00 → Plainly (poll_verdict d)
   unfolding poll_verdict
-  poll_asks e = cond_elim Plainly (not (eqb (length d) 1)) (refuses 0x12) (cond_elim Plainly (not (eqb (get_or d 0 0) 0x10)) (refuses 0x13) (polls e))
+  poll_asks e = cond_elim Plainly (not (eqb (length d) 1)) (refuses InvalidLength) (cond_elim Plainly (not (eqb (get_or d 0 0) 0x10)) (refuses InvalidData) (polls e))
 
   clear_asks : type ≡ 0x12 → Plainly (clear_verdict r.logs d)
   unfolding clear_verdict clear_at
   clear_asks e =
-      cond_elim Plainly (not (eqb (length d) 1)) (refuses 0x12)
+      cond_elim Plainly (not (eqb (length d) 1)) (refuses InvalidLength)
       (by_place (find_of (get_or d 0 0) r.logs) refl)
     where
       by_place : (o : Option ℕ) → find_of (get_or d 0 0) r.logs ≡ o → Plainly (clear_at o r.logs)
-      by_place None q = refuses 0x13
+      by_place None q = refuses InvalidData
       by_place (Some place) q = clears e place q
 
   state_asks : (w : Worked) → type ≡ 0x20 → Plainly (state_verdict w d)
   unfolding state_verdict
   state_asks w e =
-      cond_elim Plainly (not (eqb (length d) 3)) (refuses 0x12)
-      (cond_elim Plainly (not (state_fits (get_or d 0 0) (get_or d 1 0) (get_or d 2 0))) (refuses 0x13)
-      (cond_elim Plainly (not_ready w (get_or d 1 0)) (refuses 0x16) (sets_state e)))
+      cond_elim Plainly (not (eqb (length d) 3)) (refuses InvalidLength)
+      (cond_elim Plainly (not (state_fits (get_or d 0 0) (get_or d 1 0) (get_or d 2 0))) (refuses InvalidData)
+      (cond_elim Plainly (not_ready w (get_or d 1 0)) (refuses StateProhibits) (sets_state e)))
 
   role_asks : (state : ℕ) → type ≡ 0x21 → get_or d 0 0 ≡ 0x03 → Plainly (role_verdict state d)
   unfolding role_verdict
   role_asks state e f =
-      cond_elim Plainly (not (eqb (length d) 2)) (refuses 0x12)
-      (cond_elim Plainly (ltb 1 (get_or d 1 0)) (refuses 0x13) (cond_elim Plainly (not (eqb state 1)) (refuses 0x16) (sets_role e f)))
+      cond_elim Plainly (not (eqb (length d) 2)) (refuses InvalidLength)
+      (cond_elim Plainly (ltb 1 (get_or d 1 0)) (refuses InvalidData) (cond_elim Plainly (not (eqb state 1)) (refuses StateProhibits) (sets_role e f)))
 
   caps_asks : (role : ℕ) → type ≡ 0x21 → get_or d 0 0 ≡ 0x07 → Plainly (caps_verdict role d)
   unfolding caps_verdict caps_for
   caps_asks role e f =
-      cond_elim Plainly (not (eqb (length d) 8)) (refuses 0x12)
-      (cond_elim Plainly (not (eqb (get_or d 1 0) 0x10)) (refuses 0x13)
-      (cond_elim Plainly (ltb (sent_caps d).max (sent_caps d).min) (refuses 0x13)
-      (cond_elim Plainly (eqb role 0) (refuses 0x16) (sets_caps e f))))
+      cond_elim Plainly (not (eqb (length d) 8)) (refuses InvalidLength)
+      (cond_elim Plainly (not (eqb (get_or d 1 0) 0x10)) (refuses InvalidData)
+      (cond_elim Plainly (ltb (sent_caps d).max (sent_caps d).min) (refuses InvalidData)
+      (cond_elim Plainly (eqb role 0) (refuses StateProhibits) (sets_caps e f))))
 
   user_asks : (role got : ℕ) (caps : Caps) → type ≡ 0x22 → Plainly (user_verdict role got caps d)
   unfolding user_verdict user_for
   user_asks role got caps e =
-      cond_elim Plainly (not (eqb (length d) 2)) (refuses 0x12)
-      (cond_elim Plainly (not (user_allowed got caps (be_nat (take 2 d)))) (refuses 0x13) (cond_elim Plainly (eqb role 0) (refuses 0x16) (sets_user e)))
+      cond_elim Plainly (not (eqb (length d) 2)) (refuses InvalidLength)
+      (cond_elim Plainly (not (user_allowed got caps (be_nat (take 2 d)))) (refuses InvalidData) (cond_elim Plainly (eqb role 0) (refuses StateProhibits) (sets_user e)))
 
   reset_asks : type ≡ 0x25 → Plainly (reset_verdict r.role r.logs next d)
   unfolding reset_verdict reset_for
   reset_asks e =
-      cond_elim Plainly (not (eqb (length d) 2)) (refuses 0x12)
-      (cond_elim Plainly (not (eqb (get_or d 0 0) 0)) (refuses 0x13)
-      (cond_elim Plainly (ltb 2 (get_or d 1 0)) (refuses 0x13)
+      cond_elim Plainly (not (eqb (length d) 2)) (refuses InvalidLength)
+      (cond_elim Plainly (not (eqb (get_or d 0 0) 0)) (refuses InvalidData)
+      (cond_elim Plainly (ltb 2 (get_or d 1 0)) (refuses InvalidData)
       (cond_cases Plainly (not (log_due r.role (get_or d 1 0)))
       (λ f. resets e (λ due. true≢false (sym ((log_due_exactly r.role (get_or d 1 0)).1 due) ∙ not-true _ f)))
-      (λ f. cond_cases Plainly (leb 4 (pending_of r.logs)) (λ g. refuses 0x15)
-      (λ g. cond_elim Plainly (leb 256 next) (refuses 0x15)
+      (λ f. cond_cases Plainly (leb 4 (pending_of r.logs)) (λ g. refuses InternalError)
+      (λ g. cond_elim Plainly (leb 256 next) (refuses InternalError)
       (resets_logged e ((log_due_exactly r.role (get_or d 1 0)).0 (not-false _ f)) (leb-false 4 _ g)))))))
 
   -- ---- with the tables beside the change
@@ -110,54 +115,53 @@ module _ (r : Record) (next type : ℕ) (d : List ℕ) where
   abbrev Judges : Judged → Type 0
   Judges j = CommandAsks j.verdict j.tables
 
-  refused : (n : ℕ) → Judges (plainly (Refuse n))
+  refused : (x : Status) → Judges (plainly (Refuse x))
   unfolding plainly
-  refused n = refuses n
+  refused x = refuses x
 
   plain : (v : Verdict) → Plainly v → Judges (plainly v)
   unfolding plainly
   plain v a = a
 
   -- the sets that the count promises are there
-  sets_there : (width : ℕ) → not (eqb (sets_status width d) 0) ≡ false → get_or d 2 0 * width ≤ length (drop 3 d)
-  sets_there width f = let h = (sets_status_exactly width d).0 (not-false _ f) in simp length-drop (omega (arith, h.1.0))
+  sets_there : (width : ℕ) → sets_status width d ≡ Ok tt → get_or d 2 0 * width ≤ length (drop 3 d)
+  sets_there width f = let h = (sets_status_exactly width d).0 (ap is_ok f) in simp length-drop (omega (arith, h.1.0))
+
+  read_asks : {A : Type 0} (status : Checked) (made : A → Judged) (v : Option A) → ((t : A) → status ≡ Ok tt → v ≡ Some t → Judges (made t))
+      → Judges (read_judged made (sets_read status v))
+  unfolding read_judged sets_read
+  read_asks (Err x) made v h = refused x
+  read_asks (Ok x) made None h = refused InvalidData
+  read_asks (Ok x) made (Some t) h = h t refl refl
 
   throttles_asks : type ≡ 0x21 → get_or d 0 0 ≡ 0x12 → Judges (throttles_judged d)
-  unfolding throttles_judged throttles_for sets_judged
-  throttles_asks e f =
-      let t = sets_of (get_or d 2 0) empty_sets (drop 3 d) in
-      cond_cases Judges (not (eqb (sets_status 12 d) 0)) (λ g. refused (sets_status 12 d))
-      (λ g. cond_cases Judges (not t.ok) (λ h. refused 0x13)
-      (λ h. sets_throttles e f t.table (sets_sent (get_or d 2 0) (drop 3 d) (not-false _ h) (sets_there 12 g))))
+  unfolding throttles_judged throttles_read
+  throttles_asks e f = read_asks (sets_status 12 d) throttles_made _ (λ t g h. sets_throttles e f t (sets_sent (get_or d 2 0) (drop 3 d) t h (sets_there 12 g)))
 
   thermal_asks : type ≡ 0x21 → get_or d 0 0 ≡ 0x13 → Judges (thermal_judged d)
-  unfolding thermal_judged thermal_for frus_judged
-  thermal_asks e f =
-      let t = frus_of (get_or d 2 0) empty_frus (drop 3 d) in
-      cond_cases Judges (not (eqb (sets_status 4 d) 0)) (λ g. refused (sets_status 4 d))
-      (λ g. cond_cases Judges (not t.ok) (λ h. refused 0x13)
-      (λ h. sets_thermal e f t.bytes (frus_sent (get_or d 2 0) (drop 3 d) (not-false _ h) (sets_there 4 g))))
+  unfolding thermal_judged thermal_read
+  thermal_asks e f = read_asks (sets_status 4 d) thermal_made _ (λ t g h. sets_thermal e f t (frus_sent (get_or d 2 0) (drop 3 d) t h (sets_there 4 g)))
 
   configure_asks : (state role : ℕ) → type ≡ 0x21 → Judges (configure_judged state role d)
   unfolding configure_judged format_judged
   configure_asks state role e =
       let format = get_or d 0 0 in
-      cond_elim Judges (eqb (length d) 0) (refused 0x12)
+      cond_elim Judges (eqb (length d) 0) (refused InvalidLength)
       (cond_cases Judges (eqb format 0x03) (λ f. plain _ (role_asks state e (eqb-true format 0x03 f)))
       (λ _. cond_cases Judges (eqb format 0x07) (λ f. plain _ (caps_asks role e (eqb-true format 0x07 f)))
       (λ _. cond_cases Judges (eqb format 0x12) (λ f. throttles_asks e (eqb-true format 0x12 f))
-      (λ _. cond_cases Judges (eqb format 0x13) (λ f. thermal_asks e (eqb-true format 0x13 f)) (λ _. refused 0x13)))))
+      (λ _. cond_cases Judges (eqb format 0x13) (λ f. thermal_asks e (eqb-true format 0x13 f)) (λ _. refused InvalidData)))))
 
   pub asks : (w : Worked) (sender : ℕ) → Judges (judge_of r w next sender type d)
   unfolding judge_of type_judged
   asks w sender =
-      cond_elim Judges (not (open_to sender type)) (refused 0x11)
+      cond_elim Judges (not (open_to sender type)) (refused InvalidCommand)
       (cond_cases Judges (eqb type 0x00) (λ f. plain _ (poll_asks (eqb-true type 0x00 f)))
       (λ _. cond_cases Judges (eqb type 0x12) (λ f. plain _ (clear_asks (eqb-true type 0x12 f)))
       (λ _. cond_cases Judges (eqb type 0x20) (λ f. plain _ (state_asks w (eqb-true type 0x20 f)))
       (λ _. cond_cases Judges (eqb type 0x21) (λ f. configure_asks r.state r.role (eqb-true type 0x21 f))
       (λ _. cond_cases Judges (eqb type 0x22) (λ f. plain _ (user_asks r.role r.received.caps r.caps (eqb-true type 0x22 f)))
-      (λ _. cond_cases Judges (eqb type 0x25) (λ f. plain _ (reset_asks (eqb-true type 0x25 f))) (λ _. refused 0x11)))))))
+      (λ _. cond_cases Judges (eqb type 0x25) (λ f. plain _ (reset_asks (eqb-true type 0x25 f))) (λ _. refused InvalidCommand)))))))
 
   -- ---- read off: only a poll asks for one, and a change's kind is that of its command
 

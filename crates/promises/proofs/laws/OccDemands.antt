@@ -1,4 +1,10 @@
 -- Demands 1 and 2 of the call `occ`, read off its ways. Assumes nothing.
+use Rattle.std.specs.Prelude.{Err, Ok as Good}
+use Rattle.std.specs.Result.{is_ok}
+use Rattle.packet.specs.Packet.{Checked, status_number}
+use Rattle.packet.proofs.laws.Exactly.{ok_is, checked_cases}
+use Rattle.packet.specs.declared.Status.{Status}
+use Rattle.packet.specs.declared.Status.TheVariants.{InvalidCommand, InvalidLength, InvalidData, ChecksumFailure, InternalError, StateProhibits}
 use Rattle.std.specs.Prelude.{ℕ, ◌+◌, ◌≤◌, true, false, ◌↔◌, ◌⊎◌, ◌≡◌, eqb}
 use Rattle.std.proofs.Math.Bool.{false≢true}
 use Rattle.std.proofs.Common.{true≢false, subst, ◌∙◌, arith, eqb-true}
@@ -17,11 +23,13 @@ use Rattle.record.specs.declared.Worked.{Worked}
 use Rattle.change.specs.declared.Change.{Change}
 use Rattle.packet.specs.Packet.{packet_status, data_of, reply_bytes, no_log_id, replied}
 use Rattle.packet.specs.Conditions.{Overlong, Fits}
-use Rattle.packet.proofs.laws.Exactly.{status_summed, status_unsummed, status_overlong, by_row, good_exactly}
+use Rattle.packet.proofs.laws.Exactly.{number_in, status_summed, status_unsummed, status_overlong, by_row, good_exactly}
+use Rattle.occ.proofs.laws.Statuses.{Refuses, refuses_as}
+use Rattle.occ.proofs.laws.Open.{only_wrong}
 use Rattle.poll.specs.Poll.{poll_data}
 use Rattle.poll.proofs.laws.Poll.{data_fits}
 use Rattle.occ.specs.Conditions.{CommandOk, accepts}
-use Rattle.occ.specs.Open.{open_in, shut, by_profile}
+use Rattle.occ.specs.Open.{shut_status, open_in, shut, by_profile}
 use Rattle.occ.specs.declared.Verdict.{Verdict}
 use Rattle.occ.specs.declared.Verdict.TheVariants.{Refuse, Poll, Make}
 use Rattle.occ.specs.Statuses.{CommandStatus}
@@ -55,41 +63,45 @@ answers_kept n t y = by_is Answers refl (λ m e. sym e)
 
 -- ---- a type that the profile shuts (k)
 
-same_refusal : (m n : ℕ) → Refuse m ≡ Refuse n → m ≡ n
-same_refusal m n e = cc
-
-not_accepted : {A : Type 0} (v : Verdict) (n : ℕ) → accepts v ≡ true → v ≡ Refuse n → A
+not_accepted : {A : Type 0} (v : Verdict) (n : ℕ) → accepts v ≡ true → Refuses v n → A
 unfolding accepts
-not_accepted v n a e = absurd (false≢true (sym (ap accepts e) ∙ a))
+not_accepted v n a e = absurd (false≢true (sym (ap accepts e.1) ∙ a))
 
 shut_refuses : (v : Verdict) → accepts (shut v) ≡ false
 unfolding shut accepts
-shut_refuses (Refuse n) = cond_elim (λ (v : Verdict). accepts v ≡ false) (eqb n 0x15) refl refl
+shut_refuses (Refuse x) = refl
 shut_refuses Poll = refl
 shut_refuses (Make ch) = refl
 
 -- its own refusal, but for 0x15; 0x16 for that, and for what would be done
 abbrev ShutAs : Verdict → ℕ → Type 0
-ShutAs v n = ((v ≡ Refuse n) and (n ≡ 0x15 → ⊥)) ⊎ ((n ≡ 0x16) and ((v ≡ Refuse 0x15) ⊎ (accepts v ≡ true)))
+ShutAs v n = (Refuses v n and (n ≡ 0x15 → ⊥)) ⊎ ((n ≡ 0x16) and (Refuses v 0x15 ⊎ (accepts v ≡ true)))
 
-shut_done : (v : Verdict) (n : ℕ) → accepts v ≡ true → (Refuse 0x16 ≡ Refuse n) ↔ ShutAs v n
+shut_done : (v : Verdict) (n : ℕ) → accepts v ≡ true → Refuses (Refuse StateProhibits) n ↔ ShutAs v n
 shut_done v n a = (
-  λ e. inr (sym (same_refusal 0x16 n e), inr a),
-  ⊎_elim (λ h. not_accepted v n a h.0) (λ h. ap Refuse (sym h.0)),
+  λ e. inr (refuses_as StateProhibits n e, inr a),
+  ⊎_elim (λ h. not_accepted v n a h.0) (λ h. (StateProhibits, refl, h.0)),
 )
 
-shut_exactly : (v : Verdict) (n : ℕ) → (shut v ≡ Refuse n) ↔ ShutAs v n
-unfolding shut accepts
-shut_exactly (Refuse k) n =
-    cond_cases (λ (x : Verdict). (x ≡ Refuse n) ↔ ShutAs (Refuse k) n) (eqb k 0x15)
-    (λ t. let z = eqb-true k 0x15 t in (
-      λ e. inr (sym (same_refusal 0x16 n e), inl (ap Refuse z)),
-      ⊎_elim (λ h. absurd (h.1 (sym (same_refusal k n h.0) ∙ z))) (λ h. ap Refuse (sym h.0)),
-    ))
-    (λ t. let z = eqb-false k 0x15 t in (
-      λ e. inl (e, λ h. z (same_refusal k n e ∙ h)),
-      ⊎_elim (λ h. h.0) (λ h. ⊎_elim (λ e. absurd (z (same_refusal k 0x15 e))) (λ a. absurd (false≢true a)) h.1),
-    ))
+-- one that stays
+shut_stays : (x : Status) (n : ℕ) → (status_number x ≡ 0x15 → ⊥) → Refuses (Refuse x) n ↔ ShutAs (Refuse x) n
+unfolding accepts
+shut_stays x n z = (
+  λ e. inl (e, λ h. z (sym (refuses_as x n e) ∙ h)),
+  ⊎_elim (λ h. h.0) (λ h. ⊎_elim (λ e. absurd (z (sym (refuses_as x 0x15 e)))) (λ a. absurd (false≢true a)) h.1),
+)
+
+shut_exactly : (v : Verdict) (n : ℕ) → Refuses (shut v) n ↔ ShutAs v n
+unfolding shut shut_status accepts
+shut_exactly (Refuse InvalidCommand) n = shut_stays InvalidCommand n (λ e. omega (arith, e))
+shut_exactly (Refuse InvalidLength) n = shut_stays InvalidLength n (λ e. omega (arith, e))
+shut_exactly (Refuse InvalidData) n = shut_stays InvalidData n (λ e. omega (arith, e))
+shut_exactly (Refuse ChecksumFailure) n = shut_stays ChecksumFailure n (λ e. omega (arith, e))
+shut_exactly (Refuse InternalError) n = (
+  λ e. inr (refuses_as StateProhibits n e, inl (InternalError, refl, refl)),
+  ⊎_elim (λ h. absurd (h.1 (refuses_as InternalError n h.0))) (λ h. (StateProhibits, refl, h.0)),
+)
+shut_exactly (Refuse StateProhibits) n = shut_stays StateProhibits n (λ e. omega (arith, e))
 shut_exactly Poll n = shut_done Poll n refl
 shut_exactly (Make ch) n = shut_done (Make ch) n refl
 
@@ -146,11 +158,11 @@ module _ (s : Session) (typed : TypedSession s) (sender : ℕ) (c d : List ℕ) 
       λ h. ap accepts (open_stays h.1) ∙ judged_exactly.1 h.0,
     )
 
-    asked_well : packet_status c ≡ 0 → accepts verdict ≡ true → WellAsked s sender c
+    asked_well : packet_status c ≡ Good tt → accepts verdict ≡ true → WellAsked s sender c
     unfolding WellAsked
     asked_well z h = let g = (good_exactly c).0 z in (g.0, (g.1, accepted_exactly.0 h))
 
-    pub well_read : WellAsked s sender c → packet_status c ≡ 0
+    pub well_read : WellAsked s sender c → packet_status c ≡ Good tt
     unfolding WellAsked
     well_read h = (good_exactly c).1 (h.0, h.1.0)
 
@@ -158,16 +170,23 @@ module _ (s : Session) (typed : TypedSession s) (sender : ℕ) (c d : List ℕ) 
     unfolding WellAsked
     well_judged h = accepted_exactly.1 h.1.1
 
+    -- a packet with a status of its own
+    ill_good : (x : Status) → packet_status c ≡ Err x → packet_status c ≡ Good tt → ⊥
+    ill_good x z g = false≢true (ap is_ok (sym z ∙ g))
+
+    pub ill_well : (x : Status) → packet_status c ≡ Err x → WellAsked s sender c → ⊥
+    ill_well x z h = ill_good x z (well_read h)
+
     -- a verdict that refuses, polls, makes a change
-    pub not_refused : (n : ℕ) → verdict ≡ Refuse n → WellAsked s sender c → ⊥
+    pub not_refused : (n : Status) → verdict ≡ Refuse n → WellAsked s sender c → ⊥
     unfolding accepts
     not_refused n v h = false≢true (sym (ap accepts v) ∙ well_judged h)
 
-    polled_well : packet_status c ≡ 0 → verdict ≡ Poll → WellAsked s sender c
+    polled_well : packet_status c ≡ Good tt → verdict ≡ Poll → WellAsked s sender c
     unfolding accepts
     polled_well z v = asked_well z (ap accepts v)
 
-    made_well : packet_status c ≡ 0 → (ch : Change) → verdict ≡ Make ch → WellAsked s sender c
+    made_well : packet_status c ≡ Good tt → (ch : Change) → verdict ≡ Make ch → WellAsked s sender c
     unfolding accepts
     made_well z ch v = asked_well z (ap accepts v)
 
@@ -235,8 +254,8 @@ module _ (s : Session) (typed : TypedSession s) (sender : ℕ) (c d : List ℕ) 
 
     pub heard_exactly : (q : Said) (e : Deed) → Heard s sender c d q e → Succeeded q ↔ Fine
     unfolding kept done
-    heard_exactly q e (ill_read z) = (λ h. absurd (told_apart (packet_status c) (sym (error_is (packet_status c)) ∙ h.1)), λ h. absurd (z (well_read h.0)))
-    heard_exactly q e (declined z n v) = (λ h. absurd (told_apart n (sym (error_is n) ∙ h.1)), λ h. absurd (not_refused n v h.0))
+    heard_exactly q e (ill_read x z) = (λ h. absurd (told_apart (status_number x) (sym (error_is (status_number x)) ∙ h.1)), λ h. absurd (ill_well x z h.0))
+    heard_exactly q e (declined z n v) = (λ h. absurd (told_apart (status_number n) (sym (error_is (status_number n)) ∙ h.1)), λ h. absurd (not_refused n v h.0))
     heard_exactly q e (polled z v) = (λ h. (polled_well z v, λ n. absurd (n (polled_type v))), λ h. (refl, poll_is (polled_type v)))
     heard_exactly q e (no_room_lem z ch v full) =
         (λ h. absurd (omega (arith, h.0)), λ h. absurd (not-le_of_lt (made_none ch v full) (h.1 (made_type ch v))))
@@ -248,7 +267,7 @@ module _ (s : Session) (typed : TypedSession s) (sender : ℕ) (c d : List ℕ) 
     Full = WellAsked s sender c and NotPoll c and NoRoom s (occ_kind c)
 
     heard_answer : (q : Said) (e : Deed) → Heard s sender c d q e → ByTable Answers q (row 5 Full (is 0))
-    heard_answer q e (ill_read z) = miss Answers (λ h. z (well_read h.0)) (answers_0 _ _)
+    heard_answer q e (ill_read x z) = miss Answers (λ h. ill_well x z h.0) (answers_0 _ _)
     heard_answer q e (declined z n v) = miss Answers (λ h. not_refused n v h.0) (answers_0 _ _)
     heard_answer q e (polled z v) = miss Answers (λ h. h.1.0 (polled_type v)) (answers_0 _ _)
     heard_answer q e (no_room_lem z ch v full) = hit Answers (made_well z ch v, (made_type ch v, made_none ch v full)) (answers_kept _ _ _)
@@ -275,13 +294,13 @@ module _ (s : Session) (typed : TypedSession s) (sender : ℕ) (c d : List ℕ) 
     abbrev CommandSays : ℕ → Type 0
     CommandSays = CommandStatus s.held (worked_of s.held) s.next sender type (data_of c)
 
-    command_rows : (n : ℕ) → (own ≡ Refuse n) ↔ CommandSays n
+    command_rows : (n : ℕ) → Refuses own n ↔ CommandSays n
     command_rows =
-        subst (λ (w : Worked). (n : ℕ) → (own ≡ Refuse n) ↔ CommandStatus s.held w s.next sender type (data_of c) n) f.worked_is
+        subst (λ (w : Worked). (n : ℕ) → Refuses own n ↔ CommandStatus s.held w s.next sender type (data_of c) n) f.worked_is
         (judge_rows s.held s.worked s.next sender type (data_of c) typed.held.logs).exactly
 
     -- by the profile: where it shuts the type, and in all
-    shut_rows : (n : ℕ) → (shut own ≡ Refuse n) ↔ ShutStatus CommandSays Ok n
+    shut_rows : (n : ℕ) → Refuses (shut own) n ↔ ShutStatus CommandSays Ok n
     shut_rows n = (
       λ e. ⊎_elim (λ h. inl ((command_rows n).0 h.0, h.1)) (λ h. inr (h.0, ⊎_elim (λ r. inl ((command_rows 0x15).0 r)) (λ a. inr (judged_exactly.0 a)) h.1)) ((shut_exactly own n).0 e),
       λ r.
@@ -292,45 +311,48 @@ module _ (s : Session) (typed : TypedSession s) (sender : ℕ) (c d : List ℕ) 
     abbrev ProfileSays : ℕ → Type 0
     ProfileSays = ProfileStatus (Open s type) CommandSays Ok
 
-    profile_rows : (n : ℕ) → (verdict ≡ Refuse n) ↔ ProfileSays n
+    profile_rows : (n : ℕ) → Refuses verdict n ↔ ProfileSays n
     unfolding by_profile
     profile_rows n =
-        cond_cases (λ (v : Verdict). (v ≡ Refuse n) ↔ ProfileSays n) (open_in s.profile type)
+        cond_cases (λ (v : Verdict). Refuses v n ↔ ProfileSays n) (open_in s.profile type)
         (λ o. (λ e. inl (is_open o, (command_rows n).0 e), ⊎_elim (λ h. (command_rows n).1 h.1) (λ h. absurd (h.0 (is_open o)))))
         (λ o. (λ e. inr (is_shut o, (shut_rows n).0 e), ⊎_elim (λ h. absurd (is_shut o h.0)) (λ h. (shut_rows n).1 h.1)))
 
     -- past the packet's own rows
-    past_packet : {q : Said} → packet_status c ≡ 0 → ByTable Told q ProfileSays → ByTable Told q (OccStatus s sender c)
+    past_packet : {q : Said} → packet_status c ≡ Good tt → ByTable Told q ProfileSays → ByTable Told q (OccStatus s sender c)
     unfolding OccStatus
     past_packet z b = let g = (good_exactly c).0 z in miss Told (fits_whole g.0) (miss Told (λ h. h g.1) b)
 
     -- an accepted command: no status, and no error reply
-    no_status : {q : Said} → packet_status c ≡ 0 → accepts verdict ≡ true → ((n : ℕ) → Told q n → ⊥) → ByTable Told q (OccStatus s sender c)
+    no_status : {q : Said} → packet_status c ≡ Good tt → accepts verdict ≡ true → ((n : ℕ) → Told q n → ⊥) → ByTable Told q (OccStatus s sender c)
     unfolding accepts
     no_status z a h =
-        past_packet z (record { exactly = λ n. (λ g. absurd (h n g), λ r. absurd (false≢true (sym (ap accepts ((profile_rows n).1 r)) ∙ a))) })
+        past_packet z (record { exactly = λ n. (λ g. absurd (h n g), λ r. not_accepted verdict n a ((profile_rows n).1 r)) })
+
+    wrong_is : {v : Verdict} → Refuses v 0x13 → v ≡ Refuse InvalidData
+    wrong_is e = e.1 ∙ ap Refuse (only_wrong e.0 (sym e.2))
 
     -- 0x13 is a command's, not a packet's
-    pub wrong_exactly : OccStatus s sender c 0x13 ↔ ((packet_status c ≡ 0) and (own ≡ Refuse 0x13))
+    pub wrong_exactly : OccStatus s sender c 0x13 ↔ ((packet_status c ≡ Good tt) and (own ≡ Refuse InvalidData))
     unfolding OccStatus
     wrong_exactly = (
       go,
-      λ h. let g = (good_exactly c).0 h.0 in later (fits_whole g.0) (later (λ k. k g.1) ((profile_rows 0x13).0 ((wrong_stays s.profile type own).1 h.1))),
+      λ h. let g = (good_exactly c).0 h.0 in later (fits_whole g.0) (later (λ k. k g.1) ((profile_rows 0x13).0 (InvalidData, (wrong_stays s.profile type own).1 h.1, refl))),
     )
       where
-        go : OccStatus s sender c 0x13 → (packet_status c ≡ 0) and (own ≡ Refuse 0x13)
+        go : OccStatus s sender c 0x13 → (packet_status c ≡ Good tt) and (own ≡ Refuse InvalidData)
         go (here o e) = absurd (omega (arith, e))
         go (later o (here k e)) = absurd (omega (arith, e))
-        go (later o (later k r)) = (by_row c (λ z. absurd (o z)) (λ f z. status_summed c f z) (λ f z. absurd (k z)), (wrong_stays s.profile type own).0 ((profile_rows 0x13).1 r))
+        go (later o (later k r)) = (by_row c (λ z. absurd (o z)) (λ f z. status_summed c f z) (λ f z. absurd (k z)), (wrong_stays s.profile type own).0 (wrong_is ((profile_rows 0x13).1 r)))
 
     heard_status : (q : Said) (e : Deed) → Heard s sender c d q e → ByTable Told q (OccStatus s sender c)
     unfolding OccStatus accepts done kept
-    heard_status q e (ill_read z) =
-        by_row c (λ o. hit Told o (tells _ _ (status_overlong c o))) (λ h k. absurd (z (status_summed c h k)))
-        (λ h k. miss Told (fits_whole h) (hit Told k (tells _ _ (status_unsummed c h k))))
+    heard_status q e (ill_read x z) =
+        by_row c (λ o. hit Told o (tells _ _ (ap number_in (sym z ∙ status_overlong c o)))) (λ h k. absurd (ill_good x z (status_summed c h k)))
+        (λ h k. miss Told (fits_whole h) (hit Told k (tells _ _ (ap number_in (sym z ∙ status_unsummed c h k)))))
     heard_status q e (declined z n v) =
         past_packet z (record {
-          exactly = λ m. (λ g. (profile_rows m).0 (v ∙ ap Refuse (one_status n m g)), λ r. says_error n m (same_refusal n m (sym v ∙ (profile_rows m).1 r)));
+          exactly = λ m. (λ g. (profile_rows m).0 (n, v, sym (one_status (status_number n) m g)), λ r. says_error (status_number n) m (sym (refuses_as n m (subst (λ (u : Verdict). Refuses u m) v ((profile_rows m).1 r)))));
         })
     heard_status q e (polled z v) = no_status z (ap accepts v) (λ n g. told_apart n (sym (ap (λ (x : Said). x.reply) g) ∙ poll_is (polled_type v)))
     heard_status q e (no_room_lem z ch v full) = no_status z (ap accepts v) (λ n g. omega (arith, ap (λ (x : Said). x.answer) g))
@@ -372,7 +394,7 @@ module _ (s : Session) (typed : TypedSession s) (sender : ℕ) (c d : List ℕ) 
   occ_statuses p = (status_table p _ _ (called s sender c d)).exactly
 
   -- the status 0x13: the packet is good, and its command was judged so
-  pub status_13 : OccDue s sender c d → (occ_call s sender c d ≡ occ_error s c d 0x13) ↔ ((packet_status c ≡ 0) and (own ≡ Refuse 0x13))
+  pub status_13 : OccDue s sender c d → (occ_call s sender c d ≡ occ_error s c d 0x13) ↔ ((packet_status c ≡ Good tt) and (own ≡ Refuse InvalidData))
   status_13 p = Iff.trans (occ_statuses p 0x13) (wrong_exactly p)
 
   pub occ_accepted : well_formed s ≡ true → OccSucceeds s sender c d ↔ OccAccepted s sender c d
@@ -384,8 +406,8 @@ module _ (s : Session) (typed : TypedSession s) (sender : ℕ) (c d : List ℕ) 
   heard_reply : OccDue s sender c d → (q : Said) (e : Deed) → Heard s sender c d q e → q.answer ≡ 0
       → (q.reply ≡ at_front (success_reply s c) d) ⊎ ((n : ℕ) × (q ≡ occ_error s c d n))
   unfolding done kept
-  heard_reply p q e (ill_read z) h = inr (packet_status c, says_error p (packet_status c) (packet_status c) refl)
-  heard_reply p q e (declined z n v) h = inr (n, says_error p n n refl)
+  heard_reply p q e (ill_read x z) h = inr (status_number x, says_error p (status_number x) (status_number x) refl)
+  heard_reply p q e (declined z n v) h = inr (status_number n, says_error p (status_number n) (status_number n) refl)
   heard_reply p q e (polled z v) h = inl (poll_is p (polled_type p v))
   heard_reply p q e (no_room_lem z ch v full) h = absurd (omega (arith, h))
   heard_reply p q e (carried z ch v fits) h = inl (done_is p (made_type p ch v))

@@ -1,4 +1,11 @@
 -- The ways of the call `occ`, with the tests that led there, and the deed that each counts as. Assumes nothing.
+use Rattle.std.proofs.Common.{ap}
+use Rattle.std.specs.Prelude.{Result, Ok, Err}
+use Rattle.std.specs.Result.{is_ok}
+use Rattle.packet.specs.Packet.{Checked, status_number}
+use Rattle.packet.proofs.laws.Exactly.{ok_is, checked_cases}
+use Rattle.packet.specs.declared.Status.{Status}
+use Rattle.packet.specs.declared.Status.TheVariants.{InvalidCommand, InvalidLength, InvalidData, ChecksumFailure, InternalError, StateProhibits}
 use Rattle.std.specs.Prelude.{ℕ, ◌≤◌, ◌<◌, true, false, not, ◌↔◌, ◌≡◌, refl, List, [], eqb, ltb, length, get_or}
 use Rattle.std.proofs.Math.Bool.{true≢false}
 use Rattle.std.proofs.Common.{sym, ◌∙◌, arith}
@@ -10,10 +17,10 @@ use Rattle.change.specs.Change.{no_tables}
 use Rattle.change.specs.declared.Change.{Change}
 use Rattle.change.specs.declared.Edit.{Edit}
 use Rattle.packet.specs.Packet.{packet_status, data_of, no_log_id, replied}
-use Rattle.packet.proofs.laws.Exactly.{status_summed, status_unsummed, status_overlong, by_row}
+use Rattle.packet.proofs.laws.Exactly.{number_in, status_summed, status_unsummed, status_overlong, by_row}
 use Rattle.poll.specs.Poll.{poll_data}
 use Rattle.occ.specs.Judge.{plainly, judge_of}
-use Rattle.occ.specs.Open.{open_in, shut, by_profile}
+use Rattle.occ.specs.Open.{shut_status, open_in, shut, by_profile}
 use Rattle.occ.specs.declared.Verdict.{Verdict}
 use Rattle.occ.specs.declared.Verdict.TheVariants.{Refuse, Poll, Make}
 use Rattle.occ.specs.declared.Judged.{Judged}
@@ -31,13 +38,24 @@ unfolding known_sender
 known_exactly sender = or_else holds {x = true} refl (eq_holds sender 0x10) (eq_holds sender 0x20)
 
 -- k: the packet's own refusals stay, whatever the profile
-stays_refused : (profile kind n : ℕ) → (n ≡ 0x15 → ⊥) → by_profile profile kind (Refuse n) ≡ Refuse n
-unfolding by_profile shut
-stays_refused profile kind n z = cond_elim (λ (v : Verdict). v ≡ Refuse n) (open_in profile kind) refl (sym (else_eq (Refuse 0x16) (Refuse n) {m = n} {n = 0x15} z refl))
+shut_keeps : (x : Status) → (x ≡ InternalError → ⊥) → shut_status x ≡ x
+unfolding shut_status
+shut_keeps InvalidCommand z = refl
+shut_keeps InvalidLength z = refl
+shut_keeps InvalidData z = refl
+shut_keeps ChecksumFailure z = refl
+shut_keeps InternalError z = absurd (z refl)
+shut_keeps StateProhibits z = refl
 
-never_15 : (c : List ℕ) → packet_status c ≡ 0x15 → ⊥
-never_15 c e =
-    by_row c (λ o. omega (arith, e, status_overlong c o)) (λ f k. omega (arith, e, status_summed c f k)) (λ f k. omega (arith, e, status_unsummed c f k))
+stays_refused : (profile kind : ℕ) (x : Status) → (x ≡ InternalError → ⊥) → by_profile profile kind (Refuse x) ≡ Refuse x
+unfolding by_profile shut
+stays_refused profile kind x z = cond_elim (λ (v : Verdict). v ≡ Refuse x) (open_in profile kind) refl (ap Refuse (shut_keeps x z))
+
+never_15 : (c : List ℕ) (x : Status) → packet_status c ≡ Err x → x ≡ InternalError → ⊥
+never_15 c x f z =
+    let e : packet_status c ≡ Err InternalError = f ∙ ap Err z in
+    by_row c (λ o. omega (arith, ap number_in (sym e ∙ status_overlong c o))) (λ g k. omega (arith, ap number_in (sym e ∙ status_summed c g k)))
+    (λ g k. omega (arith, ap number_in (sym e ∙ status_unsummed c g k)))
 
 module _ (s : Session) (sender : ℕ) (c d : List ℕ) where
   abbrev pub judged : Judged
@@ -52,17 +70,17 @@ module _ (s : Session) (sender : ℕ) (c d : List ℕ) where
 
   -- a command that is due an answer
   pub data Heard : Said → Deed → Type 0 where
-    ill_read : (packet_status c ≡ 0 → ⊥) → Heard (done s 0 0 (replied (get_or c 0 0) (get_or c 1 0) (packet_status c) no_log_id d)) keeps
-    declined : packet_status c ≡ 0 → (n : ℕ) → verdict ≡ Refuse n → Heard (done s 0 0 (replied (get_or c 0 0) (get_or c 1 0) n no_log_id d)) keeps
-    polled : packet_status c ≡ 0 → verdict ≡ Poll → Heard (done s 0 0 (replied (get_or c 0 0) 0x00 0x00 (poll_data s.held s.worked) d)) keeps
-    no_room_lem : packet_status c ≡ 0 → (ch : Change) → verdict ≡ Make ch → (carried_of s (edit ch)).full ≡ true → Heard (kept 5 s d) keeps
-    carried : packet_status c ≡ 0 → (ch : Change) → verdict ≡ Make ch → (carried_of s (edit ch)).full ≡ false
+    ill_read : (x : Status) → packet_status c ≡ Err x → Heard (done s 0 0 (replied (get_or c 0 0) (get_or c 1 0) (status_number x) no_log_id d)) keeps
+    declined : packet_status c ≡ Ok tt → (x : Status) → verdict ≡ Refuse x → Heard (done s 0 0 (replied (get_or c 0 0) (get_or c 1 0) (status_number x) no_log_id d)) keeps
+    polled : packet_status c ≡ Ok tt → verdict ≡ Poll → Heard (done s 0 0 (replied (get_or c 0 0) 0x00 0x00 (poll_data s.held s.worked) d)) keeps
+    no_room_lem : packet_status c ≡ Ok tt → (ch : Change) → verdict ≡ Make ch → (carried_of s (edit ch)).full ≡ true → Heard (kept 5 s d) keeps
+    carried : packet_status c ≡ Ok tt → (ch : Change) → verdict ≡ Make ch → (carried_of s (edit ch)).full ≡ false
         → Heard (done (carried_of s (edit ch)).session 0 0 (replied (get_or c 0 0) (get_or c 1 0) 0x00 [] d)) (adds (edit ch))
 
   abbrev Settles : Asks → Type 0
   Settles a = Heard (settled s d a) (deed_by s a)
 
-  heard_verdict : packet_status c ≡ 0 → (v : Verdict) → verdict ≡ v → Settles (verdict_asks s.held s.worked (get_or c 0 0) (get_or c 1 0) d judged.tables v)
+  heard_verdict : packet_status c ≡ Ok tt → (v : Verdict) → verdict ≡ v → Settles (verdict_asks s.held s.worked (get_or c 0 0) (get_or c 1 0) d judged.tables v)
   unfolding settled deed_by verdict_asks told_of carried_says adding
   heard_verdict z (Refuse status) e = declined z status e
   heard_verdict z Poll e = polled z e
@@ -74,11 +92,11 @@ module _ (s : Session) (sender : ℕ) (c d : List ℕ) where
   heard : Settles read
   unfolding occ_read asked_of asked_for judged_asks verdict_asks told_of plainly settled deed_by
   heard =
-      cond_cases (λ (j : Judged). Settles (judged_asks s.profile s.held s.worked (get_or c 0 0) (get_or c 1 0) d j)) (not (eqb (packet_status c) 0))
-      (λ f.
+      checked_cases (λ (v : Checked). Settles (judged_asks s.profile s.held s.worked (get_or c 0 0) (get_or c 1 0) d (asked_for v s.held s.worked s.next sender c))) (packet_status c)
+      (λ x f.
       subst (λ (v : Verdict). Settles (verdict_asks s.held s.worked (get_or c 0 0) (get_or c 1 0) d no_tables v))
-      (sym (stays_refused s.profile (get_or c 1 0) (packet_status c) (never_15 c))) (ill_read (eqb-false _ 0 (not-true _ f))))
-      (λ f. heard_verdict (eqb-true _ 0 (not-false _ f)) verdict refl)
+      (sym (stays_refused s.profile (get_or c 1 0) x (never_15 c x f))) (ill_read x f))
+      (λ f. heard_verdict f verdict refl)
 
   -- any call
   pub data Called : Said → Deed → Type 0 where

@@ -1,6 +1,8 @@
 -- Document 02, l: the answers of the calls `plan_ok` and `plan`, and the plan that is given. Assumes nothing.
 use Rattle.std.specs.Prelude.{ℕ, ◌<◌, ◌≤◌, Bool, true, cond, not, ◌↔◌, ◌⊎◌, ◌≡◌, List, ltb, eqb, length, take, drop}
 use Rattle.std.proofs.Math.Bool.{false, true≢false}
+use Rattle.std.specs.Prelude.{Option, Some, None}
+use Rattle.std.proofs.lemmas.Option.{same_Some, none-some}
 use Rattle.std.proofs.Common.{inl, inr, ⊎_elim, ap, subst, ◌∙◌, arith, take_at}
 use Rattle.std.proofs.Math.Path.{refl, sym}
 use Rattle.std.proofs.Math.Nat.{not-le_of_lt}
@@ -123,7 +125,7 @@ module _ (s : Session) (p : List ℕ) (wanted : ℕ) where
     abbrev q : Planned
     q = plan_call s p wanted d
 
-    abbrev least : ℕ
+    abbrev least : Option ℕ
     least = least_plan p wanted (start_of s)
 
     abbrev answer : Planned → ℕ
@@ -135,9 +137,13 @@ module _ (s : Session) (p : List ℕ) (wanted : ℕ) where
     abbrev rest : Planned
     rest = cond (ltb (length d) 5) (refused 3) (given least d)
 
-    given_answer : (given least d).told.answer ≡ 0
+    answer_given : (v : Option ℕ) → (given v d).told.answer ≡ 0
     unfolding given
-    given_answer = cond_cases (λ (x : Planned). x.told.answer ≡ 0) (eqb least orders) (λ h. refl) (λ h. refl)
+    answer_given None = refl
+    answer_given (Some m) = refl
+
+    given_answer : (given least d).told.answer ≡ 0
+    given_answer = answer_given least
 
     rest_table : ByTable (λ (x : Planned) (k : ℕ). answer x ≡ k) rest (row 3 (length d < 5) (is 0))
     rest_table =
@@ -167,26 +173,26 @@ module _ (s : Session) (p : List ℕ) (wanted : ℕ) where
       unfolding plan_call
       is_given = sym (else_ne _ _ (so_due due) (else_lt _ _ room refl))
 
-      none_is : least ≡ orders → q ≡ refused 0
+      none_is : least ≡ None → q ≡ refused 0
       unfolding given
-      none_is h = is_given ∙ sym (if_eq _ _ h refl)
+      none_is h = is_given ∙ ap (λ (v : Option ℕ). given v d) h
 
-      abbrev plan : List ℕ
-      plan = order_of least
+      module _ (m : ℕ) (some : least ≡ Some m) where
+        abbrev plan : List ℕ
+        plan = order_of m
 
-      one_is : (least ≡ orders → ⊥) → q ≡ record { told = record { answer = 0; small = 1; beside = length plan }; order = pasted 0 plan d }
-      unfolding given
-      one_is h = is_given ∙ sym (else_eq _ _ h refl)
+        one_is : q ≡ record { told = record { answer = 0; small = 1; beside = length plan }; order = pasted 0 plan d }
+        unfolding given
+        one_is = is_given ∙ ap (λ (v : Option ℕ). given v d) some
 
-      module _ (some : least ≡ orders → ⊥) where
         plan_passes : plan_ok p wanted (start_of s) plan ≡ true
-        plan_passes = least_passes p wanted (start_of s) (omega (arith, some, least_low p wanted (start_of s)))
+        plan_passes = least_passes p wanted (start_of s) m some
 
         at_front_lem : q.order ≡ at_front plan d
-        at_front_lem = ap (λ (x : Planned). x.order) (one_is some) ∙ front_is plan d
+        at_front_lem = ap (λ (x : Planned). x.order) one_is ∙ front_is plan d
 
         long_as : q.told.beside ≡ length plan
-        long_as = ap (λ (x : Planned). x.told.beside) (one_is some)
+        long_as = ap (λ (x : Planned). x.told.beside) one_is
 
         pub plan_in_lem : plan_in q ≡ plan
         plan_in_lem = (λ i. take (long_as i) (at_front_lem i)) ∙ take_at plan (drop (length plan) d) (length plan) refl
@@ -205,44 +211,40 @@ module _ (s : Session) (p : List ℕ) (wanted : ℕ) where
         given_least o h =
             let ordered = passes_order due.few o h in
             let k = order_number o ordered in
-            let mine = number_order least (omega (arith, some, least_low p wanted (start_of s))) in
+            let mine = number_order m (least_low p wanted (start_of s) m some) in
+            let least_is = least_before p wanted (start_of s) (number_of o) k.0 (ap (plan_ok p wanted (start_of s)) k.1 ∙ h) in
+            let same = same_Some m least_is.0 (sym some ∙ least_is.1) in
             subst (λ (l : List ℕ). FewestThenLeast l o) (sym plan_in_lem)
-            (comes_first plan o (passes_order due.few plan plan_passes) ordered (omega (arith, mine, not_less o h k)))
-          where
-            not_less : (o : List ℕ) → plan_ok p wanted (start_of s) o ≡ true → (number_of o < orders) × (order_of (number_of o) ≡ o) → least ≤ number_of o
-            not_less o h k = go (ltb (number_of o) least) refl
-              where
-                go : (b : Bool) → ltb (number_of o) least ≡ b → least ≤ number_of o
-                go false e = ltb-false (number_of o) least e
-                go true e = absurd (least_before p wanted (start_of s) (number_of o) (ltb-true (number_of o) least e) (ap (plan_ok p wanted (start_of s)) k.1 ∙ h))
+            (comes_first plan o (passes_order due.few plan plan_passes) ordered (omega (arith, mine, same, least_is.2)))
 
       -- none is given where none passes, and the other way round
-      none_passes : least ≡ orders → (o : List ℕ) → plan_ok p wanted (start_of s) o ≡ true → ⊥
+      none_passes : least ≡ None → (o : List ℕ) → plan_ok p wanted (start_of s) o ≡ true → ⊥
       none_passes e o h =
           let k = order_number o (passes_order due.few o h) in
-          least_before p wanted (start_of s) (number_of o) (omega (arith, e, k.0)) (ap (plan_ok p wanted (start_of s)) k.1 ∙ h)
+          let first = least_before p wanted (start_of s) (number_of o) k.0 (ap (plan_ok p wanted (start_of s)) k.1 ∙ h) in
+          none-some first.0 (sym e ∙ first.1)
 
-      which : (least ≡ orders) ⊎ (least ≡ orders → ⊥)
-      which = go (eqb least orders) refl
+      which : (least ≡ None) ⊎ ((m : ℕ) × (least ≡ Some m))
+      which = go least refl
         where
-          go : (b : Bool) → eqb least orders ≡ b → (least ≡ orders) ⊎ (least ≡ orders → ⊥)
-          go true e = inl (eqb-true least orders e)
-          go false e = inr (eqb-false least orders e)
+          go : (v : Option ℕ) → least ≡ v → (least ≡ None) ⊎ ((m : ℕ) × (least ≡ Some m))
+          go None e = inl e
+          go (Some m) e = inr (m, e)
 
-      pub given_some : q.told.small ≡ 1 → least ≡ orders → ⊥
-      given_some g e = let z : q.told.small ≡ 0 = ap (λ (x : Planned). x.told.small) (none_is e) in omega (arith, z, g)
+      pub given_some : q.told.small ≡ 1 → (m : ℕ) × (least ≡ Some m)
+      given_some g = ⊎_elim (λ e. let z : q.told.small ≡ 0 = ap (λ (x : Planned). x.told.small) (none_is e) in absurd (omega (arith, z, g))) (λ some. some) which
 
       pub given_or_none : Given q ⊎ NoPlan q
       given_or_none =
           ⊎_elim (λ e. inr (ap (λ (x : Planned). x.told) (none_is e)))
-          (λ some. let is = one_is some in inl (ap (λ (x : Planned). x.told.answer) is, ap (λ (x : Planned). x.told.small) is)) which
+          (λ some. let is = one_is some.0 some.1 in inl (ap (λ (x : Planned). x.told.answer) is, ap (λ (x : Planned). x.told.small) is)) which
 
       pub none_exactly : NoPlan q ↔ ((o : List ℕ) → Accepted (plan_ok_call s p wanted o) → ⊥)
       none_exactly = (
         λ h o a.
             ⊎_elim (λ e. none_passes e o ((accepted_exactly o due).0 a))
-            (λ some. let z : q.told.small ≡ 1 = ap (λ (x : Planned). x.told.small) (one_is some) in omega (arith, z, ap (λ (t : Told). t.small) h)) which,
-        λ h. ⊎_elim (λ e. ap (λ (x : Planned). x.told) (none_is e)) (λ some. absurd (h plan ((accepted_exactly plan due).1 (plan_passes some)))) which,
+            (λ some. let z : q.told.small ≡ 1 = ap (λ (x : Planned). x.told.small) (one_is some.0 some.1) in omega (arith, z, ap (λ (t : Told). t.small) h)) which,
+        λ h. ⊎_elim (λ e. ap (λ (x : Planned). x.told) (none_is e)) (λ some. absurd (h (plan some.0 some.1) ((accepted_exactly (plan some.0 some.1) due).1 (plan_passes some.0 some.1)))) which,
       )
 
     -- what is given was due, and has room
@@ -259,11 +261,16 @@ module _ (s : Session) (p : List ℕ) (wanted : ℕ) where
     abbrev KeptNone : Planned → Type 0
     KeptNone x = x.told.small ≡ 0 → x.order ≡ d
 
+    kept_by : (v : Option ℕ) → KeptNone (given v d)
+    unfolding given
+    kept_by None z = refl
+    kept_by (Some m) z = absurd (omega (arith, z))
+
     pub none_keeps : KeptNone q
-    unfolding plan_call given
+    unfolding plan_call
     none_keeps =
         cond_cases KeptNone (not (eqb n 0)) (λ f z. refl)
-        (λ f. cond_cases KeptNone (ltb (length d) 5) (λ g z. refl) (λ g. cond_cases KeptNone (eqb least orders) (λ h z. refl) (λ h z. absurd (omega (arith, z)))))
+        (λ f. cond_cases KeptNone (ltb (length d) 5) (λ g z. refl) (λ g. kept_by least))
 
 -- ---- on lent bytes
 

@@ -1,5 +1,11 @@
 -- Document 02, l: the check accepts exactly the orders that lead to the wanted state, and the search finds the least of them. Assumes nothing.
-use Rattle.std.specs.Prelude.{ℕ, ◌+◌, ◌-◌, ◌*◌, ◌≤◌, Bool, cond, ◌↔◌, ◌≡◌, ltb, eqb, length, get_or, drop, Option, Some, None}
+use Rattle.std.specs.Prelude.{ℕ, ◌+◌, ◌-◌, ◌*◌, ◌≤◌, Bool, cond, ◌↔◌, ◌≡◌, ltb, eqb, length, get_or, drop, Option, Some, None, Err, Ok as Good}
+use Rattle.std.specs.Result.{is_ok}
+use Rattle.packet.specs.Packet.{Checked, status_number}
+use Rattle.packet.proofs.laws.Exactly.{ok_is, checked_cases}
+use Rattle.packet.specs.declared.Status.{Status}
+use Rattle.packet.specs.declared.Status.TheVariants.{InvalidCommand, InvalidLength, InvalidData, ChecksumFailure, InternalError, StateProhibits}
+use Rattle.std.specs.Option.{is_some}
 use Rattle.std.proofs.Math.Bool.{true, false, not, true≢false}
 use Rattle.std.proofs.lemmas.Bool.{false≢true}
 use Rattle.std.proofs.Math.Logic.{inl}
@@ -40,7 +46,7 @@ use Rattle.session.specs.declared.Session.{Session}
 use Rattle.occ_call.specs.Occ.{occ_call}
 use Rattle.links.specs.Typed.{TypedSession}
 use Rattle.plan.specs.Conditions.{Order}
-use Rattle.plan.specs.Plan.{packets_in, packet_at, packet_of, sound, failed, trial_by, trial_judged, trial_of, is_order, reaches, plan_ok, start_of}
+use Rattle.plan.specs.Plan.{packets_in, packet_at, packet_of, sound, trial_made, trial_by, trial_judged, trial_of, is_order, reaches_from, reaches, plan_ok, start_of}
 use Rattle.plan.proofs.laws.Orders.{of_more, order_exactly, five_at_most}
 use Rattle.plan.specs.declared.Trial.{Trial}
 use Rattle.promises.specs.Calls.{occ, buffer_of, asks, said}
@@ -105,7 +111,7 @@ end_short s e b n = go (ltb n s.used) (ltb (n - s.used) (entry_len b))
 
 module _ (s : Session) (e : Edit) where
   abbrev made : Trial
-  made = record { ok = true; held = put_after s.held e; next = s.next + made_of e.change }
+  made = record { held = put_after s.held e; next = s.next + made_of e.change }
 
   carried_short : (carried_of s e).session.used ≤ s.used + 164
   unfolding carried_of
@@ -143,25 +149,25 @@ module _ (s : Session) (typed : TypedSession s) (ok : well_formed s ≡ true) (f
   unfolding trial_of trial_judged start_of
   sound_is h = sym (else_b _ _ (ap not h) (ap (trial_judged t) (sym judged_alike)))
 
-  by_verdict : (v : Verdict) → (trial_by t j.tables v).ok ≡ accepts v
+  by_verdict : (v : Verdict) → is_some (trial_by t j.tables v) ≡ accepts v
   unfolding trial_by accepts start_of
   by_verdict (Refuse n) = refl
   by_verdict Poll = refl
   by_verdict (Make ch) = refl
 
   -- what its bytes decide
-  sound_exactly : (sound c ≡ true) ↔ ((4 ≤ length c) and (packet_status c ≡ 0))
+  sound_exactly : (sound c ≡ true) ↔ ((4 ≤ length c) and (packet_status c ≡ Good tt))
   unfolding sound
   sound_exactly = (
-    λ h. let q = passed _ _ h in (ltb-false (length c) 4 q.0, eqb-true (packet_status c) 0 q.1),
-    λ h. sym (else_lt _ _ h.0 (sym ((eq_holds (packet_status c) 0).1 h.1))),
+    λ h. let q = passed _ _ h in (ltb-false (length c) 4 q.0, ok_is (packet_status c) q.1),
+    λ h. sym (else_lt _ _ h.0 (sym (ap is_ok h.1))),
   )
 
-  unsound : sound c ≡ false → (trial_of t c).ok ≡ false
+  unsound : sound c ≡ false → is_some (trial_of t c) ≡ false
   unfolding trial_of
-  unsound h = ap (λ (x : Trial). x.ok) (sym (if_b (failed t) (trial_judged t (judge_of t.held (worked_of t.held) t.next 0x10 (get_or c 1 0) (data_of c))) (ap not h) refl))
+  unsound h = ap is_some (sym (if_b None (trial_judged t (judge_of t.held (worked_of t.held) t.next 0x10 (get_or c 1 0) (data_of c))) (ap not h) refl))
 
-  is_sound : (trial_of t c).ok ≡ true → sound c ≡ true
+  is_sound : is_some (trial_of t c) ≡ true → sound c ≡ true
   is_sound h = go (sound c) refl
     where
       go : (b : Bool) → sound c ≡ b → sound c ≡ true
@@ -177,10 +183,10 @@ module _ (s : Session) (typed : TypedSession s) (ok : well_formed s ≡ true) (f
       let is = ap (λ (x : Judged). accepts x.verdict) judged_alike in
       (λ h. e.0 (is ∙ h), λ h. sym is ∙ e.1 h)
 
-  tried_exactly : ((trial_of t c).ok ≡ true) ↔ ((sound c ≡ true) and Ok)
+  tried_exactly : (is_some (trial_of t c) ≡ true) ↔ ((sound c ≡ true) and Ok)
   tried_exactly = (
-    λ h. let q = is_sound h in (q, accepts_exactly.0 (sym (ap (λ (x : Trial). x.ok) (sound_is q) ∙ by_verdict j.verdict) ∙ h)),
-    λ h. ap (λ (x : Trial). x.ok) (sound_is h.0) ∙ by_verdict j.verdict ∙ accepts_exactly.1 h.1,
+    λ h. let q = is_sound h in (q, accepts_exactly.0 (sym (ap is_some (sound_is q) ∙ by_verdict j.verdict) ∙ h)),
+    λ h. ap is_some (sound_is h.0) ∙ by_verdict j.verdict ∙ accepts_exactly.1 h.1,
   )
 
   fits : (kind : ℕ) → HasRoom s kind
@@ -197,7 +203,7 @@ module _ (s : Session) (typed : TypedSession s) (ok : well_formed s ≡ true) (f
   )
 
   -- it succeeds in the session exactly when it does in the trial
-  succeeds_exactly : ((trial_of t c).ok ≡ true) ↔ OccSucceeds s 0x10 c d
+  succeeds_exactly : (is_some (trial_of t c) ≡ true) ↔ OccSucceeds s 0x10 c d
   succeeds_exactly =
       let a = occ_accepted s typed 0x10 c d ok in
       (λ h. a.1 (accepted_exactly.1 (tried_exactly.0 h)), λ h. tried_exactly.1 (accepted_exactly.0 (a.0 h)))
@@ -210,7 +216,7 @@ module _ (s : Session) (typed : TypedSession s) (ok : well_formed s ≡ true) (f
 
   heard_roomy : (q : Said) (e : Deed) → Heard s 0x10 c d q e → Roomy q
   unfolding done kept
-  heard_roomy q e (ill_read z) = record { has_room = λ h. omega (arith, h); short = omega arith }
+  heard_roomy q e (ill_read x z) = record { has_room = λ h. omega (arith, h); short = omega arith }
   heard_roomy q e (declined z n v) = record { has_room = λ h. omega (arith, h); short = omega arith }
   heard_roomy q e (polled z v) = record { has_room = λ h. omega (arith, h); short = omega arith }
   heard_roomy q e (no_room_lem z ch v none) = absurd (omega (arith, has_none s typed.journal (edit s 0x10 c d ch) (kind_of ch) refl none, fits (kind_of ch)))
@@ -230,27 +236,27 @@ module _ (s : Session) (typed : TypedSession s) (ok : well_formed s ≡ true) (f
   -- ---- it leaves what the trial does
 
   abbrev Leaves : Said → Type 0
-  Leaves q = start_of q.session ≡ trial_of t c
+  Leaves q = Some (start_of q.session) ≡ trial_of t c
 
   open_stays : by_profile s.profile type j.verdict ≡ j.verdict
   unfolding by_profile open_in
   open_stays = ap (λ (p : ℕ). by_profile p type j.verdict) full
 
-  module _ (h : (trial_of t c).ok ≡ true) where
+  module _ (h : is_some (trial_of t c) ≡ true) where
     by_this : (v : Verdict) → by_profile s.profile type j.verdict ≡ v → trial_of t c ≡ trial_by t j.tables v
     by_this v e = sound_is (is_sound h) ∙ ap (trial_by t j.tables) (sym open_stays ∙ e)
 
-    refuses_none : (n : ℕ) → by_profile s.profile type j.verdict ≡ Refuse n → ⊥
+    refuses_none : (n : Status) → by_profile s.profile type j.verdict ≡ Refuse n → ⊥
     unfolding accepts
-    refuses_none n e = true≢false (sym h ∙ ap (λ (x : Trial). x.ok) (by_this (Refuse n) e) ∙ by_verdict (Refuse n))
+    refuses_none n e = true≢false (sym h ∙ ap is_some (by_this (Refuse n) e) ∙ by_verdict (Refuse n))
 
     heard_leaves : (q : Said) (e : Deed) → Heard s 0x10 c d q e → Leaves q
-    unfolding done kept trial_by start_of
-    heard_leaves q e (ill_read z) = absurd (z (sound_exactly.0 (is_sound h)).1)
+    unfolding done kept trial_by trial_made start_of
+    heard_leaves q e (ill_read x z) = absurd (false≢true (ap is_ok (sym z ∙ (sound_exactly.0 (is_sound h)).1)))
     heard_leaves q e (declined z n v) = absurd (refuses_none n v)
     heard_leaves q e (polled z v) = sym (by_this Poll v)
     heard_leaves q e (no_room_lem z ch v none) = absurd (omega (arith, has_none s typed.journal (edit s 0x10 c d ch) (kind_of ch) refl none, fits (kind_of ch)))
-    heard_leaves q e (carried z ch v some) = carried_start s (edit s 0x10 c d ch) some ∙ sym (by_this (Make ch) v)
+    heard_leaves q e (carried z ch v some) = ap Some (carried_start s (edit s 0x10 c d ch) some) ∙ sym (by_this (Make ch) v)
 
     called_leaves : (q : Said) (e : Deed) → Called s 0x10 c d q e → Leaves q
     called_leaves q e (ill_formed z) = absurd (z ok)
@@ -274,10 +280,16 @@ module _ (p : List ℕ) (bytes : Bytes p) (wanted : ℕ) (d : List ℕ) (long : 
   state_exactly s = eq_holds s.held.state wanted
 
   module _ (base : Record) (first : ℕ) where
+    -- what reaches the state was tried with success
+    some_tried : (v : Option Trial) (xs : List ℕ) → reaches_from p wanted v xs ≡ true → is_some v ≡ true
+    unfolding reaches_from
+    some_tried None xs h = absurd (false≢true h)
+    some_tried (Some t) xs h = refl
+
     -- in a history that goes on, with room for as many entries as there are packets left
     leads_exactly : (o : List ℕ) (r : Run) → Inv base first r → r.session.profile ≡ 0 → r.session.used + 164 * length o ≤ 2048
         → (reaches p wanted (start_of r.session) o ≡ true) ↔ Leads p wanted d r.session o
-    unfolding reaches next_run did said asks buffer_of occ_call
+    unfolding reaches reaches_from next_run did said asks buffer_of occ_call
     leads_exactly [] r v full room = state_exactly r.session
     leads_exactly (x ∷ xs) r v full room =
         let s = r.session in
@@ -287,15 +299,13 @@ module _ (p : List ℕ) (bytes : Bytes p) (wanted : ℕ) (d : List ℕ) (long : 
         let more : s.used + 164 ≤ 2048 = omega (arith, room) in
         let one = succeeds_exactly s typed ok full more c d long in
         let after : Session = (occ_call s 0x10 c d).session in
-        let rest : (trial_of (start_of s) c).ok ≡ true → (reaches p wanted (start_of after) xs ≡ true) ↔ Leads p wanted d after xs = λ h.
+        let rest : (reaches p wanted (start_of after) xs ≡ true) ↔ Leads p wanted d after xs =
         leads_exactly xs (next_run r (occ 0x10 c d)) (next_inv base first r v (occ 0x10 c d) (packet_bytes x)) (profile_stays s (occ 0x10 c d) ∙ full)
         (omega (arith, room, (roomy s typed ok full more c d long).short)) in
-        let stands : (trial_of (start_of s) c).ok ≡ true → reaches p wanted (start_of after) xs ≡ reaches p wanted (trial_of (start_of s) c) xs = λ h. ap (λ (y : Trial). reaches p wanted y xs) (leaves s typed ok full more c d long h) in (
-          λ h. let q = passed (not (trial_of (start_of s) c).ok) _ h in
-              let y = not-false _ q.0 in
-              (one.0 y, (rest y).0 (stands y ∙ q.1)),
-          λ h. let y = one.1 h.0 in
-              sym (else_b _ _ (ap not y) (sym (sym (stands y) ∙ (rest y).1 h.1))),
+        let stands : is_some (trial_of (start_of s) c) ≡ true → reaches p wanted (start_of after) xs ≡ reaches_from p wanted (trial_of (start_of s) c) xs =
+        λ h. ap (λ (y : Option Trial). reaches_from p wanted y xs) (leaves s typed ok full more c d long h) in (
+          λ h. let y = some_tried (trial_of (start_of s) c) xs h in (one.0 y, rest.0 (stands y ∙ h)),
+          λ h. sym (stands (one.1 h.0)) ∙ rest.1 h.1,
         )
 
     -- nor does any packet of a row get answer 5

@@ -1,4 +1,6 @@
 -- A trace played on a lent image is its calls, one by one, on sessions. Assumes nothing.
+use Rattle.places.specs.declared.Fault.{Fault}
+use Rattle.std.specs.Prelude.{Option}
 use Rattle.std.specs.Prelude.{ℕ, suc, ◌≤◌, Bool, cond, ◌≡◌, eqb, length, get_or, take, drop, replicate}
 use Rattle.std.proofs.Math.Bool.{true, false}
 use Rattle.std.proofs.Math.Path.{refl, sym, ap, ap₂, subst}
@@ -21,7 +23,6 @@ use Rattle.journal.specs.declared.Way.TheVariants.{Before}
 use Rattle.image.specs.Image.{image_of}
 use Rattle.layout.specs.Layout.{image_length}
 use Rattle.image.proofs.laws.Image.{Typed}
-use Rattle.places.specs.declared.Blame.{Blame}
 use Rattle.occ_call.specs.Occ as occs
 use Rattle.occ_call.proofs.laws.Why.{answer_beside}
 use Rattle.sbe_call.specs.Sbe as sbes
@@ -43,7 +44,7 @@ use Rattle.promises.proofs.laws.Lent.{occ_on_lem, sbe_on_lem, move_on_lem, run_t
 abbrev heard_as : Said → ℕ → Heard
 heard_as q n = record { answer = n; image = image_of q.session; status = if_written n (take 1 (drop 2 q.reply)) }
 
-occ_heard_lem : (q : Said) (why : Blame) → occ_heard (occs.occ_left q why) ≡ heard_as q q.answer
+occ_heard_lem : (q : Said) (why : Option Fault) → occ_heard (occs.occ_left q why) ≡ heard_as q q.answer
 unfolding heard_with occs.occ_left
 occ_heard_lem q why = ap (heard_as q) (answer_beside q.answer why)
 

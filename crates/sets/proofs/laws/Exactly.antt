@@ -1,17 +1,17 @@
 -- Document 01, formats 0x12 and 0x13: sets are read without fault exactly when each is in range and none comes twice. Assumes nothing.
-use Rattle.wire.proofs.laws.Cases.{cond_cases}
 use Prim.Native.Nat.{ℕ, zero, suc, ◌+◌, ◌/◌, ◌%◌, ◌^◌, ◌<◌, ◌≤◌}
-use Rattle.std.specs.Prelude.{Bool, true, false, cond, not, ◌≡◌, refl, List, ◌↔◌, get_or, take, drop}
-use Rattle.std.proofs.lemmas.Bool.{false≢true, not-true, not-false}
+use Rattle.std.specs.Prelude.{Bool, true, false, ◌≡◌, refl, Option, Some, None, List, ◌↔◌, get_or, take, drop}
+use Rattle.std.proofs.lemmas.Bool.{false≢true}
 use Rattle.std.proofs.Common.{sym, ap, subst, ◌∙◌, div-one, not-suc-le-zero, le_of_suc-le-suc, arith}
 use Rattle.std.proofs.Math.Nat.{two-pow-succ, pow-succ', div-div-eq-div-mul, zero-div, zero-mod}
 use Rattle.formed.specs.Formed.{InOrder}
 use Rattle.formed.proofs.laws.Thresholds.{order_exactly}
-use Rattle.sets.specs.declared.Sets.{Sets}
+use Rattle.std.specs.Option.{is_some, option_map}
+use Rattle.record.specs.declared.Throttles.{Throttles}
 use Rattle.sets.specs.declared.Frus.{Frus}
-use Rattle.sets.specs.Sets.{bit_of, empty_sets, bad_sets, with_pair, one_set, sets_of, empty_frus, bad_frus, with_fru, one_fru, frus_of}
-use Rattle.sets.proofs.laws.Sets.{Parted, sets_parted, frus_parted}
-use Rattle.wire.proofs.laws.Chains.{eq_holds, lt_passes, not_passes, Ends, ends_unless, ends_last}
+use Rattle.sets.specs.Sets.{bit_of, one_more, read_of, with_pair, one_set, throttles_of, empty_frus, with_fru, one_fru, thermal_of}
+use Rattle.sets.proofs.laws.Sets.{none_read, more_read, none_stays}
+use Rattle.wire.proofs.laws.Chains.{eq_holds, lt_passes, not_passes, Ends, ends_unless, ends_when, ends_last}
 use Rattle.wire.specs.Conditions.{◌and◌}
 use Rattle.sets.specs.Conditions.{set_at, Each, NoneTwice, InPairs, pair_of, SetsOk, InFrus, fru_of, FrusOk}
 
@@ -88,21 +88,21 @@ module _ (w n : ℕ) (l : List ℕ) where
     unfolding set_at
     none_tail q i j h k = q (suc i) (suc j) (omega arith) (omega arith)
 
--- ---- part after part: what is held has a bit for each number that came
+-- ---- set after set: what is held has a bit for each number that came
 
-module _ {A : Type 0} {one : A → List ℕ → A} {w : ℕ} {all : ℕ → A → List ℕ → A} (parted : Parted one w all) (ok : A → Bool) (held : A → ℕ) (InRange : List ℕ → Type 0) (number : List ℕ → ℕ) where
-  -- one part: read without fault exactly when it is in range and its bit is free, and then the bit is added
+module _ {A : Type 0} (one : A → List ℕ → Option A) (w : ℕ) (held : A → ℕ) (InRange : List ℕ → Type 0) (number : List ℕ → ℕ) (with_set : A → List ℕ → A) where
+  -- one set: read exactly when it is in range and its bit is free, and then the bit is added
   pub record Stepped : Type 0 where
-    pub exactly : (t : A) (s : List ℕ) → (ok (one t s) ≡ true) ↔ ((ok t ≡ true) and InRange s and (bit_of (held t) (number s) ≡ 0))
-    pub adds : (t : A) (s : List ℕ) → ok (one t s) ≡ true → held (one t s) ≡ held t + 2 ^ number s
+    pub ends : (t : A) (s : List ℕ) → Ends is_some (one t s) (InRange s and (bit_of (held t) (number s) ≡ 0)) (Some (with_set t s))
+    pub adds : (t : A) (s : List ℕ) → held (with_set t s) ≡ held t + 2 ^ number s
 
-  -- the bit of a part's number is free
+  -- the bit of a set's number is free
   abbrev pub Free : ℕ → List ℕ → Type 0
   Free x s = bit_of x (number s) ≡ 0
 
-  -- what is asked of n parts, with what is held
+  -- what is asked of n sets, with what is held
   abbrev pub Right : ℕ → A → List ℕ → Type 0
-  Right n t l = (ok t ≡ true) and Each w InRange n l and Each w (Free (held t)) n l and NoneTwice w number n l
+  Right n t l = Each w InRange n l and Each w (Free (held t)) n l and NoneTwice w number n l
 
   -- two numbers of which one's bit was added and the other's is free differ
   apart : (x a b : ℕ) → bit_of x a ≡ 0 → bit_of (x + 2 ^ a) b ≡ 0 → a ≡ b → ⊥
@@ -113,120 +113,118 @@ module _ {A : Type 0} {one : A → List ℕ → A} {w : ℕ} {all : ℕ → A �
 
   module _ (step : Stepped) where
     -- from the others, once the first is read, to all
-    with_first : (n : ℕ) (t : A) (l : List ℕ) → Right n (one t (take w l)) (drop w l) → Right (suc n) t l
-    with_first n t l q =
-        let p = (step.exactly t (take w l)).0 q.0 in
-        let free = subst (λ (x : ℕ). Each w (Free x) n (drop w l)) (step.adds t (take w l) q.0) q.1.1.0 in
-        let other : Each w (Others w n l number) n (drop w l) = λ i h. apart (held t) _ _ p.1.1 (free i h) in (
-          p.0,
+    with_first : (n : ℕ) (t : A) (l : List ℕ) → is_some (one t (take w l)) ≡ true → Right n (with_set t (take w l)) (drop w l) → Right (suc n) t l
+    with_first n t l e q =
+        let p = (step.ends t (take w l)).exactly.0 e in
+        let free = subst (λ (x : ℕ). Each w (Free x) n (drop w l)) (step.adds t (take w l)) q.1.0 in
+        let other : Each w (Others w n l number) n (drop w l) = λ i h. apart (held t) _ _ p.1 (free i h) in (
+          each_cons w n l InRange p.0 q.0,
           (
-            each_cons w n l InRange p.1.0 q.1.0,
-            (
-              each_cons w n l (Free (held t)) p.1.1 (λ i h. sym (bit_kept _ _ (held t) p.1.1 (other i h)) ∙ free i h),
-              none_cons w n l number other q.1.1.1,
-            ),
+            each_cons w n l (Free (held t)) p.1 (λ i h. sym (bit_kept _ _ (held t) p.1 (other i h)) ∙ free i h),
+            none_cons w n l number other q.1.1,
           ),
         )
 
     -- and back
-    past_first : (n : ℕ) (t : A) (l : List ℕ) → Right (suc n) t l → Right n (one t (take w l)) (drop w l)
+    first_read : (n : ℕ) (t : A) (l : List ℕ) → Right (suc n) t l → is_some (one t (take w l)) ≡ true
+    first_read n t l q = (step.ends t (take w l)).exactly.1 (each_head w n l InRange q.0, each_head w n l (Free (held t)) q.1.0)
+
+    past_first : (n : ℕ) (t : A) (l : List ℕ) → Right (suc n) t l → Right n (with_set t (take w l)) (drop w l)
     past_first n t l q =
-        let first = each_head w n l (Free (held t)) q.1.1.0 in
-        let read = (step.exactly t (take w l)).1 (q.0, (each_head w n l InRange q.1.0, first)) in
-        let other = none_head w n l number q.1.1.1 in
+        let first = each_head w n l (Free (held t)) q.1.0 in
+        let other = none_head w n l number q.1.1 in
         let free : Each w (Free (held t + 2 ^ number (take w l))) n (drop w l) =
-        λ i h. bit_kept _ _ (held t) first (other i h) ∙ each_tail w n l (Free (held t)) q.1.1.0 i h in (
-          read,
+        λ i h. bit_kept _ _ (held t) first (other i h) ∙ each_tail w n l (Free (held t)) q.1.0 i h in (
+          each_tail w n l InRange q.0,
           (
-            each_tail w n l InRange q.1.0,
-            (
-              subst (λ (x : ℕ). Each w (Free x) n (drop w l)) (sym (step.adds t (take w l) read)) free,
-              none_tail w n l number q.1.1.1,
-            ),
+            subst (λ (x : ℕ). Each w (Free x) n (drop w l)) (sym (step.adds t (take w l))) free,
+            none_tail w n l number q.1.1,
           ),
         )
 
-    pub all_exactly : (n : ℕ) (t : A) (l : List ℕ) → (ok (all n t l) ≡ true) ↔ Right n t l
+    -- the first of several is read, and then the others
+    pub first_then : (n : ℕ) (t : A) (l : List ℕ) → is_some (read_of one w (suc n) (Some t) l) ≡ true
+        → (one t (take w l) ≡ Some (with_set t (take w l))) × (read_of one w (suc n) (Some t) l ≡ read_of one w n (Some (with_set t (take w l))) (drop w l))
+    first_then n t l h = go (one t (take w l)) refl
+      where
+        go : (v : Option A) → one t (take w l) ≡ v
+            → (one t (take w l) ≡ Some (with_set t (take w l))) × (read_of one w (suc n) (Some t) l ≡ read_of one w n (Some (with_set t (take w l))) (drop w l))
+        go None e = let z = more_read one w n (Some t) l ∙ ap (λ (v : Option A). read_of one w n v (drop w l)) e ∙ none_stays one w n (drop w l) in
+            absurd (false≢true (sym (ap is_some z) ∙ h))
+        go (Some u) e = let is = (step.ends t (take w l)).is (ap is_some e) in
+            (is, more_read one w n (Some t) l ∙ ap (λ (v : Option A). read_of one w n v (drop w l)) is)
+
+    pub all_exactly : (n : ℕ) (t : A) (l : List ℕ) → (is_some (read_of one w n (Some t) l) ≡ true) ↔ Right n t l
     all_exactly zero t l =
         let nothing : (i : ℕ) → i < 0 → ⊥ = λ i k. not-suc-le-zero k in (
-          λ h. (subst (λ (x : A). ok x ≡ true) (parted.none t l) h, ((λ i k. absurd (nothing i k)), ((λ i k. absurd (nothing i k)), (λ i j h k. absurd (nothing j k))))),
-          λ h. subst (λ (x : A). ok x ≡ true) (sym (parted.none t l)) h.0,
+          λ h. ((λ i k. absurd (nothing i k)), ((λ i k. absurd (nothing i k)), (λ i j h k. absurd (nothing j k)))),
+          λ h. ap is_some (none_read one w (Some t) l),
         )
     all_exactly (suc n) t l =
-        let q = all_exactly n (one t (take w l)) (drop w l) in (
-          λ h. with_first n t l (q.0 (subst (λ (x : A). ok x ≡ true) (parted.more n t l) h)),
-          λ h. subst (λ (x : A). ok x ≡ true) (sym (parted.more n t l)) (q.1 (past_first n t l h)),
+        let q = all_exactly n (with_set t (take w l)) (drop w l) in (
+          λ h. let f = first_then n t l h in with_first n t l (ap is_some f.0) (q.0 (sym (ap is_some f.1) ∙ h)),
+          λ h. let is = (step.ends t (take w l)).is (first_read n t l h) in
+              ap is_some (more_read one w n (Some t) l ∙ ap (λ (v : Option A). read_of one w n v (drop w l)) is) ∙ q.1 (past_first n t l h),
         )
 
     -- where nothing is held yet, every bit is free
-    pub from_none : (n : ℕ) (t : A) (l : List ℕ) → ok t ≡ true → held t ≡ 0
-        → (ok (all n t l) ≡ true) ↔ (Each w InRange n l and NoneTwice w number n l)
-    from_none n t l e z =
+    pub from_none : (n : ℕ) (t : A) (l : List ℕ) → held t ≡ 0 → (is_some (read_of one w n (Some t) l) ≡ true) ↔ (Each w InRange n l and NoneTwice w number n l)
+    from_none n t l z =
         let q = all_exactly n t l in (
-          λ h. let p = q.0 h in (p.1.0, p.1.1.1),
-          λ h. q.1 (e, (h.0, ((λ i k. ap (λ (x : ℕ). bit_of x (number (set_at w i l))) z ∙ bit_none _), h.1))),
+          λ h. let p = q.0 h in (p.0, p.1.1),
+          λ h. q.1 (h.0, ((λ i k. ap (λ (x : ℕ). bit_of x (number (set_at w i l))) z ∙ bit_none _), h.1)),
         )
 
 -- ---- the two formats
 
--- read on only where nothing was wrong before
-ends_on : {A : Type 0} (ok : A → Bool) (t : A) {y z : A} {Q : Type 0} → Ends ok y Q z → Ends ok (cond (not (ok t)) t y) ((ok t ≡ true) and Q) z
-ends_on ok t {y} {z} {Q} q = cond_cases (λ v. Ends ok v ((ok t ≡ true) and Q) z) (not (ok t)) bad good
-  where
-    bad : not (ok t) ≡ true → Ends ok t ((ok t ≡ true) and Q) z
-    bad e =
-        let never : ok t ≡ true → ⊥ = λ h. false≢true (sym (not-true (ok t) e) ∙ h) in
-        record { exactly = (λ h. absurd (never h), λ h. absurd (never h.0)); is = λ h. absurd (never h) }
+-- a throttle set's range is two of the tests
+grouped : {A B C : Type 0} → (A and B and C) ↔ ((A and B) and C)
+grouped = (λ x. ((x.0, x.1.0), x.1.1), λ p. (p.0.0, (p.0.1, p.1)))
 
-    good : not (ok t) ≡ false → Ends ok y ((ok t ≡ true) and Q) z
-    good e = record { exactly = (λ h. (not-false (ok t) e, q.exactly.0 h), λ h. q.exactly.1 h.1); is = q.is }
+abbrev pub with_set : Throttles → List ℕ → Throttles
+with_set t s = with_pair t (pair_of s) (take 10 (drop 2 s))
 
--- a set's range is two of the tests
-grouped : {X A B C D : Type 0} → X ↔ (A and B and C and D) → X ↔ (A and (B and C) and D)
-grouped h = (λ x. let p = h.0 x in (p.0, ((p.1.0, p.1.1.0), p.1.1.1)), λ p. h.1 (p.0, (p.1.0.0, (p.1.0.1, p.1.1))))
+abbrev pub pairs_held : Throttles → ℕ
+pairs_held t = t.present
 
-abbrev pub sets_read : Sets → Bool
-sets_read t = t.ok
+pub set_stepped : Stepped one_set 12 pairs_held InPairs pair_of with_set
+unfolding one_set with_pair
+set_stepped = record {
+  ends = λ t s.
+      ends_when is_some grouped
+      (ends_unless is_some refl (lt_passes _ _)
+      (ends_unless is_some refl (lt_passes _ _)
+      (ends_last is_some refl (not_passes (eq_holds _ _)) refl)));
+  adds = λ t s. refl;
+}
 
-abbrev pub pairs_held : Sets → ℕ
-pairs_held t = t.table.present
+pub sets_exactly : (n : ℕ) (l : List ℕ) → (is_some (throttles_of n l) ≡ true) ↔ SetsOk n l
+unfolding SetsOk throttles_of
+sets_exactly n l = from_none one_set 12 pairs_held InPairs pair_of with_set set_stepped n _ l refl
 
-pub one_set_lem : (t : Sets) (s : List ℕ)
-    → Ends sets_read (one_set t s) ((t.ok ≡ true) and (get_or s 0 0 ≤ 7) and (get_or s 1 0 ≤ 1) and (bit_of t.table.present (pair_of s) ≡ 0)) (with_pair t (pair_of s) (take 10 (drop 2 s)))
-unfolding one_set bad_sets with_pair
-one_set_lem t s =
-    ends_on sets_read t
-    (ends_unless sets_read refl (lt_passes _ _)
-    (ends_unless sets_read refl (lt_passes _ _)
-    (ends_last sets_read refl (not_passes (eq_holds _ _)) refl)))
-
-pub set_stepped : Stepped sets_parted sets_read pairs_held InPairs pair_of
-unfolding with_pair
-set_stepped = record { exactly = λ t s. grouped (one_set_lem t s).exactly; adds = λ t s h. ap pairs_held ((one_set_lem t s).is h) }
-
-pub sets_exactly : (n : ℕ) (l : List ℕ) → ((sets_of n empty_sets l).ok ≡ true) ↔ SetsOk n l
-unfolding SetsOk empty_sets
-sets_exactly n l = from_none sets_parted sets_read pairs_held InPairs pair_of set_stepped n empty_sets l refl refl
-
-abbrev pub frus_read : Frus → Bool
-frus_read t = t.ok
+abbrev pub with_three : Frus → List ℕ → Frus
+with_three t s = with_fru t (fru_of s) (take 3 (drop 1 s))
 
 abbrev pub frus_held : Frus → ℕ
 frus_held t = t.seen
 
-pub one_fru_lem : (t : Frus) (s : List ℕ)
-    → Ends frus_read (one_fru t s) ((t.ok ≡ true) and (get_or s 0 0 ≤ 2) and InOrder (get_or s 1 0) (get_or s 2 0) and (bit_of t.seen (fru_of s) ≡ 0)) (with_fru t (fru_of s) (take 3 (drop 1 s)))
-unfolding one_fru bad_frus with_fru
-one_fru_lem t s =
-    ends_on frus_read t
-    (ends_unless frus_read refl (lt_passes _ _)
-    (ends_unless frus_read refl (not_passes (order_exactly _ _))
-    (ends_last frus_read refl (not_passes (eq_holds _ _)) refl)))
+pub fru_stepped : Stepped one_fru 4 frus_held InFrus fru_of with_three
+unfolding one_fru with_fru
+fru_stepped = record {
+  ends = λ t s.
+      ends_when is_some grouped
+      (ends_unless is_some refl (lt_passes _ _)
+      (ends_unless is_some refl (not_passes (order_exactly _ _))
+      (ends_last is_some refl (not_passes (eq_holds _ _)) refl)));
+  adds = λ t s. refl;
+}
 
-pub fru_stepped : Stepped frus_parted frus_read frus_held InFrus fru_of
-unfolding with_fru
-fru_stepped = record { exactly = λ t s. grouped (one_fru_lem t s).exactly; adds = λ t s h. ap frus_held ((one_fru_lem t s).is h) }
+is_some_map : {A B : Type 0} (f : A → B) (v : Option A) → is_some (option_map f v) ≡ is_some v
+is_some_map f None = refl
+is_some_map f (Some x) = refl
 
-pub frus_exactly : (n : ℕ) (l : List ℕ) → ((frus_of n empty_frus l).ok ≡ true) ↔ FrusOk n l
-unfolding FrusOk empty_frus
-frus_exactly n l = from_none frus_parted frus_read frus_held InFrus fru_of fru_stepped n empty_frus l refl refl
+pub frus_exactly : (n : ℕ) (l : List ℕ) → (is_some (thermal_of n l) ≡ true) ↔ FrusOk n l
+unfolding FrusOk thermal_of
+frus_exactly n l =
+    subst (λ (b : Bool). (b ≡ true) ↔ (Each 4 InFrus n l and NoneTwice 4 fru_of n l)) (sym (is_some_map _ _))
+    (from_none one_fru 4 frus_held InFrus fru_of with_three fru_stepped n _ l refl)

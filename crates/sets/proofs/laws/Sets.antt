@@ -1,9 +1,11 @@
 -- Laws of the sets that other crates build on: what was read is what a well-formed record can hold. Assumes nothing.
-use Rattle.std.specs.Prelude.{ℕ, zero, suc, ◌+◌, ◌-◌, ◌*◌, ◌/◌, ◌%◌, ◌^◌, ◌<◌, ◌≤◌, true, not, ◌≡◌, refl, List, [], ◌∷◌, ◌++◌, ltb, eqb, length, get_or, take, drop}
+use Rattle.std.specs.Prelude.{ℕ, zero, suc, ◌+◌, ◌-◌, ◌*◌, ◌/◌, ◌%◌, ◌^◌, ◌<◌, ◌≤◌, true, not, ◌≡◌, refl, Option, Some, None, List, [], ◌∷◌, ◌++◌, ltb, eqb, length, get_or, take, drop}
 use Rattle.std.proofs.Common.{sym, ap, subst, ◌∙◌, append_assoc, div-one, add_assoc, not-suc-le-zero, le_of_suc-le-suc, arith, ltb-false, eqb-true, length-take, length-drop, take-add, take_at, drop_at, drop-drop, length-take-le}
 use Rattle.std.proofs.Math.Nat.{two-pow-succ, pow-succ', div-div-eq-div-mul}
 use Rattle.std.proofs.lemmas.Bool.{not-false}
 use Rattle.std.proofs.Math.Seq.{drop-append-add}
+use Rattle.std.specs.Option.{IfSome, option_map}
+use Rattle.std.proofs.lemmas.Option.{IfSome_then}
 use Rattle.wire.specs.Wire.{pasted, all_are}
 use Rattle.wire.proofs.laws.Cases.{if_eq, cond_cases}
 use Rattle.wire.proofs.laws.Wire.{length_pasted}
@@ -11,31 +13,31 @@ use Rattle.record.specs.declared.Throttles.{Throttles}
 use Rattle.formed.specs.Formed.{pair_ok, pairs_ok, absent_zero, in_order, thermal_rule}
 use Rattle.formed.proofs.laws.Formed.{both_hold, hold_both}
 use Rattle.formed.proofs.laws.Thresholds.{order_exactly}
-use Rattle.sets.specs.declared.Sets.{Sets}
 use Rattle.sets.specs.declared.Frus.{Frus}
-use Rattle.sets.specs.Sets.{bit_of, empty_sets, bad_sets, with_pair, one_set, sets_of, empty_frus, bad_frus, with_fru, one_fru, frus_of}
+use Rattle.sets.specs.Sets.{bit_of, one_more, read_of, with_pair, one_set, throttles_of, empty_frus, with_fru, one_fru, thermal_of}
 
--- ---- part after part
+-- ---- set after set
 
--- `all` takes n parts of w bytes, one after the other, by `one`
-pub record Parted {A : Type 0} (one : A → List ℕ → A) (w : ℕ) (all : ℕ → A → List ℕ → A) : Type 0 where
-  pub none : (t : A) (l : List ℕ) → all 0 t l ≡ t
-  pub more : (n : ℕ) (t : A) (l : List ℕ) → all (suc n) t l ≡ all n (one t (take w l)) (drop w l)
+module _ {A : Type 0} (one : A → List ℕ → Option A) (w : ℕ) where
+  pub none_read : (t : Option A) (l : List ℕ) → read_of one w 0 t l ≡ t
+  unfolding read_of
+  none_read t l = refl
 
-pub sets_parted : Parted one_set 12 sets_of
-unfolding sets_of
-sets_parted = record { none = λ t l. refl; more = λ n t l. refl }
+  pub more_read : (n : ℕ) (t : Option A) (l : List ℕ) → read_of one w (suc n) t l ≡ read_of one w n (one_more one t (take w l)) (drop w l)
+  unfolding read_of
+  more_read n t l = refl
 
-pub frus_parted : Parted one_fru 4 frus_of
-unfolding frus_of
-frus_parted = record { none = λ t l. refl; more = λ n t l. refl }
+  -- once one is refused, all are
+  pub none_stays : (n : ℕ) (l : List ℕ) → read_of one w n None l ≡ None
+  none_stays zero l = none_read None l
+  none_stays (suc n) l = more_read n None l ∙ none_stays n (drop w l)
 
--- what each part keeps, all of them keep
-parts_keep : {A : Type 0} {one : A → List ℕ → A} {w : ℕ} {all : ℕ → A → List ℕ → A} (P : A → Type 0) → Parted one w all
-    → ((t : A) (s : List ℕ) → P t → P (one t s)) → (n : ℕ) (t : A) (l : List ℕ) → P t → P (all n t l)
-parts_keep P p keep zero t l h = subst P (sym (p.none t l)) h
-parts_keep {one = one} {w = w} P p keep (suc n) t l h =
-    subst P (sym (p.more n t l)) (parts_keep P p keep n (one t (take w l)) (drop w l) (keep t (take w l) h))
+  -- what each set keeps, all of them keep
+  read_keeps : (P : A → Type 0) → ((t : A) (s : List ℕ) → P t → IfSome (one t s) P) → (n : ℕ) (t : Option A) (l : List ℕ) → IfSome t P → IfSome (read_of one w n t l) P
+  unfolding read_of
+  read_keeps P keep zero t l h = h
+  read_keeps P keep (suc n) None l h = read_keeps P keep n None (drop w l) h
+  read_keeps P keep (suc n) (Some t) l h = read_keeps P keep n (one t (take w l)) (drop w l) (keep t (take w l) h)
 
 -- bytes pasted past the first k
 pub paste_past : (k at : ℕ) (v d : List ℕ) → pasted (k + at) v d ≡ take k d ++ pasted at v (drop k d)
@@ -102,43 +104,36 @@ pub record PairsFormed (t : Throttles) : Type 0 where
   pub long : length t.sets ≡ 160
   pub small : t.present < 2 ^ 16
 
-with_keeps : (t : Sets) (p : ℕ) (v : List ℕ) → p < 16 → length v ≤ 10 → bit_of t.table.present p ≡ 0 → PairsFormed t.table
-    → PairsFormed (with_pair t p v).table
+with_keeps : (t : Throttles) (p : ℕ) (v : List ℕ) → p < 16 → length v ≤ 10 → bit_of t.present p ≡ 0 → PairsFormed t → PairsFormed (with_pair t p v)
 unfolding with_pair bit_of absent_zero
 with_keeps t p v h k e f =
     let long = f.long in
-    let fits : p * 10 + length v ≤ length t.table.sets = omega arith in
-    let room : 16 * 10 ≤ length t.table.sets = omega arith in
+    let fits : p * 10 + length v ≤ length t.sets = omega arith in
+    let room : 16 * 10 ≤ length t.sets = omega arith in
     record {
-      absent = pairs_with 16 p t.table.present v t.table.sets h k room e f.absent;
-      long = length_pasted (p * 10) v t.table.sets fits ∙ long;
-      small = bit_free 16 p t.table.present f.small h e;
+      absent = pairs_with 16 p t.present v t.sets h k room e f.absent;
+      long = length_pasted (p * 10) v t.sets fits ∙ long;
+      small = bit_free 16 p t.present f.small h e;
     }
 
--- as a property of the sets read so far
-abbrev Held : Sets → Type 0
-Held t = PairsFormed t.table
-
-set_keeps : (t : Sets) (s : List ℕ) → Held t → Held (one_set t s)
-unfolding one_set bad_sets
+set_keeps : (t : Throttles) (s : List ℕ) → PairsFormed t → IfSome (one_set t s) PairsFormed
+unfolding one_set
 set_keeps t s f =
     let hub = get_or s 0 0 in
     let mba = get_or s 1 0 in
-    cond_cases Held (not t.ok) (λ _. f)
-    (λ _. cond_cases Held (ltb 7 hub) (λ _. f)
-    (λ a. cond_cases Held (ltb 1 mba) (λ _. f)
-    (λ b. cond_cases Held (not (eqb (bit_of t.table.present (hub * 2 + mba)) 0)) (λ _. f)
+    let Formed : Option Throttles → Type 0 = λ v. IfSome v PairsFormed in
+    cond_cases Formed (ltb 7 hub) (λ _. tt)
+    (λ a. cond_cases Formed (ltb 1 mba) (λ _. tt)
+    (λ b. cond_cases Formed (not (eqb (bit_of t.present (hub * 2 + mba)) 0)) (λ _. tt)
     (λ c.
     let h : hub ≤ 7 = ltb-false 7 hub a in
     let m : mba ≤ 1 = ltb-false 1 mba b in
-    with_keeps t (hub * 2 + mba) (take 10 (drop 2 s)) (omega arith) (simp length-take (omega arith)) (eqb-true _ 0 (not-false _ c)) f))))
+    with_keeps t (hub * 2 + mba) (take 10 (drop 2 s)) (omega arith) (simp length-take (omega arith)) (eqb-true _ 0 (not-false _ c)) f)))
 
 -- whatever was read
-pub sets_formed : (n : ℕ) (l : List ℕ) → PairsFormed (sets_of n empty_sets l).table
-unfolding empty_sets absent_zero pairs_ok pair_ok all_are
-sets_formed n l =
-    parts_keep Held sets_parted set_keeps n empty_sets l
-    (record { absent = refl; long = refl; small = omega arith })
+pub sets_formed : (n : ℕ) (l : List ℕ) → IfSome (throttles_of n l) PairsFormed
+unfolding throttles_of absent_zero pairs_ok pair_ok all_are
+sets_formed n l = read_keeps one_set 12 PairsFormed set_keeps n _ l (record { absent = refl; long = refl; small = omega arith })
 
 -- ---- thermal thresholds
 
@@ -170,31 +165,36 @@ set_over (f ∷ x ∷ []) h a b c n l e t = next (zero_over x b h) t
 set_over (f ∷ x ∷ y ∷ []) h a b c n l e t = next h t
 set_over (f ∷ x ∷ y ∷ z ∷ s) h a b c n l e t = next h t
 
--- as a property of the FRU types read so far
 abbrev Ruled : Frus → Type 0
 Ruled t = Triples 3 t.bytes
 
-fru_keeps : (t : Frus) (s : List ℕ) → Ruled t → Ruled (one_fru t s)
-unfolding one_fru bad_frus with_fru
+fru_keeps : (t : Frus) (s : List ℕ) → Ruled t → IfSome (one_fru t s) Ruled
+unfolding one_fru with_fru
 fru_keeps t s f =
     let fru = get_or s 0 0 in
-    cond_cases Ruled (not t.ok) (λ _. f)
-    (λ _. cond_cases Ruled (ltb 2 fru) (λ _. f)
-    (λ a. cond_cases Ruled (not (in_order (get_or s 1 0) (get_or s 2 0))) (λ _. f)
-    (λ b. cond_cases Ruled (not (eqb (bit_of t.seen fru) 0)) (λ _. f)
+    let Kept : Option Frus → Type 0 = λ v. IfSome v Ruled in
+    cond_cases Kept (ltb 2 fru) (λ _. tt)
+    (λ a. cond_cases Kept (not (in_order (get_or s 1 0) (get_or s 2 0))) (λ _. tt)
+    (λ b. cond_cases Kept (not (eqb (bit_of t.seen fru) 0)) (λ _. tt)
     (λ _.
     let h : fru ≤ 2 = ltb-false 2 fru a in
     let k : fru < 3 = omega arith in
-    triples_with fru (take 3 (drop 1 s)) (set_over s (not-false _ b)) k f))))
+    triples_with fru (take 3 (drop 1 s)) (set_over s (not-false _ b)) k f)))
 
 triples_rule : {l : List ℕ} → Triples 3 l → (thermal_rule l ≡ true) × (length l ≡ 9)
 unfolding thermal_rule
 triples_rule (next p (next q (next r none))) = (hold_both p (hold_both q r), refl)
 
--- whatever was read
-pub frus_formed : (n : ℕ) (l : List ℕ) → (thermal_rule (frus_of n empty_frus l).bytes ≡ true) × (length (frus_of n empty_frus l).bytes ≡ 9)
-unfolding empty_frus in_order
-frus_formed n l = triples_rule (parts_keep Ruled frus_parted fru_keeps n empty_frus l start)
-  where
-    start : Ruled empty_frus
-    start = next refl (next refl (next refl none))
+-- what holds of the bytes that were read holds of the table
+pub bytes_read : (P : List ℕ → Type 0) (v : Option Frus) → IfSome v (λ t. P t.bytes) → IfSome (option_map (λ (t : Frus). t.bytes) v) P
+bytes_read P None h = tt
+bytes_read P (Some t) h = h
+
+abbrev pub ThermalFormed : List ℕ → Type 0
+ThermalFormed t = (thermal_rule t ≡ true) × (length t ≡ 9)
+
+pub frus_formed : (n : ℕ) (l : List ℕ) → IfSome (thermal_of n l) ThermalFormed
+unfolding thermal_of in_order
+frus_formed n l =
+    let read = read_keeps one_fru 4 Ruled fru_keeps n _ l (next refl (next refl (next refl none))) in
+    bytes_read ThermalFormed _ (IfSome_then _ read (λ t. triples_rule))

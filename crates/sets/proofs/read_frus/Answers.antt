@@ -1,42 +1,22 @@
--- `read_frus` meets its contract: what the sets that are left make of the table so far is what all of them make of the empty one.
-use mathlib.Core.Path.{refl, ◌∙◌}
-use native.Mathlib.Omega.{arith}
-use Rattle.sets.proofs.laws.Sets.{frus_parted}
-use Rattle.sets.specs.Sets.{empty_frus}
-use Rattle.sets.proofs.Loops.{part_length, parts_end, parts_step}
+use Rattle.std.proofs.Common.{◌∙◌, ap, sym, lit<}
+use Rattle.std.specs.Option.{option_map}
+use Rattle.sets.specs.declared.Frus.{Frus}
+use Rattle.sets.specs.Sets.{empty_frus, one_fru, thermal_of}
+use Rattle.sets.proofs.Reading.{left_more, left_refused, left_none}
 use Rattle.sets.proofs.read_frus.Goals as goal
 
-pub loop-left-init : goal.loop-left-init
-unfolding empty_frus
-loop-left-init c = (omega arith, omega arith, refl)
+pub loop-set-preserved : goal.loop-set-preserved
+loop-set-preserved c =
+    let step = c.in-Some.ensures.steps in
+    left_more one_fru 4 (lit< tt) empty_frus c.loop-set.invariant _ _ step.1.0 step.1.1 _ _ (sym c.one_fru.ensures ∙ c.in_ok-t.was) step.0
 
-pub overflow_add-end : goal.overflow_add-end
-overflow_add-end c = omega arith
-
-pub slice_bounds-one_fru-count : goal.slice_bounds-one_fru-count
-slice_bounds-one_fru-count c = omega arith
-
-pub slice_bounds-one_fru-start : goal.slice_bounds-one_fru-start
-slice_bounds-one_fru-start c = omega arith
-
-pub slice_bounds-one_fru-end : goal.slice_bounds-one_fru-end
-slice_bounds-one_fru-end c = omega arith
-
-pub one_fru-t-requires : goal.one_fru-t-requires
-one_fru-t-requires c = part_length _ c.loop-left.at 4 (omega arith)
-
-pub overflow_sub-left : goal.overflow_sub-left
-overflow_sub-left c = omega arith
-
-pub loop-left-smaller : goal.loop-left-smaller
-loop-left-smaller c = omega arith
-
-pub loop-left-preserved : goal.loop-left-preserved
-loop-left-preserved c = (
-  omega arith,
-  omega arith,
-  parts_step frus_parted c.loop-left.left _ _ _ c.loop-left.at c.loop-left-test.true c.one_fru-t.ensures ∙ c.loop-left.invariant.2,
-)
+pub returns-in_err-t : goal.returns-in_err-t
+unfolding thermal_of
+returns-in_err-t c n h =
+    let step = c.in-Some.ensures.steps in
+    c.from_residual.ensures
+    ∙ ap (option_map (λ (t : Frus). t.bytes)) (left_refused one_fru 4 (lit< tt) empty_frus c.loop-set.invariant _ _ step.1.0 step.1.1 (sym c.one_fru.ensures ∙ c.in_err-t.was) n h)
 
 pub returns : goal.returns
-returns c = parts_end frus_parted c.loop-left.left _ _ c.loop-left-test.false ∙ c.loop-left.invariant.2
+unfolding thermal_of
+returns c n h = ap (option_map (λ (t : Frus). t.bytes)) (left_none one_fru 4 (lit< tt) empty_frus c.loop-set.invariant c.in-None.ensures.steps.1.0 n h)

@@ -1,11 +1,8 @@
-use Prim.Native.Nat.{◌<◌, ◌+◌, ◌*◌}
-use mathlib.Core.Path.{◌≡◌}
-use lib.ListN.{length, drop}
-use Rattle.sets.specs.Sets.{frus_of, empty_frus}
+use Rattle.std.proofs.Common.{lit<}
+use Rattle.std.specs.Slice.Iter.{chunks_exact_rest, chunks_exact_size}
+use Rattle.sets.specs.Sets.{empty_frus, one_fru}
+use Rattle.sets.proofs.Reading.{Left}
 use Rattle.sets.proofs.read_frus.Given as goal
 
-abbrev pub invariant-loop-left : goal.invariant-loop-left
-invariant-loop-left l = (l.at + l.left * 4 ≡ length l.part) × (l.left < 256) × (frus_of l.left l.t (drop l.at l.part) ≡ frus_of l.n empty_frus l.part)
-
-abbrev pub decreases-loop-left : goal.decreases-loop-left
-decreases-loop-left l = l.left
+abbrev pub invariant-loop-set : goal.invariant-loop-set
+invariant-loop-set l = Left one_fru 4 (lit< tt) empty_frus l.part (chunks_exact_rest l.set-iterator) (chunks_exact_size l.set-iterator) l.t

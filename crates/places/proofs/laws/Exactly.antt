@@ -88,7 +88,7 @@ clear_alike : (logs : List Log) (d : List ℕ) → Alike (clear_verdict logs d) 
 unfolding clear_verdict clear_at clear_fault
 clear_alike logs d =
     sized d 1
-    (elim (find_of (get_or d 0 0) logs) as (λ o. Alike (clear_at o logs) (cond (not (is_some o)) (wrong NotPending 1) Nothing))
+    (elim (find_of (get_or d 0 0) logs) as (λ o. Alike (clear_at o logs) (cond (not (is_some o)) (wrong NotPending 1) None))
     [ None ↦ wrongs NotPending 1 | Some p ↦ made _ ])
 
 -- the four tests of set state's bytes are one to the judge of statuses

@@ -8,11 +8,9 @@ use std::rt::{Env, Files};
 // The listing of what an open file holds.
 fn list_open<F: Read>(rt: &(impl Print + Eprint), file: &mut F, name: &[u8]) -> bool {
     let mut raw = [0u8; 2049];
-    let got = streams::read_full(rt, file, name, &mut raw);
-    if got.failed {
+    let Ok(used) = streams::read_full(rt, file, name, &mut raw) else {
         return true;
-    }
-    let used = got.count;
+    };
     let mut text = [0u8; listing::LONGEST];
     let n = listing::list(&raw[..used], &mut text);
     streams::write(rt, &text[..n])

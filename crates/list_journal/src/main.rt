@@ -3,11 +3,9 @@
 
 fn main(rt: HostRuntime) {
     let mut raw = [0u8; 2049];
-    let got = streams::read_full(&rt, &mut rt.stdin(), b"standard input", &mut raw);
-    if got.failed {
+    let Ok(used) = streams::read_full(&rt, &mut rt.stdin(), b"standard input", &mut raw) else {
         return;
-    }
-    let used = got.count;
+    };
     let mut text = [0u8; listing::LONGEST];
     let n = listing::list(&raw[..used], &mut text);
     streams::write(&rt, &text[..n]);

@@ -23,10 +23,8 @@ fn move_down(rt: &(impl Print + Eprint), saved: &[u8]) {
 
 fn main(rt: HostRuntime) {
     let mut saved = [0u8; saving::SAVED + 1];
-    let got = streams::read_full(&rt, &mut rt.stdin(), b"standard input", &mut saved);
-    if got.failed {
+    let Ok(n) = streams::read_full(&rt, &mut rt.stdin(), b"standard input", &mut saved) else {
         return;
-    }
-    let n = got.count;
+    };
     move_down(&rt, &saved[..n]);
 }

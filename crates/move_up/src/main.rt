@@ -4,11 +4,9 @@
 
 fn main(rt: HostRuntime) {
     let mut saved = [0u8; saving::BASE_MOST + 1];
-    let got = streams::read_full(&rt, &mut rt.stdin(), b"standard input", &mut saved);
-    if got.failed {
+    let Ok(n) = streams::read_full(&rt, &mut rt.stdin(), b"standard input", &mut saved) else {
         return;
-    }
-    let n = got.count;
+    };
     let mut form = [0u8; saving::SAVED];
     let told = saving::move_up(&saved[..n], &mut form);
     if told.answer != 0 {

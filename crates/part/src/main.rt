@@ -1,6 +1,7 @@
 // Tells where two recorded traces part: two files, named as arguments. Room for one byte more than a trace may have, so that a longer one is seen.
 #![tactic(auto)]
 
+ghost use Rattle.std.specs.Prelude.{IfSome};
 ghost use Rattle.io.specs.Counts.{IsPrefixLen};
 
 use std::rt::{Env, Files};
@@ -12,29 +13,21 @@ fn room() -> [u8; MOST + 1] {
     [0; MOST + 1]
 }
 
-// A length that no trace has, for a file that isn't taken.
-fn too_many(space: &[u8]) -> usize
-    ensures { IsPrefixLen result space.now }
+// The trace's length. There is none where the file can't be read or is too long.
+fn read_named(rt: &(impl Files + Eprint), name: &[u8], space: &mut [u8]) -> Option<usize>
+    ensures { IfSome result (λ n. IsPrefixLen n space.new) }
 {
-    space.len()
-}
-
-fn read_named(rt: &(impl Files + Eprint), name: &[u8], space: &mut [u8]) -> usize
-    ensures { IsPrefixLen result space.new }
-{
-    let got = streams::read_named(rt, name, space);
-    if got.failed {
-        return too_many(space);
-    }
-    if MOST < got.count {
+    let n = streams::read_named(rt, name, space).ok()?;
+    if MOST < n {
         streams::complain(rt, name, "over 1048576 bytes");
+        return None;
     }
-    got.count
+    Some(n)
 }
 
 // The trace that an argument names.
-fn read_arg(rt: &(impl Env + Files + Eprint), i: usize, space: &mut [u8]) -> usize
-    ensures { IsPrefixLen result space.new }
+fn read_arg(rt: &(impl Env + Files + Eprint), i: usize, space: &mut [u8]) -> Option<usize>
+    ensures { IfSome result (λ n. IsPrefixLen n space.new) }
 {
     let mut name = io::large_buffer();
     let n = streams::argument(rt, i, &mut name);
@@ -53,14 +46,12 @@ fn main(rt: HostRuntime) {
         return;
     }
     let mut first = room();
-    let n = read_arg(&rt, 1, &mut first);
-    if MOST < n {
+    let Some(n) = read_arg(&rt, 1, &mut first) else {
         return;
-    }
+    };
     let mut second = room();
-    let m = read_arg(&rt, 2, &mut second);
-    if MOST < m {
+    let Some(m) = read_arg(&rt, 2, &mut second) else {
         return;
-    }
+    };
     tell(&rt, &first[..n], &second[..m]);
 }

@@ -9,7 +9,7 @@ use inplace::Told;
 use orders::{Buffer, Call, Order, View, Word, Wrong};
 use std::io::Read;
 use std::rt::{Env, Files};
-use streams::Got;
+use streams::Failed;
 use text::Page;
 
 // The bytes of a SEEPROM's image that count.
@@ -229,8 +229,9 @@ fn reply_len(buffer: Buffer, call: Call) -> usize
     orders::MOST_BUFFER
 }
 
-// What is kept beside the session: the sequence of the last packet sent, the reply buffers that are lent, the bytes that the SEEPROM's image has
-// and those of the prepared packets in their slots, what the last OCC call told, and whether answers can still be written.
+// What is kept beside the session: the sequence of the last packet sent, the reply buffers that are
+// lent, the bytes that the SEEPROM's image has and those of the prepared packets in their slots, and
+// what the last OCC call told.
 #[derive(Clone, Copy)]
 struct Bench {
     sequence: u8,
@@ -238,7 +239,6 @@ struct Bench {
     seeprom: usize,
     prepared: usize,
     last: Told,
-    heard: bool,
 }
 
 // What the last OCC call told, after this one.
@@ -420,7 +420,7 @@ fn ready(b: Bench, order: Order, sent: &mut [u8]) -> Bench
     }
 }
 
-// An answer is written as soon as it is there.
+// An answer is written as soon as it is there; none comes back where it can't be.
 fn answer(
     rt: &(impl Print + Eprint),
     lent: &mut [u8],
@@ -428,18 +428,14 @@ fn answer(
     line: &[u8],
     sent: &mut [u8],
     out: &mut [u8],
-) -> Bench
+) -> Option<Bench>
     requires { (length lent.old ≡ image_length) × (106502 ≤ length sent.old) }
 {
     let order = admitted(orders::read(line, sent), b.prepared);
     let now = ready(b, order, sent);
     let mut page = Page::new(out);
     let last = obey(lent, order, now, sent, &mut page);
-    Bench {
-        last,
-        heard: streams::write(rt, page.text()),
-        ..now
-    }
+    streams::write(rt, page.text()).then_some(Bench { last, ..now })
 }
 
 // ---- input
@@ -467,7 +463,7 @@ struct Served {
     held: usize,
 }
 
-// Answers each line that the piece ends, as long as answers can be written.
+// Answers each line that the piece ends; none comes back where an answer can't be written.
 fn serve_piece(
     rt: &(impl Print + Eprint),
     lent: &mut [u8],
@@ -477,7 +473,7 @@ fn serve_piece(
     line: &mut [u8],
     sent: &mut [u8],
     out: &mut [u8],
-) -> Served
+) -> Option<Served>
     requires { (length lent.old ≡ image_length) × (106502 ≤ length sent.old) }
 {
     let mut bench = b;
@@ -490,13 +486,10 @@ fn serve_piece(
             break;
         };
         rest = after;
-        bench = answer(rt, lent, bench, &line[..held], sent, out);
+        bench = answer(rt, lent, bench, &line[..held], sent, out)?;
         held = 0;
-        if !bench.heard {
-            break;
-        }
     }
-    Served { bench, held }
+    Some(Served { bench, held })
 }
 
 // A piece of the input, and whether nothing comes after it.
@@ -511,17 +504,21 @@ fn fetch<R: Read>(rt: &impl Eprint, input: &mut R, piece: &mut [u8]) -> Piece
     requires { 1 ≤ length piece.old }
     ensures { IsPrefixLen result.count piece.new }
 {
-    let got = streams::read_input(rt, input, piece);
-    if got.failed || got.count > 0 {
-        return Piece {
-            count: got.count,
-            last: got.failed,
-        };
-    }
-    piece[0] = b'\n';
-    Piece {
-        count: io::count(1, piece),
-        last: true,
+    match streams::read_input(rt, input, piece) {
+        Ok(0) => {
+            piece[0] = b'\n';
+            Piece {
+                count: io::count(1, piece),
+                last: true,
+            }
+        }
+        Ok(count) => Piece { count, last: false },
+        Err(failed) => {
+            Piece {
+                count: failed.count,
+                last: true,
+            }
+        }
     }
 }
 
@@ -544,30 +541,32 @@ fn serve<R: Read>(
         seeprom,
         prepared: 0,
         last: inplace::answer_with(0, 0),
-        heard: true,
     };
     let mut held = 0;
     for _ in 0..u64::MAX {
         let got = fetch(rt, input, piece);
         let n = got.count;
         let served = serve_piece(rt, lent, bench, held, &piece[..n], line, sent, out);
-        bench = served.bench;
-        held = served.held;
-        if got.last || !bench.heard {
+        let Some(next) = served else {
+            return;
+        };
+        if got.last {
             return;
         }
+        bench = next.bench;
+        held = next.held;
     }
 }
 
 // The file that the argument names, as the SEEPROM's image at the start; an empty one where none is named.
-fn first_seeprom(rt: &(impl Env + Files + Eprint), sent: &mut [u8]) -> Got
+fn first_seeprom(
+    rt: &(impl Env + Files + Eprint),
+    sent: &mut [u8],
+) -> Result<usize, Failed>
     requires { 106502 ≤ length sent.old }
 {
     if !streams::is_given(rt, 1) {
-        return Got {
-            count: 0,
-            failed: false,
-        };
+        return Ok(0);
     }
     let mut name = io::large_buffer();
     let n = streams::argument(rt, 1, &mut name);
@@ -591,9 +590,8 @@ fn serve_fresh<R: Read>(rt: &(impl Print + Eprint), input: &mut R, sent: &mut [u
 // A file that can't be read has been told of, and no line is answered.
 fn main(rt: HostRuntime) {
     let mut sent = [0u8; GIVEN];
-    let seeprom = first_seeprom(&rt, &mut sent);
-    if seeprom.failed {
+    let Ok(seeprom) = first_seeprom(&rt, &mut sent) else {
         return;
-    }
-    serve_fresh(&rt, &mut rt.stdin(), &mut sent, seeprom.count);
+    };
+    serve_fresh(&rt, &mut rt.stdin(), &mut sent, seeprom);
 }

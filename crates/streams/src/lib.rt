@@ -2,8 +2,9 @@
 // repeated until it is. If reading or writing fails, standard error gets the system's reason.
 #![tactic(auto)]
 
-ghost use Rattle.std.specs.Prelude.{◌≡◌, ◌<◌, ◌≤◌, false, true, length, take, IfOk, OnErr};
+ghost use Rattle.std.specs.Prelude.{◌≡◌, ◌<◌, ◌≤◌, true, length, take, IfOk, IfErr, OnErr};
 ghost use Rattle.io.specs.Counts.{IsPrefixLen};
+ghost use Rattle.streams.specs.Reads.{count_of};
 ghost use Rattle.std.specs.Io.{ReadsAtMost, WritesAtMost};
 ghost use Rattle.std.specs.Io.KnownBytes.{Appends, Consumes, IsAtEnd, Keeps};
 
@@ -125,68 +126,66 @@ fn answered<R: Read>(reader: &mut R, space: &mut [u8]) -> io::Result<usize>
     Err(Error::from(ErrorKind::TimedOut))
 }
 
-// How many bytes are at the start of a buffer: none at the end of the input or after a failed read.
-#[derive(Clone, Copy)]
-pub struct Got {
+// Reading failed, which standard error was told, once so many bytes were read.
+#[derive(Clone, Copy, PartialEq, Eq)]
+pub struct Failed {
     pub count: usize,
-    pub failed: bool,
 }
 
-// One read. The name is what a complaint begins with.
-pub fn read<R: Read>(rt: &impl Eprint, reader: &mut R, name: &[u8], space: &mut [u8]) -> Got
-    ensures count { IsPrefixLen result.count space.new }
-    ensures bytes { Consumes (R.remaining reader.old) (R.remaining reader.new) (take result.count space.new) }
-    ensures end { result.failed ≡ false → result.count ≡ 0 → 0 < length space.old → IsAtEnd (R.remaining reader.new) }
-    ensures failed { result.failed ≡ true → result.count ≡ 0 }
+// One read, of no bytes at the end of the input. The name is what a complaint begins with.
+pub fn read<R: Read>(
+    rt: &impl Eprint,
+    reader: &mut R,
+    name: &[u8],
+    space: &mut [u8],
+) -> Result<usize, Failed>
+    ensures count { IsPrefixLen (count_of result) space.new }
+    ensures bytes { Consumes (R.remaining reader.old) (R.remaining reader.new) (take (count_of result) space.new) }
+    ensures end { IfOk result (λ n. n ≡ 0 → 0 < length space.old → IsAtEnd (R.remaining reader.new)) }
+    ensures failed { IfErr result (λ failed. failed.count ≡ 0) }
 {
     match answered(reader, space) {
-        Ok(n) => {
-            Got {
-                count: n,
-                failed: false,
-            }
-        }
+        Ok(n) => Ok(n),
         Err(e) => {
             complain(rt, name, e);
-            Got {
-                count: 0,
-                failed: true,
-            }
+            Err(Failed { count: 0 })
         }
     }
 }
 
-pub fn read_input<R: Read>(rt: &impl Eprint, input: &mut R, space: &mut [u8]) -> Got
-    ensures count { IsPrefixLen result.count space.new }
-    ensures bytes { Consumes (R.remaining input.old) (R.remaining input.new) (take result.count space.new) }
-    ensures end { result.failed ≡ false → result.count ≡ 0 → 0 < length space.old → IsAtEnd (R.remaining input.new) }
-    ensures failed { result.failed ≡ true → result.count ≡ 0 }
+pub fn read_input<R: Read>(
+    rt: &impl Eprint,
+    input: &mut R,
+    space: &mut [u8],
+) -> Result<usize, Failed>
+    ensures count { IsPrefixLen (count_of result) space.new }
+    ensures bytes { Consumes (R.remaining input.old) (R.remaining input.new) (take (count_of result) space.new) }
+    ensures end { IfOk result (λ n. n ≡ 0 → 0 < length space.old → IsAtEnd (R.remaining input.new)) }
+    ensures failed { IfErr result (λ failed. failed.count ≡ 0) }
 {
     read(rt, input, b"standard input", space)
 }
 
 // Reads until the space is full or the input ends.
-pub fn read_full<R: Read>(rt: &impl Eprint, reader: &mut R, name: &[u8], space: &mut [u8]) -> Got
-    ensures count { IsPrefixLen result.count space.new }
-    ensures bytes { Consumes (R.remaining reader.old) (R.remaining reader.new) (take result.count space.new) }
-    ensures end { result.failed ≡ false → result.count < length space.old → IsAtEnd (R.remaining reader.new) }
+pub fn read_full<R: Read>(
+    rt: &impl Eprint,
+    reader: &mut R,
+    name: &[u8],
+    space: &mut [u8],
+) -> Result<usize, Failed>
+    ensures count { IsPrefixLen (count_of result) space.new }
+    ensures bytes { Consumes (R.remaining reader.old) (R.remaining reader.new) (take (count_of result) space.new) }
+    ensures end { IfOk result (λ n. n < length space.old → IsAtEnd (R.remaining reader.new)) }
 {
     let mut done = 0;
     while done < space.len() {
-        let got = read(rt, reader, name, &mut space[done..]);
-        let n = got.count;
-        if n == 0 {
-            return Got {
-                count: done,
-                failed: got.failed,
-            };
+        match read(rt, reader, name, &mut space[done..]) {
+            Ok(0) => return Ok(done),
+            Ok(n) => done += n,
+            Err(_) => return Err(Failed { count: done }),
         }
-        done += n;
     }
-    Got {
-        count: done,
-        failed: false,
-    }
+    Ok(done)
 }
 
 // Opens the file of that name for reading. std takes no name that isn't UTF-8.
@@ -198,17 +197,18 @@ pub fn open<R: Files>(rt: &R, name: &[u8]) -> io::Result<R::File> {
 }
 
 // Reads the file of that name, as far as the space goes. If it can't be opened, that is reported.
-pub fn read_named<R: Files + Eprint>(rt: &R, name: &[u8], space: &mut [u8]) -> Got
-    ensures { IsPrefixLen result.count space.new }
+pub fn read_named<R: Files + Eprint>(
+    rt: &R,
+    name: &[u8],
+    space: &mut [u8],
+) -> Result<usize, Failed>
+    ensures { IsPrefixLen (count_of result) space.new }
 {
     match open(rt, name) {
         Ok(mut file) => read_full(rt, &mut file, name, space),
         Err(e) => {
             complain(rt, name, e);
-            Got {
-                count: 0,
-                failed: true,
-            }
+            Err(Failed { count: 0 })
         }
     }
 }
@@ -275,14 +275,12 @@ mod tests {
     #[test]
     fn reads_on_until_it_breaks(rt: HostRuntime) {
         let mut space = [0u8; 3];
-        let got = read_full(&rt, &mut Frail { turn: 0 }, b"frail", &mut space);
-        assert!(rt; got.failed);
-        assert_eq!(rt; got.count, 2);
+        let broken = read_full(&rt, &mut Frail { turn: 0 }, b"frail", &mut space);
+        assert!(rt; broken == Err(Failed { count: 2 }));
         assert_eq!(rt; space[0], b'2');
         assert_eq!(rt; space[1], b'4');
         let whole = read_full(&rt, &mut Frail { turn: 5 }, b"frail", &mut space);
-        assert!(rt; !whole.failed);
-        assert_eq!(rt; whole.count, 3);
+        assert!(rt; whole == Ok(3));
     }
 
     #[test]
@@ -295,7 +293,7 @@ mod tests {
     #[test]
     fn a_file_that_is_missing_is_said(rt: HostRuntime) {
         let mut space = [0u8; 8];
-        assert!(rt; read_named(&rt, b"no such file", &mut space).failed);
-        assert!(rt; read_named(&rt, b"\xFF", &mut space).failed);
+        assert!(rt; read_named(&rt, b"no such file", &mut space).is_err());
+        assert!(rt; read_named(&rt, b"\xFF", &mut space).is_err());
     }
 }

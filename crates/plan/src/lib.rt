@@ -68,12 +68,7 @@ fn sounds(packets: &[u8]) -> [bool; 5]
 fn failed(t: Trial) -> Trial
     ensures { result ≡ failed t }
 {
-    let held = t.held;
-    Trial {
-        ok: false,
-        held: held,
-        next: t.next,
-    }
+    Trial { ok: false, ..t }
 }
 
 // A change carried out: the record, and the next id where it makes a log.
@@ -96,22 +91,21 @@ fn attempt(t: Trial, fine: bool, command: &[u8]) -> Trial
     if !fine {
         return failed(t);
     }
-    let held = t.held;
-    let worked = record::work_out(held);
+    let worked = record::work_out(t.held);
     let kind = command[1];
-    let judged = occ::judge(held, worked, t.next, 0x10, kind, packet::data_part(command));
-    let verdict = judged.verdict;
+    let judged = occ::judge(
+        t.held,
+        worked,
+        t.next,
+        0x10,
+        kind,
+        packet::data_part(command),
+    );
     let tables = judged.tables;
-    match verdict {
+    match judged.verdict {
         Verdict::Refuse(_) => failed(t),
         Verdict::Poll => t,
-        Verdict::Make(change) => made(
-            t,
-            Edit {
-                change: change,
-                tables: tables,
-            },
-        ),
+        Verdict::Make(change) => made(t, Edit { change, tables }),
     }
 }
 

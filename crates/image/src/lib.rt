@@ -3,11 +3,11 @@
 
 ghost use Rattle.std.specs.Prelude.{◌≡◌, ◌≤◌, ◌+◌, length};
 ghost use Rattle.wire.specs.Wire.{pasted, Bytes, joined};
-ghost use Rattle.image.specs.Image.{head_rows, throttles_rows, thermal_rows, logs_rows, mailbox_rows, worked_rows, record_rows, image_of, written_to, part_at, caps_in, throttles_in, received_in, log_at, logs_in, deadman_in, areas_in, record_in, worked_in, timer_rows, timer_in, head_in, head_renewed, head_timed, store_at, journal_in, redo_in, marks_in, session_in};
+ghost use Rattle.image.specs.Image.{head_rows, throttles_rows, thermal_rows, logs_rows, mailbox_rows, worked_rows, record_rows, image_of, written_to, received_in, log_at, logs_in, record_in, worked_in, timer_rows, timer_in, head_in, head_renewed, head_timed, store_at, journal_in, redo_in, marks_in, session_in};
 ghost use Rattle.layout.specs.Layout.{journal_at, timer_at, image_length};
 
 use journal::Way;
-use record::{Area, Areas, Caps, Deadman, Log, Received, Record, Throttles, Timer, Worked};
+use record::{Areas, Caps, Deadman, Log, Received, Record, Throttles, Timer, Worked};
 use session::Session;
 
 // A session without its journal, its redo store and its marks, which stay in the lent bytes.
@@ -23,29 +23,30 @@ pub struct Head {
 }
 
 // A head from a head: this record, with what is worked out of it, this next id and these used lengths; the rest is kept.
+#[tactic(auto, unfolding(crate::specs::Image::head_renewed))]
 pub fn renewed(h: Head, held: Record, next: u16, used: u16, ahead: u16) -> Head
     ensures { result ≡ head_renewed h held next used ahead }
 {
-    let worked = record::work_out(held);
-    let mut after = h;
-    after.held = held;
-    after.worked = worked;
-    after.next = next;
-    after.used = used;
-    after.ahead = ahead;
-    after
+    Head {
+        held,
+        worked: record::work_out(held),
+        next,
+        used,
+        ahead,
+        ..h
+    }
 }
 
 // And one with another timer.
+#[tactic(auto, unfolding(crate::specs::Image::head_timed))]
 pub fn with_timer(h: Head, timer: Timer) -> Head
     ensures { result ≡ head_timed h timer }
 {
-    let mut after = h;
-    after.timer = timer;
-    after
+    Head { timer, ..h }
 }
 
 // Where a store stands, 2,048 bytes.
+#[tactic(auto, unfolding(crate::specs::Image::store_at))]
 pub fn store_at(way: Way) -> usize
     ensures { result ≡ store_at way }
 {
@@ -173,13 +174,10 @@ pub fn write_head(d: &mut [u8], h: Head)
     requires { length d.old ≡ image_length }
     ensures { d.new ≡ image_of (session_in h d.old) }
 {
-    let held = h.held;
-    let worked = h.worked;
-    let timer = h.timer;
-    put_record(&mut *d, held);
-    put_worked(&mut *d, worked, h.next, h.used);
+    put_record(&mut *d, h.held);
+    put_worked(&mut *d, h.worked, h.next, h.used);
     wire::put_be(&mut *d, layout::AHEAD, 2, h.ahead as u64);
-    put_timer(d, timer, h.profile);
+    put_timer(d, h.timer, h.profile);
 }
 
 fn put_stores(d: &mut [u8], journal: [u8; 2048], redo: [u8; 2048], marks: [u8; 64])
@@ -201,19 +199,16 @@ pub fn write(s: Session, d: &mut [u8])
     let journal = s.journal;
     let redo = s.redo;
     let marks = s.marks;
-    let held = s.held;
-    let worked = s.worked;
-    let timer = s.timer;
     put_stores(&mut *d, journal, redo, marks);
     write_head(
         d,
         Head {
-            held: held,
-            worked: worked,
+            held: s.held,
+            worked: s.worked,
             next: s.next,
             used: s.used,
             ahead: s.ahead,
-            timer: timer,
+            timer: s.timer,
             profile: s.profile,
         },
     );
@@ -221,42 +216,7 @@ pub fn write(s: Session, d: &mut [u8])
 
 // ---- reading, a part at a time
 
-fn caps_in(b: &[u8]) -> Caps
-    requires { journal_at ≤ length b.now }
-    ensures { result ≡ caps_in b.now }
-{
-    let min = wire::be16(b, 2);
-    let max = wire::be16(b, 4);
-    let over = wire::be16(b, 6);
-    Caps {
-        min: min,
-        max: max,
-        over: over,
-    }
-}
-
-fn throttles_in(b: &[u8]) -> Throttles
-    requires { journal_at ≤ length b.now }
-    ensures { result ≡ throttles_in b.now }
-{
-    let present = wire::be16(b, 8);
-    let mut sets = [0u8; 160];
-    wire::copy(&mut sets, 0, &b[10..170]);
-    Throttles {
-        present: present,
-        sets: sets,
-    }
-}
-
-fn thermal_in(b: &[u8]) -> [u8; 9]
-    requires { journal_at ≤ length b.now }
-    ensures { result ≡ part_at 9 172 b.now }
-{
-    let mut thermal = [0u8; 9];
-    wire::copy(&mut thermal, 0, &b[172..181]);
-    thermal
-}
-
+#[tactic(auto, unfolding(crate::specs::Image::received_in))]
 fn received_in(b: &[u8]) -> Received
     requires { journal_at ≤ length b.now }
     ensures { result ≡ received_in b.now }
@@ -269,6 +229,7 @@ fn received_in(b: &[u8]) -> Received
     }
 }
 
+#[tactic(auto, unfolding(crate::specs::Image::log_at))]
 fn log_at(b: &[u8], at: usize) -> Log
     requires { at + 2 ≤ length b.now }
     ensures { result ≡ log_at at b.now }
@@ -279,6 +240,7 @@ fn log_at(b: &[u8], at: usize) -> Log
     }
 }
 
+#[tactic(auto, unfolding(crate::specs::Image::logs_in))]
 fn logs_in(b: &[u8]) -> [Log; 4]
     requires { journal_at ≤ length b.now }
     ensures { result ≡ logs_in b.now }
@@ -291,84 +253,55 @@ fn logs_in(b: &[u8]) -> [Log; 4]
     ]
 }
 
-fn deadman_in(b: &[u8]) -> Deadman
-    requires { journal_at ≤ length b.now }
-    ensures { result ≡ deadman_in b.now }
-{
-    let time = wire::be64(b, 198);
-    Deadman {
-        running: b[197],
-        time: time,
-    }
-}
-
-fn areas_in(b: &[u8]) -> Areas
-    requires { journal_at ≤ length b.now }
-    ensures { result ≡ areas_in b.now }
-{
-    let ffdc = Area {
-        address: wire::be64(b, 206),
-        size: wire::be32(b, 214),
-    };
-    let pass = Area {
-        address: wire::be64(b, 218),
-        size: wire::be32(b, 226),
-    };
-    Areas {
-        ffdc: ffdc,
-        pass: pass,
-    }
-}
-
 pub fn record_in(b: &[u8]) -> Record
     requires { journal_at ≤ length b.now }
     ensures { result ≡ record_in b.now }
 {
-    let caps = caps_in(b);
-    let throttles = throttles_in(b);
-    let user = wire::be16(b, 170);
-    let thermal = thermal_in(b);
-    let received = received_in(b);
+    let throttles = journal::throttles_at(b, 8);
+    let thermal = journal::thermal_at(b, 172);
     let logs = logs_in(b);
-    let mask = wire::be32(b, 193);
-    let deadman = deadman_in(b);
-    let areas = areas_in(b);
     Record {
         state: b[0],
         role: b[1],
-        caps: caps,
-        throttles: throttles,
-        user: user,
-        thermal: thermal,
-        received: received,
-        logs: logs,
-        mask: mask,
-        deadman: deadman,
-        areas: areas,
+        caps: journal::caps_at(b, 2),
+        throttles,
+        user: wire::be16(b, 170),
+        thermal,
+        received: received_in(b),
+        logs,
+        mask: wire::be32(b, 193),
+        deadman: Deadman {
+            running: b[197],
+            time: wire::be64(b, 198),
+        },
+        areas: Areas {
+            ffdc: journal::area_at(b, 206),
+            pass: journal::area_at(b, 218),
+        },
     }
 }
 
+#[tactic(auto, unfolding(crate::specs::Image::worked_in))]
 fn worked_in(b: &[u8]) -> Worked
     requires { journal_at ≤ length b.now }
     ensures { result ≡ worked_in b.now }
 {
-    let limit = wire::be16(b, 230);
     Worked {
-        limit: limit,
+        limit: wire::be16(b, 230),
         observation: b[232],
         active: b[233],
         wanted: b[234],
     }
 }
 
+#[tactic(auto, unfolding(crate::specs::Image::timer_in))]
 fn timer_in(b: &[u8]) -> Timer
     requires { image_length ≤ length b.now }
     ensures { result ≡ timer_in b.now }
 {
-    let left = wire::be64(b, layout::TIMER + 1);
     Timer {
         running: b[layout::TIMER],
-        left: left,
+        left: wire::be64(b, layout::TIMER + 1),
     }
 }
 
@@ -379,17 +312,12 @@ pub fn read_head(b: &[u8]) -> Head
     ensures value { result ≡ head_in b.now }
     ensures bytes { Bytes b.now }
 {
-    let held = record_in(b);
-    let worked = worked_in(b);
-    let next = wire::be16(b, 235);
-    let used = wire::be16(b, 237);
-    let ahead = wire::be16(b, layout::AHEAD);
     Head {
-        held: held,
-        worked: worked,
-        next: next,
-        used: used,
-        ahead: ahead,
+        held: record_in(b),
+        worked: worked_in(b),
+        next: wire::be16(b, 235),
+        used: wire::be16(b, 237),
+        ahead: wire::be16(b, layout::AHEAD),
         timer: timer_in(b),
         profile: b[layout::PROFILE],
     }

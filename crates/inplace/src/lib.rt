@@ -35,9 +35,9 @@ pub fn answer_with(answer: u8, beside: u16) -> Told
     ensures { result ≡ record { answer = answer; small = 0; beside = beside } }
 {
     Told {
-        answer: answer,
+        answer,
         small: 0,
-        beside: beside,
+        beside,
     }
 }
 
@@ -92,13 +92,10 @@ pub fn well_formed(lent: &[u8], h: Head) -> bool
     requires { length lent.now ≡ image_length }
     ensures { result ≡ well_formed (session_in h lent.now) }
 {
-    let held = h.held;
-    let worked = h.worked;
-    let timer = h.timer;
-    if !session::held_ok(held, worked, h.next) {
+    if !session::held_ok(h.held, h.worked, h.next) {
         return false;
     }
-    if !formed::timer_ok(timer) {
+    if !formed::timer_ok(h.timer) {
         return false;
     }
     if !stores_ok(lent, h) {

@@ -1,4 +1,5 @@
 -- What the functions that read, add and cut an entry do to the part that is lent to them. Assumes nothing.
+use native.Mathlib.Nat.{add-sub_cancel_left}
 use Rattle.std.specs.Prelude.{Option, None, Some}
 use Prim.Native.Nat.{ℕ, zero, suc, ◌+◌, ◌-◌, ◌≤◌, ◌<◌}
 use mathlib.Core.Bool.{Bool, true, false, cond, false≢true}
@@ -140,3 +141,7 @@ part_copied b d x at n h l p =
     let m : length (take n (drop at b)) ≡ n = length-take-le n (drop at b) (simp length-drop (omega arith)) in
     let z : drop (0 + length (take n (drop at b))) d ≡ [] = drop_of_length-le d {i = 0 + length (take n (drop at b))} (omega (arith, m)) in
     p ∙ rw (z, append-nil)
+
+-- the same, with its bounds as the code writes them
+pub copied_from : (b d x : List ℕ) (at n : ℕ) → at + n ≤ length b → length d ≡ n → x ≡ pasted 0 (take (at + n - at) (drop at b)) d → x ≡ take n (drop at b)
+copied_from b d x at n h l p = part_copied b d x at n h l (p ∙ ap (λ (k : ℕ). pasted 0 (take k (drop at b)) d) (add-sub_cancel_left at n))

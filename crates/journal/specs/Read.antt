@@ -26,8 +26,8 @@ caps_at at b = record { min = be_nat (take 2 (drop at b)); max = be_nat (take 2 
 unfoldable pub area_at : ℕ → List ℕ → Area
 area_at at b = record { address = be_nat (take 8 (drop at b)); size = be_nat (take 4 (drop (at + 8) b)) }
 
-unfoldable pub throttles_from : List ℕ → Throttles
-throttles_from b = record { present = be_nat (take 2 (drop 1 b)); sets = take 160 (drop 3 b) }
+abbrev pub throttles_at : ℕ → List ℕ → Throttles
+throttles_at at b = record { present = be_nat (take 2 (drop at b)); sets = take 160 (drop (at + 2) b) }
 
 -- ---- what a body says, by its kind, or None where there is no such kind. The journal's bodies hold "what was before", those of the redo store (document 02) "what was after":
 -- "for kind 08 that is the log's id and reason, 0 and 0 without one"
@@ -60,7 +60,7 @@ found_for w k b =
 unfoldable pub tables_in : ℕ → List ℕ → Tables
 tables_in k b =
     cond (eqb k 0x06) (record { thermal = take 9 (drop 1 b); throttles = no_throttles })
-    (cond (eqb k 0x07) (record { thermal = replicate 9 0; throttles = throttles_from b })
+    (cond (eqb k 0x07) (record { thermal = replicate 9 0; throttles = throttles_at 1 b })
     no_tables)
 
 unfoldable pub edit_by : Tables → Option Change → Option Edit

@@ -9,7 +9,7 @@ ghost use Rattle.entries.specs.Entries.{body_len};
 ghost use Rattle.entries.specs.Entries.{Sized};
 ghost use Rattle.marks.specs.Marks.{stands_at, rest_unused};
 ghost use Rattle.journal.specs.Bytes.{throttles_body, clock_body, areas_body, Spells, entry_for, entry_bytes};
-ghost use Rattle.journal.specs.Read.{caps_at, area_at, throttles_from, cleared_as, reset_as, reset_ok, found_for, tables_in, got_of, entry_ok, read_ok};
+ghost use Rattle.journal.specs.Read.{caps_at, area_at, throttles_at, cleared_as, reset_as, reset_ok, found_for, tables_in, got_of, entry_ok, read_ok};
 ghost use Rattle.journal.specs.Ways.{by_way};
 ghost use Rattle.journal.specs.Add.{entry_len, end_of, added_to, cut_from};
 
@@ -130,52 +130,47 @@ fn put(d: &mut [u8], e: Edit)
 
 // ---- reading an entry
 
-fn caps_at(b: &[u8], at: usize) -> Caps
+#[tactic(auto, unfolding(crate::specs::Read::caps_at))]
+pub fn caps_at(b: &[u8], at: usize) -> Caps
     requires { at + 6 ≤ length b.now }
     ensures { result ≡ caps_at at b.now }
 {
-    let min = wire::be16(b, at);
-    let max = wire::be16(b, at + 2);
-    let over = wire::be16(b, at + 4);
     Caps {
-        min: min,
-        max: max,
-        over: over,
+        min: wire::be16(b, at),
+        max: wire::be16(b, at + 2),
+        over: wire::be16(b, at + 4),
     }
 }
 
-fn area_at(b: &[u8], at: usize) -> Area
+#[tactic(auto, unfolding(crate::specs::Read::area_at))]
+pub fn area_at(b: &[u8], at: usize) -> Area
     requires { at + 12 ≤ length b.now }
     ensures { result ≡ area_at at b.now }
 {
-    let address = wire::be64(b, at);
-    let size = wire::be32(b, at + 8);
     Area {
-        address: address,
-        size: size,
+        address: wire::be64(b, at),
+        size: wire::be32(b, at + 8),
     }
 }
 
-fn thermal_in(b: &[u8]) -> [u8; 9]
-    requires { 10 ≤ length b.now }
-    ensures { result ≡ take 9 (drop 1 b.now) }
+pub fn thermal_at(b: &[u8], at: usize) -> [u8; 9]
+    requires { at + 9 ≤ length b.now }
+    ensures { result ≡ take 9 (drop at b.now) }
 {
     let mut thermal = [0u8; 9];
-    wire::copy(&mut thermal, 0, &b[1..10]);
+    wire::copy(&mut thermal, 0, &b[at..at + 9]);
     thermal
 }
 
-fn throttles_in(b: &[u8]) -> Throttles
-    requires { 163 ≤ length b.now }
-    ensures { result ≡ throttles_from b.now }
+pub fn throttles_at(b: &[u8], at: usize) -> Throttles
+    requires { at + 162 ≤ length b.now }
+    ensures { result ≡ throttles_at at b.now }
 {
-    let present = wire::be16(b, 1);
+    let present = wire::be16(b, at);
     let mut sets = [0u8; 160];
-    wire::copy(&mut sets, 0, &b[3..163]);
-    Throttles {
-        present: present,
-        sets: sets,
-    }
+    let start = at + 2;
+    wire::copy(&mut sets, 0, &b[start..start + 160]);
+    Throttles { present, sets }
 }
 
 // A clear is taken back, or done again.
@@ -245,14 +240,14 @@ fn tables_in(kind: u8, b: &[u8]) -> Tables
     let no_thermal = none.thermal;
     let no_throttles = none.throttles;
     if kind == 0x06 {
-        let thermal = thermal_in(b);
+        let thermal = thermal_at(b, 1);
         return Tables {
             thermal: thermal,
             throttles: no_throttles,
         };
     }
     if kind == 0x07 {
-        let throttles = throttles_in(b);
+        let throttles = throttles_at(b, 1);
         return Tables {
             thermal: no_thermal,
             throttles: throttles,
@@ -306,8 +301,8 @@ fn body_ok(way: Way, kind: u8, b: &[u8]) -> bool
         0x03 => formed::role_ok(b[0], b[1]),
         0x04 => formed::caps_ok(b[0], caps_at(b, 1)),
         0x05 => true,
-        0x06 => formed::thermal_ok(b[0], thermal_in(b)),
-        0x07 => formed::throttles_ok(b[0], throttles_in(b)),
+        0x06 => formed::thermal_ok(b[0], thermal_at(b, 1)),
+        0x07 => formed::throttles_ok(b[0], throttles_at(b, 1)),
         0x08 => reset_ok(way, b[0], b[1]),
         0x09 => true,
         0x0A => formed::deadman_ok(Deadman {

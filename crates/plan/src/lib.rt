@@ -82,13 +82,18 @@ fn attempt(t: Trial, fine: bool, command: &[u8]) -> Option<Trial>
     if !fine {
         return None;
     }
-    let held = t.held;
-    let worked = record::work_out(held);
+    let worked = record::work_out(t.held);
     let kind = command[1];
-    let judged = occ::judge(held, worked, t.next, 0x10, kind, packet::data_part(command));
-    let verdict = judged.verdict;
+    let judged = occ::judge(
+        t.held,
+        worked,
+        t.next,
+        0x10,
+        kind,
+        packet::data_part(command),
+    );
     let tables = judged.tables;
-    match verdict {
+    match judged.verdict {
         Verdict::Refuse(_) => None,
         Verdict::Poll => Some(t),
         Verdict::Make(change) => Some(made(t, Edit { change, tables })),

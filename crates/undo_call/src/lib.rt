@@ -104,10 +104,8 @@ fn carry_on(lent: &mut [u8], h: Head, way: Way, at: usize, e: Edit, after: Recor
     requires { (length lent.old ≡ image_length) × (at + entry_len e ≡ by_way way h.used h.ahead) × (h.used + h.ahead ≤ 2048) × MarksBefore way h.used at lent.old }
     ensures { lent.new ≡ image_of (session_moved way (session_in h lent.old) at e after) }
 {
-    let now = h.timer;
-    let change = e.change;
-    let back = change::takes_back(h.held, now, e);
-    let timer = change::timer_after(now, change);
+    let back = change::takes_back(h.held, h.timer, e);
+    let timer = change::timer_after(h.timer, e.change);
     let n = journal::entry_len(back);
     let from = by_way(way, h.used as usize, h.ahead as usize);
     let to = by_way(way, h.ahead as usize, h.used as usize);

@@ -45,17 +45,17 @@ pub bounds-b-0-in-6 : goal.bounds-b-0-in-6
 unfolding body_len
 bounds-b-0-in-6 c = omega (arith, room_for _ 6 _ c.in-6.is c.requires)
 
-pub thermal_in-requires : goal.thermal_in-requires
+pub thermal_at-requires : goal.thermal_at-requires
 unfolding body_len
-thermal_in-requires c = omega (arith, room_for _ 6 _ c.in-6.is c.requires)
+thermal_at-requires c = omega (arith, room_for _ 6 _ c.in-6.is c.requires)
 
 pub bounds-b-0-in-7 : goal.bounds-b-0-in-7
 unfolding body_len
 bounds-b-0-in-7 c = omega (arith, room_for _ 7 _ c.in-7.is c.requires)
 
-pub throttles_in-requires : goal.throttles_in-requires
+pub throttles_at-requires : goal.throttles_at-requires
 unfolding body_len
-throttles_in-requires c = omega (arith, room_for _ 7 _ c.in-7.is c.requires)
+throttles_at-requires c = omega (arith, room_for _ 7 _ c.in-7.is c.requires)
 
 pub bounds-b-0-in-8 : goal.bounds-b-0-in-8
 unfolding body_len
@@ -111,11 +111,11 @@ returns-in-5 c = ok_by c.args.way c.args.kind 5 c.args.b.now _ c.in-5.is refl
 
 pub returns-in-6 : goal.returns-in-6
 unfolding entry_ok values_ok change_ok found_for tables_in
-returns-in-6 c = ok_by c.args.way c.args.kind 6 c.args.b.now _ c.in-6.is (c.thermal_ok.ensures ∙ ap (thermal_ok (get_or c.args.b.now 0 0)) c.thermal_in.ensures)
+returns-in-6 c = ok_by c.args.way c.args.kind 6 c.args.b.now _ c.in-6.is (c.thermal_ok.ensures ∙ ap (thermal_ok (get_or c.args.b.now 0 0)) c.thermal_at.ensures)
 
 pub returns-in-7 : goal.returns-in-7
 unfolding entry_ok values_ok change_ok found_for tables_in
-returns-in-7 c = ok_by c.args.way c.args.kind 7 c.args.b.now _ c.in-7.is (c.throttles_ok.ensures ∙ ap (throttles_ok (get_or c.args.b.now 0 0)) c.throttles_in.ensures)
+returns-in-7 c = ok_by c.args.way c.args.kind 7 c.args.b.now _ c.in-7.is (c.throttles_ok.ensures ∙ ap (throttles_ok (get_or c.args.b.now 0 0)) c.throttles_at.ensures)
 
 pub returns-in-8 : goal.returns-in-8
 unfolding entry_ok values_ok change_ok found_for tables_in

@@ -16,7 +16,7 @@ use Rattle.entries.specs.Entries.{body_len}
 use Rattle.journal.specs.Bytes.{cleared_body, caps_body, throttles_body, clock_body, area_bytes, areas_body, body_of}
 use Rattle.journal.specs.declared.Way.{Way}
 use Rattle.journal.specs.declared.Way.TheVariants.{Before, After}
-use Rattle.journal.specs.Read.{caps_at, area_at, throttles_from, cleared_as, reset_as, found_for, tables_in}
+use Rattle.journal.specs.Read.{caps_at, area_at, throttles_at, cleared_as, reset_as, found_for, tables_in}
 
 -- ---- the values that a record can hold, by the types of its fields
 
@@ -135,8 +135,8 @@ found_body w t (SetAreas areas) h = λ i.
 found_body w t (SetTimer timer) h =
     ap (λ (n : ℕ). Some (SetTimer (record { running = timer.running; left = n }))) (last_back 8 timer.left h.0)
 
-throttles_back : (t : Tables) (got : ℕ) → t.throttles.present < 256 ^ 2 → length t.throttles.sets ≡ 160 → throttles_from (throttles_body got t.throttles) ≡ t.throttles
-unfolding throttles_from throttles_body to_be
+throttles_back : (t : Tables) (got : ℕ) → t.throttles.present < 256 ^ 2 → length t.throttles.sets ≡ 160 → throttles_at 1 (throttles_body got t.throttles) ≡ t.throttles
+unfolding throttles_body to_be
 throttles_back t got p l = λ i. record {
   present = field_back 2 t.throttles.present t.throttles.sets p i;
   sets = take_all 160 t.throttles.sets (omega (arith, l)) i;

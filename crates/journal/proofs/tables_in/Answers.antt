@@ -4,21 +4,21 @@ use Rattle.wire.proofs.laws.Cases.{if_eq, else_eq}
 use Rattle.journal.specs.Read.{tables_in}
 use Rattle.journal.proofs.tables_in.Goals as goal
 
-pub thermal_in-thermal-requires : goal.thermal_in-thermal-requires
+pub thermal_at-thermal-requires : goal.thermal_at-thermal-requires
 unfolding body_len
-thermal_in-thermal-requires c = room_for _ 6 _ c.if-kind-eq6.true c.requires
+thermal_at-thermal-requires c = room_for _ 6 _ c.if-kind-eq6.true c.requires
 
 pub returns-then-kind-eq6 : goal.returns-then-kind-eq6
 unfolding tables_in
-returns-then-kind-eq6 c = if_eq _ _ c.if-kind-eq6.true (λ i. record { thermal = c.thermal_in-thermal.ensures i; throttles = (c.no_tables-none.ensures i).throttles })
+returns-then-kind-eq6 c = if_eq _ _ c.if-kind-eq6.true (λ i. record { thermal = c.thermal_at-thermal.ensures i; throttles = (c.no_tables-none.ensures i).throttles })
 
-pub throttles_in-throttles-requires : goal.throttles_in-throttles-requires
+pub throttles_at-throttles-requires : goal.throttles_at-throttles-requires
 unfolding body_len
-throttles_in-throttles-requires c = room_for _ 7 _ c.if-kind-eq7.true c.requires
+throttles_at-throttles-requires c = room_for _ 7 _ c.if-kind-eq7.true c.requires
 
 pub returns-then-kind-eq7 : goal.returns-then-kind-eq7
 unfolding tables_in
-returns-then-kind-eq7 c = else_eq _ _ c.if-kind-eq6.false (if_eq _ _ c.if-kind-eq7.true (λ i. record { thermal = (c.no_tables-none.ensures i).thermal; throttles = c.throttles_in-throttles.ensures i }))
+returns-then-kind-eq7 c = else_eq _ _ c.if-kind-eq6.false (if_eq _ _ c.if-kind-eq7.true (λ i. record { thermal = (c.no_tables-none.ensures i).thermal; throttles = c.throttles_at-throttles.ensures i }))
 
 pub returns : goal.returns
 unfolding tables_in

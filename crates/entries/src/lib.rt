@@ -27,6 +27,7 @@ pub struct Broken {
 
 // The length of the entry at the front of bytes: its kind's entries have `len` bytes, 0 where there is no such kind,
 // and so many there are.
+#[tactic(auto, unfolding(crate::specs::Entries::next_for))]
 pub fn next_for(len: usize, have: usize) -> Result<usize, Fault>
     ensures { result ≡ next_for len have }
 {
@@ -41,6 +42,7 @@ pub fn next_for(len: usize, have: usize) -> Result<usize, Fault>
 
 // Document 01, "The journal": the length of each kind's body; 0 where there is no such kind. A `match`, because a table in a constant
 // is copied to the stack at each call.
+#[tactic(auto, unfolding(crate::specs::Entries::body_len))]
 pub fn body_len(kind: u8) -> usize
     ensures { result ≡ body_len kind }
 {

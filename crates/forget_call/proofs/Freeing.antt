@@ -1,12 +1,11 @@
 -- Bytes moved down, and what the steps of forgetting leave in the lent bytes. Assumes nothing.
-use Prim.Native.Nat.{ℕ, suc, ◌+◌, ◌-◌, ◌≤◌, ◌<◌}
+use Prim.Native.Nat.{ℕ, ◌+◌, ◌-◌, ◌≤◌, ◌<◌}
 use mathlib.Core.Bool.{Bool, true, false, not}
 use mathlib.Core.Path.{◌≡◌, refl, sym, ap, subst, ◌∙◌}
-use mathlib.Core.List.{List, [], ◌∷◌, ◌++◌, append_assoc, append-nil}
-use native.Mathlib.Numerals.{add-one}
+use mathlib.Core.List.{List, [], ◌++◌, append-nil}
 use native.Mathlib.Omega.{arith}
-use lib.ListN.{length, get_or, set, take, drop, replicate, length-drop, length-append, drop_of_length-le}
-use lib.Seq.{take_all, take_at, drop_at, take-suc, drop-cons, set_at, get_or-drop, length-take-le}
+use lib.ListN.{length, take, drop, replicate, length-drop, length-append, drop_of_length-le}
+use lib.Seq.{take_at, drop_at, length-take-le}
 use Rattle.wire.specs.Wire.{Bytes, pasted}
 use Rattle.wire.proofs.laws.Cases.{if_lt, else_lt}
 use Rattle.wire.proofs.laws.Wire.{tail_part}
@@ -32,40 +31,9 @@ use Rattle.std.specs.Prelude.{Option, None, Some}
 use Rattle.forget_call.specs.Forget.{oldest_asks, forget_asks, forget_call, forget_left, forgot_by, forget_on, OldestEnd}
 use Rattle.forget_call.proofs.Walks.{enough, ends_at}
 
--- ---- the first i bytes are moved
+-- ---- the bytes that stay are moved
 
-module _ (at i : ℕ) (d x : List ℕ) (here : at + i < length d) (e : x ≡ take i (drop at d) ++ drop i d) where
-  front : length (take i (drop at d)) ≡ i
-  front = length-take-le i (drop at d) (omega (arith, here, length-drop at d))
-
-  -- what is read wasn't written yet
-  still_there : get_or x (at + i) 0 ≡ get_or (drop at d) i 0
-  still_there =
-      let swap : at + i ≡ i + at = omega arith in
-      ap (λ (k : ℕ). get_or x k 0) swap
-      ∙ sym (get_or-drop i x at 0)
-      ∙ ap (λ (l : List ℕ). get_or l at 0) (ap (drop i) e ∙ drop_at (take i (drop at d)) (drop i d) i front)
-      ∙ get_or-drop i d at 0
-      ∙ ap (λ (k : ℕ). get_or d k 0) (sym swap)
-      ∙ sym (get_or-drop at d i 0)
-
-  pub shift_more : set x i (get_or x (at + i) 0) ≡ take (i + 1) (drop at d) ++ drop (i + 1) d
-  shift_more =
-      let v = get_or (drop at d) i 0 in
-      ap (λ (b : ℕ). set x i b) still_there
-      ∙ ap (λ (l : List ℕ). set l i v) (e ∙ ap (λ (l : List ℕ). take i (drop at d) ++ l) (drop-cons d i 0 (omega (arith, here))))
-      ∙ set_at (take i (drop at d)) (get_or d i 0) (drop (suc i) d) v i front
-      ∙ sym (append_assoc (take i (drop at d)) (v ∷ []) (drop (suc i) d))
-      ∙ ap (λ (l : List ℕ). l ++ drop (suc i) d) (sym (take-suc (drop at d) i 0 (omega (arith, here, length-drop at d))))
-      ∙ ap (λ (k : ℕ). take k (drop at d) ++ drop k d) (sym (add-one i))
-
-pub shift_end : (at i n : ℕ) (d x : List ℕ) → n ≡ length d - at → n ≤ i → i ≤ n → x ≡ take i (drop at d) ++ drop i d → x ≡ drop at d ++ drop (length d - at) d
-shift_end at i n d x counted low high e =
-    let is : i ≡ length d - at = omega (arith, counted, low, high) in
-    e ∙ ap (λ (k : ℕ). take k (drop at d) ++ drop k d) is
-    ∙ ap (λ (l : List ℕ). l ++ drop (length d - at) d) (take_all (length d - at) (drop at d) (omega (arith, length-drop at d)))
-
-pub length_shifted : (at : ℕ) (d x : List ℕ) → at ≤ length d → x ≡ drop at d ++ drop (length d - at) d → length x ≡ length d
+length_shifted : (at : ℕ) (d x : List ℕ) → at ≤ length d → x ≡ drop at d ++ drop (length d - at) d → length x ≡ length d
 length_shifted at d x low e =
     omega (arith, low, ap length e, length-append (drop at d) (drop (length d - at) d), length-drop at d, length-drop (length d - at) d)
 

@@ -23,38 +23,23 @@ fn oldest_end(j: &[u8], n: usize) -> Option<usize>
     ensures { OldestEnd j.now n result }
 {
     let mut at = 0;
-    let mut count = 0;
-    while count < n {
+    for _ in 0..n {
         if j.len() <= at {
             return None;
         }
         at += entries::body_len(j[at]) + 1;
-        count += 1;
     }
     Some(at)
 }
 
 // ---- the bytes that stay
 
-// Those from `at` on go to the front, one by one, so that none is lost where they overlap.
-fn shift(j: &mut [u8], at: usize)
-    requires { at ≤ length j.old }
-    ensures { j.new ≡ drop at j.old ++ drop (length j.old - at) j.old }
-{
-    let n = j.len() - at;
-    let mut i = 0;
-    while i < n {
-        j[i] = j[at + i];
-        i += 1;
-    }
-}
-
-// And what they leave is zeroed.
+// Those from `at` on go to the front, and what they leave is zeroed.
 fn move_down(j: &mut [u8], at: usize)
     requires { at ≤ length j.old }
     ensures { j.new ≡ moved_down at j.old }
 {
-    shift(&mut *j, at);
+    j.copy_within(at.., 0);
     let left = j.len() - at;
     wire::zero_all(&mut j[left..]);
 }

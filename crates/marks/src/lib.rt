@@ -30,6 +30,7 @@ pub struct Newest {
 // ---- the test, entry by entry
 
 // An entry at a place, with n before it: if it is a 32nd one, its mark says so.
+#[tactic(auto, unfolding(crate::specs::Marks::stands_at))]
 pub fn stands(m: &[u8], n: usize, at: usize) -> bool
     requires { (length m.now ≡ 64) × (n < 1024) }
     ensures { result ≡ stands_at m.now n at }
@@ -41,6 +42,7 @@ pub fn stands(m: &[u8], n: usize, at: usize) -> bool
 }
 
 // After n entries the other marks are 0.
+#[tactic(auto, unfolding(crate::specs::Marks::rest_unused))]
 pub fn rest_unused(m: &[u8], n: usize) -> bool
     requires { (length m.now ≡ 64) × (n ≤ 1024) }
     ensures { result ≡ rest_unused m.now n }
@@ -56,23 +58,15 @@ pub fn last(m: &[u8]) -> Mark
     requires { length m.now ≡ 64 }
     ensures { Last m.now result }
 {
-    let mut number = 0;
     let mut place = place_in(m, 0);
-    while number < 31 {
+    for number in 0..31 {
         let next = place_in(m, number + 1);
         if next == 0 {
-            return Mark {
-                number: number,
-                place: place,
-            };
+            return Mark { number, place };
         }
         place = next;
-        number += 1;
     }
-    Mark {
-        number: number,
-        place: place,
-    }
+    Mark { number: 31, place }
 }
 
 // Finds the newest entry of the part that it gets, which is all that it sees, and counts each entry as it passes it.

@@ -8,7 +8,7 @@ ghost use Rattle.wire.specs.Wire.{packet_sum};
 fn plus(acc: u16, b: u8) -> u16
     ensures { result ≡ (acc + b) % 65536 }
 {
-    std::num::wrapping_add_u16(acc, b as u16)
+    acc.wrapping_add(u16::from(b))
 }
 
 // The sum of the leftovers, fewer than eight bytes.
@@ -16,10 +16,8 @@ fn one_by_one(s: &[u8]) -> u16
     ensures { result ≡ packet_sum s.now }
 {
     let mut acc: u16 = 0;
-    let mut i = 0;
-    while i < s.len() {
-        acc = plus(acc, s[i]);
-        i += 1;
+    for b in s {
+        acc = plus(acc, *b);
     }
     acc
 }
@@ -28,7 +26,7 @@ fn one_by_one(s: &[u8]) -> u16
 fn joined(a: u16, b: u16) -> u16
     ensures { result ≡ (a + b) % 65536 }
 {
-    std::num::wrapping_add_u16(a, b)
+    a.wrapping_add(b)
 }
 
 // Eight such sums together.
@@ -53,8 +51,7 @@ fn eight_parts(s: &[u8], n: usize) -> u16
     let mut f: u16 = 0;
     let mut g: u16 = 0;
     let mut h: u16 = 0;
-    let mut i = 0;
-    while i < n {
+    for i in 0..n {
         a = plus(a, s[i]);
         b = plus(b, s[n + i]);
         c = plus(c, s[2 * n + i]);
@@ -63,7 +60,6 @@ fn eight_parts(s: &[u8], n: usize) -> u16
         f = plus(f, s[5 * n + i]);
         g = plus(g, s[6 * n + i]);
         h = plus(h, s[7 * n + i]);
-        i += 1;
     }
     eight_joined(a, b, c, d, e, f, g, h)
 }
@@ -81,8 +77,7 @@ fn eight_in_row(s: &[u8], n: usize) -> u16
     let mut f: u16 = 0;
     let mut g: u16 = 0;
     let mut h: u16 = 0;
-    let mut k = 0;
-    while k < n {
+    for k in 0..n {
         let at = 8 * k;
         a = plus(a, s[at]);
         b = plus(b, s[at + 1]);
@@ -92,7 +87,6 @@ fn eight_in_row(s: &[u8], n: usize) -> u16
         f = plus(f, s[at + 5]);
         g = plus(g, s[at + 6]);
         h = plus(h, s[at + 7]);
-        k += 1;
     }
     eight_joined(a, b, c, d, e, f, g, h)
 }

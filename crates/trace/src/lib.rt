@@ -8,6 +8,7 @@ ghost use Rattle.trace.specs.Trace.{trace_table, trace_scan};
 use entries::{Broken, Fault, Whole};
 
 // Document 02, a: the length of an entry of each kind, its kind included; 0 where there is no such kind.
+#[tactic(auto, unfolding(crate::specs::Trace::trace_table))]
 pub fn entry_len(kind: u8) -> usize
     ensures value { result ≡ trace_table kind }
     ensures upper_bound { result ≤ 4098 }
@@ -58,14 +59,7 @@ pub fn count(t: &[u8]) -> usize
 {
     let mut at = 0;
     let mut count = 0;
-    while at < t.len() {
-        let n = entry_len(t[at]);
-        if n == 0 {
-            return count;
-        }
-        if t.len() - at < n {
-            return count;
-        }
+    while let Ok(Some(n)) = next(&t[at..]) {
         count += 1;
         at += n;
     }

@@ -1,16 +1,17 @@
 -- What each turn of a loop does. Assumes nothing.
 use Prim.Native.Nat.{ℕ, zero, suc, ◌+◌, ◌-◌, ◌*◌, ◌/◌, ◌%◌, ◌^◌, ◌<◌, ◌≤◌}
-use mathlib.Core.Bool.{Bool, true, false, cond, not}
+use mathlib.Core.Bool.{Bool, true, false, cond, not, ◌&&◌}
 use mathlib.Core.Path.{◌≡◌, refl, sym, ap, ◌∙◌}
-use mathlib.Core.List.{List, [], ◌∷◌, ◌++◌, append-nil, append_assoc}
+use mathlib.Core.List.{List, [], ◌∷◌, ◌++◌, append_assoc}
 use native.Mathlib.Numerals.{add-one}
 use native.Mathlib.Nat.{add-zero, zero-add, suc-add, add-suc, pow-suc, pow-le-pow_right, not-suc-le-zero, le_of_suc-le-suc, add-sub_cancel_left}
 use native.Mathlib.Omega.{arith}
-use borrow.Author.Fill.{fill_more}
-use borrow.Author.Tests.{ltb-true, ltb-false, eqb-true, eqb-false, ne_eqb, not-true, not-false}
-use lib.Dec.{lit<, ltb, eqb}
-use lib.ListN.{length, get_or, take, drop, set, replicate, length-append, length-drop, length-set, take-append-drop, drop_of_length-le}
-use lib.Seq.{take_all, take-add, length-take-le, drop-drop, take-suc, take-length, drop-length, drop-cons, get_or-drop, take-set-le, drop-set-lt, take-suc-set, get_or-set_same}
+use Rattle.std.specs.Prelude.{max}
+use Rattle.std.proofs.lemmas.Bool.Decides.{nat_tests}
+use borrow.Author.Tests.{not-true, not-false}
+use lib.Dec.{lit<, eqb}
+use lib.ListN.{length, get_or, take, drop, set, length-append, length-drop, length-set, take-append-drop}
+use lib.Seq.{take_all, take-add, length-take-le, drop-drop, take-suc, take-length, drop-cons, take-set-le, drop-set-lt, take-suc-set, get_or-set_same}
 use Rattle.wire.specs.Wire.{be_onto, be_nat, to_be, pasted, all_are}
 use Rattle.wire.proofs.laws.Wire.{onto_append, length_to_be, tail_part, all_append, all_drop}
 
@@ -20,11 +21,18 @@ pub be_none : (l : List ℕ) → be_nat (take 0 l) ≡ 0
 unfolding be_nat be_onto
 be_none l = refl
 
-pub be_more : (s : List ℕ) (at i : ℕ) → at + i < length s → be_nat (take (i + 1) (drop at s)) ≡ be_nat (take i (drop at s)) * 256 + get_or s (at + i) 0
+pub be_more : (l : List ℕ) (i : ℕ) → i < length l → be_nat (take (i + 1) l) ≡ be_nat (take i l) * 256 + get_or l i 0
 unfolding be_nat be_onto
-be_more s at i h =
-    let k : i < length (drop at s) = simp length-drop (omega arith) in
-    rw (add-one, take-suc (drop at s) i 0 k, get_or-drop at s i 0) (onto_append 0 (take i (drop at s)) (get_or s (at + i) 0 ∷ []))
+be_more l i h = rw (add-one, take-suc l i 0 h) (onto_append 0 (take i l) (get_or l i 0 ∷ []))
+
+pub part_length : (s : List ℕ) (at n : ℕ) → at + n ≤ length s → length (take (at + n - at) (drop at s)) ≡ n
+part_length s at n h = rw (add-sub_cancel_left at n) (length-take-le n (drop at s) (simp length-drop (omega arith)))
+
+-- all are read
+pub be_all : (s : List ℕ) (at n i : ℕ) → at + n ≤ length s → i ≡ n → be_nat (take i (take (at + n - at) (drop at s))) ≡ be_nat (take n (drop at s))
+be_all s at n i h e =
+    let long = part_length s at n h in
+    ap be_nat (ap (λ (k : ℕ). take k (take (at + n - at) (drop at s))) (e ∙ sym long) ∙ take-length (take (at + n - at) (drop at s)) ∙ ap (λ (k : ℕ). take k (drop at s)) (add-sub_cancel_left at n))
 
 pub pow_step : (i : ℕ) → 256 ^ (i + 1) ≡ 256 ^ i * 256
 pow_step i = rw (add-one, pow-suc)
@@ -60,14 +68,6 @@ store_last at n x bs d e h =
     let m : n ≡ length bs = sym e in
     rw (take-set-le at d (at + n) x k, e, drop_store (at + n) x d h, length-append, e, add-one, add-suc, append_assoc)
 
-pub copy_more : (at i : ℕ) (s d : List ℕ) → i < length s → at + i < length d → pasted (at + (i + 1)) (drop (i + 1) s) (set d (at + i) (get_or s i 0)) ≡ pasted (at + i) (drop i s) d
-copy_more at i s d p q =
-    let e : at + (i + 1) ≡ at + i + 1 = omega arith in
-    rw (e, store_first (at + i) (get_or s i 0) (drop (i + 1) s) d q, add-one, ← drop-cons s i 0 p)
-
-pub copy_end : (at i : ℕ) (s d : List ℕ) → length s ≤ i → pasted (at + i) (drop i s) d ≡ d
-copy_end at i s d h = ap (λ (l : List ℕ). pasted (at + i) l d) (drop_of_length-le s h) ∙ paste_none (at + i) d
-
 pub put_more : (at i v x : ℕ) (d : List ℕ) → 0 < i → at + i ≤ length d → x ≡ v % 256 → pasted at (to_be (i - 1) (v / 256)) (set d (at + (i - 1)) x) ≡ pasted at (to_be i v) d
 unfolding to_be
 put_more at zero v x d p q e = absurd (not-suc-le-zero p)
@@ -80,62 +80,36 @@ unfolding to_be
 put_end at zero v d h = paste_none at d
 put_end at (suc i) v d h = absurd (not-suc-le-zero h)
 
--- ---- zero_all
-
-pub zero_more : (i : ℕ) (d x : List ℕ) → i < length d → x ≡ replicate i 0 ++ drop i d → set x i 0 ≡ replicate (i + 1) 0 ++ drop (i + 1) d
-zero_more i d x h e = ap (λ (l : List ℕ). set l i 0) e ∙ fill_more i 0 d h
-
-pub zero_end : (i : ℕ) (d x : List ℕ) → i ≡ length d → x ≡ replicate i 0 ++ drop i d → x ≡ replicate (length d) 0
-zero_end i d x e p = p ∙ rw (e, drop-length, append-nil)
-
 -- ---- all_are: the mark says it of the bytes before i
 
 -- the higher of two is 0 where both are
-pub higher_zero : (a b : ℕ) → eqb (cond (ltb a b) b a) 0 ≡ cond (not (eqb b 0)) false (eqb a 0)
-higher_zero a b = go (ltb a b) (eqb b 0) refl refl
-  where
-    go : (t u : Bool) → ltb a b ≡ t → eqb b 0 ≡ u → eqb (cond t b a) 0 ≡ cond (not u) false (eqb a 0)
-    go true true p q = let z : ⊥ = omega (arith, ltb-true a b p, eqb-true b 0 q) in absurd z
-    go true false p q = q
-    go false true p q = refl
-    go false false p q = ne_eqb a 0 (λ z. omega (arith, ltb-false a b p, eqb-false b 0 q, z))
+pub higher_zero : (a b : ℕ) → eqb (max a b) 0 ≡ (eqb a 0 && eqb b 0)
+higher_zero a b = grind (arith, nat_tests)
 
 pub are_none : (v : ℕ) (l : List ℕ) → true ≡ all_are v (take 0 l)
 unfolding all_are
 are_none v l = refl
 
-turned : (b : Bool) → cond b true false ≡ cond (not b) false true
-turned true = refl
-turned false = refl
+alone : (b : Bool) → cond b true false ≡ b
+alone true = refl
+alone false = refl
 
-later : (b c p q : Bool) → p ≡ cond (not c) false q → cond b p false ≡ cond (not c) false (cond b q false)
-later true c p q e = e
-later false true p q e = refl
-later false false p q e = refl
-
-are_more : (v : ℕ) (l : List ℕ) (i : ℕ) → i < length l → all_are v (take (suc i) l) ≡ cond (not (eqb (get_or l i 0) v)) false (all_are v (take i l))
+are_more : (v : ℕ) (l : List ℕ) (i : ℕ) → i < length l → all_are v (take (suc i) l) ≡ (all_are v (take i l) && eqb (get_or l i 0) v)
 unfolding all_are
 are_more v [] i h = absurd (not-suc-le-zero h)
-are_more v (x ∷ l) zero h = turned (eqb x v)
-are_more v (x ∷ l) (suc i) h =
-    later (eqb x v) (eqb (get_or l i 0) v) (all_are v (take (suc i) l)) (all_are v (take i l)) (are_more v l i (le_of_suc-le-suc h))
+are_more v (x ∷ l) zero h = alone (eqb x v)
+are_more v (x ∷ l) (suc i) h = go (eqb x v) (are_more v l i (le_of_suc-le-suc h))
+  where
+    go : (t : Bool) → all_are v (take (suc i) l) ≡ (all_are v (take i l) && eqb (get_or l i 0) v)
+        → cond t (all_are v (take (suc i) l)) false ≡ (cond t (all_are v (take i l)) false && eqb (get_or l i 0) v)
+    go true e = e
+    go false e = refl
 
-pub are_next : (v : ℕ) (l : List ℕ) (i : ℕ) (a r : Bool) → i < length l → a ≡ all_are v (take i l) → r ≡ cond (not (eqb (get_or l i 0) v)) false a
-    → r ≡ all_are v (take (i + 1) l)
-are_next v l i a r h p q = q ∙ ap (cond (not (eqb (get_or l i 0) v)) false) p ∙ rw add-one (sym (are_more v l i h))
+pub are_next : (v : ℕ) (l : List ℕ) (i : ℕ) (a : Bool) → i < length l → a ≡ all_are v (take i l) → (a && eqb (get_or l i 0) v) ≡ all_are v (take (i + 1) l)
+are_next v l i a h p = ap (λ (b : Bool). b && eqb (get_or l i 0) v) p ∙ rw add-one (sym (are_more v l i h))
 
 pub are_all : (v : ℕ) (l : List ℕ) (i : ℕ) → i ≡ length l → all_are v (take i l) ≡ all_are v l
 are_all v l i e = rw (e, take-length)
-
--- ---- two parts at a turn
-
-pub both_bad : (top : ℕ) (p q : Bool) → eqb top 0 ≡ p → (top ≡ 0 → ⊥) → false ≡ cond p q false
-both_bad top true q e z = absurd (z (eqb-true top 0 e))
-both_bad top false q e z = refl
-
-pub both_good : (top : ℕ) (p q r : Bool) → eqb top 0 ≡ p → top ≡ 0 → r ≡ q → r ≡ cond p q false
-both_good top true q r e z h = h
-both_good top false q r e z h = absurd (eqb-false top 0 e z)
 
 -- ---- the halves of a list beside each other, and what is left after them
 

@@ -1,20 +1,8 @@
 // Bytes on the wire: big-endian numbers of any width, and parts of lent buffers.
 #![tactic(auto)]
 
-ghost use Rattle.std.specs.Prelude.{cond, not, false, ◌≡◌, ◌+◌, ◌%◌, ◌^◌, ◌≤◌, ◌<◌, ltb, eqb, length, take, drop, replicate};
+ghost use Rattle.std.specs.Prelude.{cond, false, ◌≡◌, ◌+◌, ◌^◌, ◌≤◌, ◌<◌, length, take, drop, replicate};
 ghost use Rattle.wire.specs.Wire.{be_nat, to_be, pasted, all_are};
-
-fn wide64(x: u8) -> u64
-    ensures { (result ≡ x) × (result < 256) }
-{
-    x as u64
-}
-
-fn low8(v: u64) -> u8
-    ensures { result ≡ v % 256 }
-{
-    (v % 256) as u8
-}
 
 // The number that the `n` bytes from `at` on spell.
 pub fn be(s: &[u8], at: usize, n: usize) -> u64
@@ -22,10 +10,8 @@ pub fn be(s: &[u8], at: usize, n: usize) -> u64
     ensures { (result ≡ be_nat (take n (drop at s.now))) × (result < 256 ^ n) }
 {
     let mut acc: u64 = 0;
-    let mut i = 0;
-    while i < n {
-        acc = acc * 256 + wide64(s[at + i]);
-        i += 1;
+    for b in &s[at..at + n] {
+        acc = acc * 256 + u64::from(*b);
     }
     acc
 }
@@ -57,45 +43,28 @@ pub fn put_be(d: &mut [u8], at: usize, n: usize, v: u64)
     ensures { d.new ≡ pasted at (to_be n v) d.old }
 {
     let mut left = v;
-    let mut i = n;
-    while 0 < i {
-        i -= 1;
-        d[at + i] = low8(left);
-        left = left / 256;
+    for i in (0..n).rev() {
+        d[at + i] = (left % 256) as u8;
+        left /= 256;
     }
 }
 
 // Copies `s` into `d` from `at` on; the rest is kept.
+#[tactic(auto, unfolding(crate::specs::Wire::pasted))]
 pub fn copy(d: &mut [u8], at: usize, s: &[u8])
     requires { at + length s.now ≤ length d.old }
     ensures { d.new ≡ pasted at s.now d.old }
 {
-    let mut i = 0;
-    while i < s.len() {
-        d[at + i] = s[i];
-        i += 1;
-    }
+    d[at..at + s.len()].copy_from_slice(s);
 }
 
 // Zeroes all of `d`.
 pub fn zero_all(d: &mut [u8])
     ensures { d.new ≡ replicate (length d.old) 0 }
 {
-    let mut i = 0;
-    while i < d.len() {
-        d[i] = 0;
-        i += 1;
+    for b in d.iter_mut() {
+        *b = 0;
     }
-}
-
-// A mark that stays only where two bytes are the same.
-fn still(same: bool, a: u8, b: u8) -> bool
-    ensures { result ≡ cond (not (eqb a b)) false same }
-{
-    if a != b {
-        return false;
-    }
-    same
 }
 
 // Whether every byte of `s` is `v`. It goes to the end whatever it meets, so that the compiler can take many bytes at a turn.
@@ -103,21 +72,10 @@ pub fn all_are(s: &[u8], v: u8) -> bool
     ensures { result ≡ all_are v s.now }
 {
     let mut same = true;
-    let mut i = 0;
-    while i < s.len() {
-        same = still(same, s[i], v);
-        i += 1;
+    for b in s {
+        same &= *b == v;
     }
     same
-}
-
-fn higher(a: u8, b: u8) -> u8
-    ensures { result ≡ cond (ltb a b) b a }
-{
-    if a < b {
-        return b;
-    }
-    a
 }
 
 // Whether every byte of two parts is 0: the highest is. Two at a turn, so that neither waits for the other.
@@ -127,16 +85,11 @@ fn both_zero(a: &[u8], b: &[u8]) -> bool
 {
     let mut top = 0;
     let mut high = 0;
-    let mut i = 0;
-    while i < a.len() {
-        top = higher(top, a[i]);
-        high = higher(high, b[i]);
-        i += 1;
+    for i in 0..a.len() {
+        top = top.max(a[i]);
+        high = high.max(b[i]);
     }
-    if top != 0 {
-        return false;
-    }
-    high == 0
+    top == 0 && high == 0
 }
 
 // The same of a store: two parts of whole vectors beside each other, then its last 64 bytes, some of them a second time, so that no byte is

@@ -1,5 +1,6 @@
 use native.Mathlib.Omega.{arith}
-use Rattle.marks.proofs.Seen.{seen_first, seen_all, seen_end, seen_more}
+use Rattle.std.proofs.Common.{◌≡◌, ℕ, subst}
+use Rattle.marks.proofs.Seen.{Seen, seen_first, seen_all, seen_end, seen_more}
 use Rattle.marks.proofs.last.Goals as goal
 
 pub place_in-place-requires : goal.place_in-place-requires
@@ -18,4 +19,6 @@ pub loop-number-preserved : goal.loop-number-preserved
 loop-number-preserved c = seen_more c.loop-number.invariant c.place_in-next.ensures c.loop-number-test.true c.if-next-eq0.false
 
 pub returns : goal.returns
-returns c = seen_all c.loop-number.invariant c.loop-number-test.false
+returns c =
+    let all : c.loop-number.number ≡ 31 = omega arith in
+    seen_all (subst (λ (n : ℕ). Seen c.args.m.now n c.loop-number.place) all c.loop-number.invariant) (omega arith)

@@ -1,6 +1,5 @@
 -- Document 01, "OCC packets": the commands that hold a few numbers, judged in the order 0x12, 0x13, 0x16, 0x15. d is the data.
-use Rattle.packet.specs.declared.Status.{Status}
-use Rattle.packet.specs.declared.Status.TheVariants.{InvalidCommand, InvalidLength, InvalidData, ChecksumFailure, InternalError, StateProhibits}
+use Rattle.packet.specs.declared.Status.TheVariants.{InvalidLength, InvalidData, InternalError, StateProhibits}
 use Rattle.std.specs.Prelude.{ℕ, Bool, true, false, cond, not, List, length, get_or, take, drop, ltb, leb, eqb}
 use Rattle.wire.specs.Wire.{be_nat}
 use Rattle.record.specs.Record.{no_log}

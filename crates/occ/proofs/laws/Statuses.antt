@@ -1,14 +1,12 @@
 -- Document 01, "OCC packets": a command gets each status exactly when its row holds and none before it. d is the data. Assumes nothing.
-use Rattle.std.specs.Prelude.{Result, Ok, Err}
-use Rattle.std.specs.Result.{is_ok}
+use Rattle.std.specs.Prelude.{Ok, Err}
 use Rattle.packet.specs.Packet.{Checked, status_number}
-use Rattle.packet.proofs.laws.Exactly.{ok_is, checked_cases}
 use Rattle.packet.specs.declared.Status.{Status}
-use Rattle.packet.specs.declared.Status.TheVariants.{InvalidCommand, InvalidLength, InvalidData, ChecksumFailure, InternalError, StateProhibits}
+use Rattle.packet.specs.declared.Status.TheVariants.{InvalidCommand, InvalidLength, InvalidData, InternalError, StateProhibits}
 use Rattle.std.specs.Prelude.{Option, Some, None}
 use Rattle.std.specs.Option.{is_some}
 use Rattle.std.proofs.lemmas.Bool.{false≢true}
-use Rattle.std.specs.Prelude.{ℕ, ◌+◌, ◌-◌, ◌*◌, ◌≤◌, Bool, true, cond, not, ◌≡◌, refl, List, ◌↔◌, ◌⊎◌, ltb, leb, eqb, length, drop}
+use Rattle.std.specs.Prelude.{ℕ, ◌+◌, ◌-◌, ◌*◌, ◌≤◌, Bool, true, not, ◌≡◌, refl, List, ◌↔◌, ◌⊎◌, ltb, leb, eqb, length, drop}
 use Rattle.std.proofs.Math.Bool.{true≢false}
 use Rattle.std.proofs.Common.{sym, ap, subst, ◌∙◌, arith, lit<}
 use Rattle.std.proofs.Math.Logic.{inl, inr, ⊎_elim}

@@ -1,7 +1,6 @@
 use mathlib.Core.Logic.{⊎_elim}
 use native.Mathlib.Omega.{arith}
 use Rattle.occ_call.proofs.Answering.{told_in, full_in, done_in}
-use Rattle.wire.proofs.laws.Pairs.{first_of_two, second_of_two}
 use borrow.Enum.Refused.{opened}
 use Rattle.occ_call.proofs.hear.Goals as goal
 
@@ -18,13 +17,22 @@ pub why-requires : goal.why-requires
 why-requires c = c.requires.2
 
 pub returns-in_default : goal.returns-in_default
-returns-in_default c = record { value = first_of_two (told_in _ c.args.lent.now c.requires.0 _ c.args.command.now c.args.reply.now _ c.ask-asked.ensures _ c.by_profile-verdict.ensures _ _ _ c.answer_why.ensures c.why.ensures (λ z. ⊎_elim (λ e. omega arith) (λ e. omega arith) (opened c.in_default.in_default-own.keys2)) c.tell.ensures); lent_after = first_of_two (second_of_two (told_in _ c.args.lent.now c.requires.0 _ c.args.command.now c.args.reply.now _ c.ask-asked.ensures _ c.by_profile-verdict.ensures _ _ _ c.answer_why.ensures c.why.ensures (λ z. ⊎_elim (λ e. omega arith) (λ e. omega arith) (opened c.in_default.in_default-own.keys2)) c.tell.ensures)); reply_after = second_of_two (second_of_two (told_in _ c.args.lent.now c.requires.0 _ c.args.command.now c.args.reply.now _ c.ask-asked.ensures _ c.by_profile-verdict.ensures _ _ _ c.answer_why.ensures c.why.ensures (λ z. ⊎_elim (λ e. omega arith) (λ e. omega arith) (opened c.in_default.in_default-own.keys2)) c.tell.ensures)) }
+returns-in_default c =
+    let p =
+    told_in _ c.args.lent.now c.requires.0 _ c.args.command.now c.args.reply.now _ c.ask-asked.ensures _ c.by_profile-verdict.ensures _ _ _ c.answer_why.ensures c.why.ensures (λ z. ⊎_elim (λ e. omega arith) (λ e. omega arith) (opened c.in_default.in_default-own.keys2)) c.tell.ensures in
+    record { value = p.0; lent_after = p.1.0; reply_after = p.1.1 }
 
 pub carry-full-requires : goal.carry-full-requires
 carry-full-requires c = (c.requires.0.long, c.requires.1)
 
 pub returns-then-full : goal.returns-then-full
-returns-then-full c = record { value = first_of_two (full_in _ c.args.lent.now c.requires.0 _ c.args.command.now c.args.reply.now _ c.ask-asked.ensures _ c.by_profile-verdict.ensures _ c.in-Make.is _ _ _ c.carry-full.ensures.value c.carry-full.ensures.lent_after c.answer_with.ensures c.if-full.true); lent_after = first_of_two (second_of_two (full_in _ c.args.lent.now c.requires.0 _ c.args.command.now c.args.reply.now _ c.ask-asked.ensures _ c.by_profile-verdict.ensures _ c.in-Make.is _ _ _ c.carry-full.ensures.value c.carry-full.ensures.lent_after c.answer_with.ensures c.if-full.true)); reply_after = second_of_two (second_of_two (full_in _ c.args.lent.now c.requires.0 _ c.args.command.now c.args.reply.now _ c.ask-asked.ensures _ c.by_profile-verdict.ensures _ c.in-Make.is _ _ _ c.carry-full.ensures.value c.carry-full.ensures.lent_after c.answer_with.ensures c.if-full.true)) }
+returns-then-full c =
+    let p =
+    full_in _ c.args.lent.now c.requires.0 _ c.args.command.now c.args.reply.now _ c.ask-asked.ensures _ c.by_profile-verdict.ensures _ c.in-Make.is _ _ _ c.carry-full.ensures.value c.carry-full.ensures.lent_after c.answer_with.ensures c.if-full.true in
+    record { value = p.0; lent_after = p.1.0; reply_after = p.1.1 }
 
 pub returns : goal.returns
-returns c = record { value = first_of_two (done_in _ c.args.lent.now c.requires.0 _ c.args.command.now c.args.reply.now _ c.ask-asked.ensures _ c.by_profile-verdict.ensures _ c.in-Make.is _ _ _ c.carry-full.ensures.value c.carry-full.ensures.lent_after c.answer_with-2.ensures c.if-full.false _ c.reply.ensures); lent_after = first_of_two (second_of_two (done_in _ c.args.lent.now c.requires.0 _ c.args.command.now c.args.reply.now _ c.ask-asked.ensures _ c.by_profile-verdict.ensures _ c.in-Make.is _ _ _ c.carry-full.ensures.value c.carry-full.ensures.lent_after c.answer_with-2.ensures c.if-full.false _ c.reply.ensures)); reply_after = second_of_two (second_of_two (done_in _ c.args.lent.now c.requires.0 _ c.args.command.now c.args.reply.now _ c.ask-asked.ensures _ c.by_profile-verdict.ensures _ c.in-Make.is _ _ _ c.carry-full.ensures.value c.carry-full.ensures.lent_after c.answer_with-2.ensures c.if-full.false _ c.reply.ensures)) }
+returns c =
+    let p =
+    done_in _ c.args.lent.now c.requires.0 _ c.args.command.now c.args.reply.now _ c.ask-asked.ensures _ c.by_profile-verdict.ensures _ c.in-Make.is _ _ _ c.carry-full.ensures.value c.carry-full.ensures.lent_after c.answer_with-2.ensures c.if-full.false _ c.reply.ensures in
+    record { value = p.0; lent_after = p.1.0; reply_after = p.1.1 }

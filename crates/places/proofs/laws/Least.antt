@@ -1,7 +1,7 @@
 -- Document 02, c: the fault that is found is the least of all of them, by place and then by reason, and none is found only where there is
 -- none. Assumes nothing.
 use Prim.Native.Nat.{ℕ, zero, suc, ◌+◌, ◌-◌, ◌*◌, ◌<◌, ◌≤◌}
-use Rattle.std.specs.Prelude.{Bool, not, List, ◌↔◌, ◌⊎◌, ltb, eqb, length, get_or}
+use Rattle.std.specs.Prelude.{Bool, not, List, ◌↔◌, ltb, eqb, length, get_or}
 use Rattle.std.proofs.Math.Bool.{true, false, cond, true≢false}
 use Rattle.std.proofs.Math.Path.{◌≡◌, refl, sym, ap, subst}
 use Rattle.std.proofs.Common.{◌∙◌, inl, inr, ⊎_elim, arith, ltb-true, ltb-false}
@@ -20,7 +20,7 @@ use Rattle.occ.proofs.laws.Exactly.{found_exactly, user_allowed_exactly, counted
 use Rattle.places.specs.declared.Reason.{Reason}
 use Rattle.places.specs.declared.Reason.TheVariants.{BadVersion, BadCount, OutOfRange, Repeated, Clash, NotPending}
 use Rattle.places.specs.declared.Fault.{Fault}
-use Rattle.std.specs.Prelude.{Option, Some, None}
+use Rattle.std.specs.Prelude.{Option, None}
 use Rattle.places.specs.declared.SetTable.{SetTable}
 use Rattle.places.specs.declared.SetTable.TheVariants.{Throttles, Thermal}
 use Rattle.places.specs.Reasons.{named}

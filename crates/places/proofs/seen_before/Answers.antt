@@ -1,6 +1,5 @@
 use mathlib.Core.Path.{sym, ap, ◌∙◌}
 use Prim.Native.Nat.{ℕ}
-use mathlib.Core.Bool.{false}
 use native.Mathlib.Omega.{arith}
 use Rattle.places.specs.Places.{start_of, same_number, any_below, seen_before}
 use Rattle.places.proofs.laws.Below.{any_none, any_more, any_exactly}

@@ -1,6 +1,5 @@
 -- Document 02, i: the marks of entries and the number passed, in the request's words.
 use Rattle.std.specs.Prelude.{ℕ, ◌-◌, ◌*◌, ◌≤◌, ◌<◌, ◌≡◌, List, length, take, drop}
-use Rattle.wire.specs.Conditions.{◌and◌}
 use Rattle.entries.specs.Entries.{Entry, written}
 use Rattle.marks.specs.Marks.{mark_in}
 use Rattle.journal.specs.declared.Way.TheVariants.{Before}

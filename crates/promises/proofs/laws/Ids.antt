@@ -1,5 +1,5 @@
 -- No id twice: the logs ever made, struck out or not, have the ids 1, 2, 3, .. in the order they were made. Assumes nothing.
-use Rattle.std.specs.Prelude.{ℕ, suc, ◌+◌, ◌≤◌, ◌⊎◌, ◌≡◌, refl, List, ◌∷◌}
+use Rattle.std.specs.Prelude.{ℕ, ◌+◌, ◌≤◌, ◌⊎◌, ◌≡◌, refl, List, ◌∷◌}
 use Rattle.std.proofs.Common.{inl, inr, ⊎_elim, sym, ap, ap₂, ◌∙◌, add-zero, add-one, arith}
 use Rattle.wire.proofs.laws.Cases.{if_eq, else_eq}
 use Rattle.record.specs.Record.{no_log}

@@ -1,12 +1,12 @@
 -- Bytes moved down, and what the steps of forgetting leave in the lent bytes. Assumes nothing.
 use Prim.Native.Nat.{ℕ, ◌+◌, ◌-◌, ◌≤◌, ◌<◌}
-use mathlib.Core.Bool.{Bool, true, false, not}
+use mathlib.Core.Bool.{true}
 use mathlib.Core.Path.{◌≡◌, refl, sym, ap, subst, ◌∙◌}
 use mathlib.Core.List.{List, [], ◌++◌, append-nil}
 use native.Mathlib.Omega.{arith}
 use lib.ListN.{length, take, drop, replicate, length-drop, length-append, drop_of_length-le}
 use lib.Seq.{take_at, drop_at, length-take-le}
-use Rattle.wire.specs.Wire.{Bytes, pasted}
+use Rattle.wire.specs.Wire.{pasted}
 use Rattle.wire.proofs.laws.Cases.{if_lt, else_lt}
 use Rattle.wire.proofs.laws.Wire.{tail_part}
 use Rattle.record.specs.Record.{worked_of}
@@ -19,7 +19,7 @@ use Rattle.session.specs.Road.{held_in, oldest, freed_by, moved_down, session_fr
 use Rattle.session.proofs.laws.Forgotten.{newer, length_moved, moved_part, rest_reads, freed_low}
 use Rattle.session.specs.declared.Session.{Session}
 use Rattle.image.specs.declared.Head.{Head}
-use Rattle.image.specs.Image.{head_renewed, image_of, head_in, store_at, with_part, with_store, journal_in, redo_in, marks_in, session_in}
+use Rattle.image.specs.Image.{head_renewed, image_of, store_at, with_part, with_store, journal_in, redo_in, marks_in, session_in}
 use Rattle.image.proofs.laws.Stores.{store_long, store_back, store_above, marks_long, marks_back, marks_store, part_pasted}
 use Rattle.layout.specs.Layout.{journal_at, marks_size, marks_at, image_length}
 use Rattle.inplace.proofs.Watching.{used_part}

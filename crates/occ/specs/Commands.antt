@@ -1,7 +1,6 @@
 -- Document 01, "OCC packets": the commands that hold a few numbers, judged in the order 0x12, 0x13, 0x16, 0x15. d is the data.
 use Rattle.std.specs.Prelude.{ℕ, Bool, true, false, cond, not, List, Option, Some, None, length, get_or, take, drop, ltb, leb, eqb}
-use Rattle.packet.specs.declared.Status.{Status}
-use Rattle.packet.specs.declared.Status.TheVariants.{InvalidCommand, InvalidLength, InvalidData, ChecksumFailure, InternalError, StateProhibits}
+use Rattle.packet.specs.declared.Status.TheVariants.{InvalidLength, InvalidData, InternalError, StateProhibits}
 use Rattle.wire.specs.Wire.{be_nat}
 use Rattle.record.specs.Record.{no_log}
 use Rattle.record.specs.declared.Log.{Log}

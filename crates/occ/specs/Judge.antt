@@ -1,6 +1,6 @@
 -- Document 01, "OCC packets": a whole packet judged. After 0x12 and 0x14 of the packet come 0x11, 0x12, 0x13, 0x16, 0x15.
 use Rattle.packet.specs.declared.Status.{Status}
-use Rattle.packet.specs.declared.Status.TheVariants.{InvalidCommand, InvalidLength, InvalidData, ChecksumFailure, InternalError, StateProhibits}
+use Rattle.packet.specs.declared.Status.TheVariants.{InvalidCommand, InvalidLength, InvalidData}
 use Rattle.std.specs.Prelude.{ℕ, ◌-◌, ◌*◌, cond, not, Option, Some, None, Result, Ok, Err, List, length, get_or, drop, replicate, ltb, eqb}
 use Rattle.record.specs.Record.{no_throttles}
 use Rattle.record.specs.declared.Record.{Record}

@@ -399,7 +399,9 @@ pub fn judge(r: Record, w: Worked, next: u16, sender: u8, kind: u8, d: &[u8]) ->
         0x21 => configure(state, role, d),
         0x22 => plain(user_cap(role, got.caps, caps, d)),
         0x25 => plain(reset_prep(role, logs, next, d)),
-        0x01..=0x11 | 0x13..=0x1F | 0x23..=0x24 | 0x26..=0xFF => plain(Verdict::Refuse(Status::InvalidCommand)),
+        0x01..=0x11 | 0x13..=0x1F | 0x23..=0x24 | 0x26..=0xFF => plain(Verdict::Refuse(
+            Status::InvalidCommand,
+        )),
     }
 }
 

@@ -1,9 +1,4 @@
 -- What the steps of the call give back, from what they call. Assumes nothing.
-use Rattle.std.specs.Prelude.{Result, Ok, Err}
-use Rattle.std.specs.Result.{is_ok}
-use Rattle.packet.specs.Packet.{Checked, status_number}
-use Rattle.packet.specs.declared.Status.{Status}
-use Rattle.packet.specs.declared.Status.TheVariants.{InvalidCommand, InvalidLength, InvalidData, ChecksumFailure, InternalError, StateProhibits}
 use Rattle.places.specs.declared.Fault.{Fault}
 use Prim.Native.Nat.{ℕ, ◌≤◌}
 use mathlib.Core.Bool.{Bool, true, false, cond, not}
@@ -16,8 +11,7 @@ use lib.ListN.{length, get_or}
 use Rattle.wire.proofs.laws.Cases.{said_of, if_ne, else_ne}
 use Rattle.change.specs.declared.Change.{Change}
 use Rattle.change.specs.declared.Edit.{Edit}
-use Rattle.packet.specs.Packet.{packet_status, data_of, replied}
-use Rattle.occ.specs.Judge.{plainly, judge_of}
+use Rattle.packet.specs.Packet.{data_of, replied}
 use Rattle.occ.specs.contracts.Verdict.{the_type}
 use denote.Enum.Declared.{tag_of}
 use Rattle.record.specs.declared.Record.{Record}
@@ -27,16 +21,14 @@ use Rattle.occ.specs.Open.{by_profile}
 use Rattle.occ.specs.declared.Verdict.{Verdict}
 use Rattle.occ.specs.declared.Verdict.TheVariants.{Refuse, Poll, Make}
 use Rattle.occ.specs.declared.Judged.{Judged}
-use Rattle.std.specs.Prelude.{Option, Some, None}
+use Rattle.std.specs.Prelude.{Option, None}
 use Rattle.session.specs.Session.{well_formed, carried_of}
 use Rattle.session.specs.Road.{Asks, refuses, tells, makes, due, Said, kept, done, settled}
 use Rattle.session.proofs.laws.Road.{made_full, made_done}
 use Rattle.session.specs.declared.Session.{Session}
-use Rattle.occ_call.specs.Occ.{known_sender, refusal_of, occ_refusal, told_of, verdict_asks, judged_asks, asked_for, asked_of, occ_read, occ_asks, occ_call, fault_for, why_read, why_from, occ_why, beside_of, occ_left, occ_read_left, occ_on}
-use Rattle.wire.specs.Wire.{Bytes}
+use Rattle.occ_call.specs.Occ.{known_sender, refusal_of, occ_refusal, told_of, verdict_asks, judged_asks, asked_of, occ_read, occ_asks, occ_call, fault_for, why_read, why_from, occ_why, beside_of, occ_left, occ_read_left, occ_on}
 use Rattle.image.specs.declared.Head.{Head}
 use Rattle.image.specs.Image.{image_of, session_in}
-use Rattle.layout.specs.Layout.{image_length}
 use Rattle.inplace.specs.declared.Told.{Told}
 use Rattle.inplace.specs.InPlace.{HeadStands, Opens, Unopened, carried_in}
 use Rattle.inplace.proofs.laws.InPlace.{Parts, parts, stands, on_read, carried_kept, carried_new}

@@ -1,5 +1,5 @@
 // OCC packets: the command reader, which hands back the data as that part of the caller's buffer, and the replies.
-#![tactic(auto)]
+#![tactic(auto, unfolding(crate::specs::Packet::data_length, crate::specs::Packet::status_at, crate::specs::Packet::packet_status, crate::specs::Packet::data_at, crate::specs::Packet::data_of, crate::specs::Packet::unsummed, crate::specs::Packet::reply_bytes, crate::specs::Packet::replied))]
 
 ghost use Rattle.std.specs.Prelude.{◌≡◌};
 ghost use Rattle.packet.specs.Packet.{packet_status, data_of, no_log_id, replied};

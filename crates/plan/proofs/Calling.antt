@@ -9,12 +9,12 @@ use mathlib.Core.List.{List}
 use native.Mathlib.Omega.{arith}
 use lib.ListN.{length}
 use borrow.Author.Tests.{not-false, eqb-true}
-use Rattle.wire.proofs.laws.Cases.{cond_cases, if_b, else_b, if_lt, else_lt, if_ne, else_ne, if_not, else_not}
+use Rattle.wire.proofs.laws.Cases.{cond_cases, if_b, else_b, if_lt, else_lt, if_ne, else_ne}
 use Rattle.session.specs.Session.{well_formed}
 use Rattle.session.proofs.laws.Session.{formed_next}
 use Rattle.session.specs.declared.Session.{Session}
 use Rattle.image.specs.declared.Head.{Head}
-use Rattle.image.specs.Image.{head_in, session_in, session_of}
+use Rattle.image.specs.Image.{session_in, session_of}
 use Rattle.layout.specs.Layout.{image_length}
 use Rattle.inplace.specs.declared.Told.{Told}
 use Rattle.plan.specs.Plan.{packets_in, plan_ok, least_plan, wanted_ok, plan_refusal, Plannable, start_of, answered, accepted as accepted_lem, plan_ok_call, Planned, given, plan_call, plan_ok_on, plan_on, PlanAllows}

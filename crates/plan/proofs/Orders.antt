@@ -8,10 +8,9 @@ use native.Mathlib.Omega.{arith}
 use Rattle.std.specs.List.{list_any}
 use Rattle.std.proofs.Math.Bool.{◌||◌, cond}
 use lib.Dec.{eqb}
-use lib.ListN.{length, get_or, take, drop, drop_of_length-le}
+use lib.ListN.{length, get_or, drop, drop_of_length-le}
 use lib.Seq.{drop-cons}
 use Rattle.wire.proofs.laws.Cases.{if_b, else_b, if_eq, else_eq, if_lt, else_lt}
-use Rattle.wire.proofs.laws.Wire.{tail_part}
 use Rattle.plan.specs.Plan.{comes_in, is_order, trimmed}
 use Rattle.plan.proofs.laws.Orders.{Named, named}
 

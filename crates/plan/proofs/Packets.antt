@@ -1,17 +1,13 @@
 -- The packet at a place, and what its bytes alone decide. Assumes nothing.
-use Prim.Native.Nat.{ℕ, ◌+◌, ◌-◌, ◌*◌, ◌<◌, ◌≤◌}
-use mathlib.Core.Bool.{false}
-use mathlib.Core.Path.{◌≡◌, refl, sym, ap, ◌∙◌}
+use Prim.Native.Nat.{ℕ, ◌+◌, ◌-◌, ◌*◌, ◌≤◌}
+use mathlib.Core.Path.{◌≡◌, sym, ap, ◌∙◌}
 use mathlib.Core.List.{List, []}
 use native.Mathlib.Nat.{add-sub_cancel_left}
 use native.Mathlib.Omega.{arith}
-use lib.Dec.{eqb}
 use lib.ListN.{length, take, drop, length-drop, drop_of_length-le}
 use lib.Seq.{take_all}
-use Rattle.wire.proofs.laws.Cases.{if_lt, else_lt}
 use Rattle.wire.proofs.laws.Wire.{tail_part}
-use Rattle.packet.specs.Packet.{packet_status}
-use Rattle.plan.specs.Plan.{packet_at, sound}
+use Rattle.plan.specs.Plan.{packet_at}
 
 module _ (place : ℕ) (p : List ℕ) where
   pub none_there : length p ≤ 4096 * place → [] ≡ packet_at place p

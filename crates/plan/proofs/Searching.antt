@@ -3,16 +3,16 @@ use Prim.Native.Nat.{ℕ, suc, ◌+◌, ◌-◌, ◌/◌, ◌<◌, ◌≤◌}
 use mathlib.Core.Bool.{Bool, true, false, not}
 use mathlib.Core.Path.{◌≡◌, refl, sym, ap, ◌∙◌}
 use mathlib.Core.List.{List}
-use Rattle.std.specs.Prelude.{Option, Some, None}
+use Rattle.std.specs.Prelude.{Some, None}
 use native.Mathlib.Numerals.{add-one}
 use native.Mathlib.Omega.{arith}
 use borrow.Author.Tests.{not-false}
 use lib.ListN.{length, take, drop, length-drop}
 use lib.Seq.{take_all}
 use Rattle.wire.specs.Wire.{pasted}
-use Rattle.wire.proofs.laws.Cases.{if_b, else_b, if_lt, else_lt, if_eq, else_eq, if_not, else_not}
+use Rattle.wire.proofs.laws.Cases.{if_b, else_b, if_lt, else_lt, if_not, else_not}
 use Rattle.inplace.specs.declared.Told.{Told}
-use Rattle.plan.specs.Plan.{packets_in, is_order, reaches, plan_ok, digits_of, trimmed, order_of, least_from, least_plan, answered, Planned, given}
+use Rattle.plan.specs.Plan.{packets_in, is_order, reaches, plan_ok, digits_of, trimmed, order_of, least_from, least_plan, given}
 use Rattle.plan.specs.declared.Trial.{Trial}
 use Rattle.plan.proofs.laws.Orders.{of_more}
 

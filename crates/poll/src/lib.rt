@@ -1,5 +1,5 @@
 // The poll's reply: 40 data bytes, and the CAPS block of a master with caps received.
-#![tactic(auto)]
+#![tactic(auto, unfolding(crate::specs::Poll::master_bit, crate::specs::Poll::mark_bit, crate::specs::Poll::status_byte, crate::specs::Poll::oldest_id, crate::specs::Poll::log_length, crate::specs::Poll::poll_head, crate::specs::Poll::caps_block, crate::specs::Poll::shows_caps, crate::specs::Poll::poll_data))]
 
 ghost use Rattle.std.specs.Prelude.{◌≡◌, ◌≤◌};
 ghost use Rattle.packet.specs.Packet.{replied};

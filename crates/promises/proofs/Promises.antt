@@ -20,7 +20,7 @@ use Rattle.session.specs.declared.Session.{Session}
 use Rattle.inplace.specs.declared.Told.{Told}
 use Rattle.places.specs.Faults.{CommandFaults, NotAfter}
 use Rattle.places.specs.declared.Fault.{Fault}
-use Rattle.std.specs.Prelude.{Option, Some, None}
+use Rattle.std.specs.Prelude.{Some}
 use Rattle.session.specs.Road.{used_of, watch_only, Said, done}
 use Rattle.session.proofs.laws.Watch.{watch_formed}
 use Rattle.inplace.specs.InPlace.{no_image}

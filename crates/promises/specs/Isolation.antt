@@ -1,8 +1,5 @@
 -- Document 02, g: "The thermal people share a session with the SBE people and want to know that they can." What OCC exchanges depend on is a small value, the bench, and what
 -- mailbox requests and time reports depend on is the timer; neither side moves the other's.
-use Rattle.std.specs.Prelude.{Ok}
-use Rattle.std.specs.Result.{is_ok}
-use Rattle.packet.specs.declared.Status.TheVariants.{InvalidCommand, InvalidLength, InvalidData, ChecksumFailure, InternalError, StateProhibits}
 use Rattle.places.specs.declared.Fault.{Fault}
 use Rattle.std.specs.Prelude.{ℕ, ◌+◌, true, cond, not, ◌≡◌, List, [], ◌∷◌, eqb, length, get_or}
 use Rattle.record.specs.Record.{no_area, worked_of}
@@ -13,7 +10,7 @@ use Rattle.packet.specs.Packet.{data_of, replied}
 use Rattle.occ.specs.declared.Judged.{Judged}
 use Rattle.occ.specs.declared.Verdict.{Verdict}
 use Rattle.occ.specs.declared.Verdict.TheVariants.{Refuse, Poll, Make}
-use Rattle.std.specs.Prelude.{Option, Some, None}
+use Rattle.std.specs.Prelude.{Option, None}
 use Rattle.sbe.specs.Mailbox.{bell_of, response_bytes}
 use Rattle.sbe.specs.declared.Ruling.{Ruling}
 use Rattle.sbe.specs.declared.Ruling.TheVariants.{Decline, Grant, Done, Read}

@@ -2,7 +2,7 @@
 -- tried, are one higher in the second (Shifted.antt).
 use Rattle.std.specs.Prelude.{Ok}
 use Rattle.std.specs.Result.{is_ok}
-use Rattle.packet.specs.declared.Status.TheVariants.{InvalidCommand, InvalidLength, InvalidData, ChecksumFailure, InternalError, StateProhibits}
+use Rattle.packet.specs.declared.Status.TheVariants.{InternalError}
 use Rattle.std.specs.Prelude.{ℕ, suc, ◌<◌, cond, not, ◌⊎◌, ◌≡◌, List, [], ◌∷◌, eqb, length, get_or}
 use Rattle.change.specs.declared.Change.TheVariants.{Reset}
 use Rattle.packet.specs.Packet.{packet_status, data_of, replied}

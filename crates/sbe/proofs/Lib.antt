@@ -1,4 +1,2 @@
 pub mod laws
-pub mod Requests
-pub mod Chiplets
 pub mod Responses

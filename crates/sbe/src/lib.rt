@@ -1,5 +1,5 @@
 // The SBE mailbox: a request judged, its doorbell bits and its response. Nothing here changes a record or the timer.
-#![tactic(auto)]
+#![tactic(auto, unfolding(crate::specs::Mailbox::flags_of, crate::specs::Mailbox::word_at, crate::specs::Mailbox::register_at, crate::specs::Mailbox::plain_flags, crate::specs::Mailbox::start_or_stop, crate::specs::Mailbox::deadman_of, crate::specs::Mailbox::exit_of, crate::specs::Mailbox::cores_of, crate::specs::Mailbox::target_of, crate::specs::Mailbox::chiplet_of, crate::specs::Mailbox::chiplet_ranges, crate::specs::Mailbox::within, crate::specs::Mailbox::in_ranges, crate::specs::Mailbox::chiplet_known, crate::specs::Mailbox::ring_at, crate::specs::Mailbox::ring_of, crate::specs::Mailbox::timer_of, crate::specs::Mailbox::seeprom_of, crate::specs::Mailbox::area_status, crate::specs::Mailbox::area_of, crate::specs::Mailbox::areas_at, crate::specs::Mailbox::areas_of, crate::specs::Mailbox::core_state, crate::specs::Mailbox::ring_class, crate::specs::Mailbox::timer_class, crate::specs::Mailbox::general, crate::specs::Mailbox::request_for, crate::specs::Mailbox::request_ruling, crate::specs::Mailbox::bell_of, crate::specs::Mailbox::response_bytes))]
 
 ghost use Rattle.std.specs.Prelude.{◌≡◌, ◌≤◌, length};
 ghost use Rattle.wire.specs.Wire.{pasted};

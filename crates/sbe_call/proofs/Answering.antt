@@ -10,7 +10,7 @@ use borrow.Author.Tests.{ltb-true, ltb-false, eqb-true, not-false}
 use lib.Dec.{ltb, eqb}
 use lib.ListN.{length, take, drop, length-drop}
 use lib.Seq.{length-take-le}
-use Rattle.wire.specs.Wire.{Bytes, pasted}
+use Rattle.wire.specs.Wire.{pasted}
 use Rattle.wire.proofs.laws.Cases.{cond_cases, said_of, if_ne, else_ne}
 use Rattle.change.specs.Change.{no_tables}
 use Rattle.change.specs.declared.Change.{Change}

@@ -1,6 +1,6 @@
 -- Set after set, as the loops read them: what the sets that are left make of the table so far is what all of them make of the empty one.
 -- Assumes nothing.
-use Rattle.std.specs.Prelude.{ℕ, zero, suc, ◌+◌, ◌*◌, ◌<◌, ◌≡◌, refl, Option, Some, None, List, ◌++◌, length, take, drop}
+use Rattle.std.specs.Prelude.{ℕ, zero, suc, ◌*◌, ◌<◌, ◌≡◌, Option, Some, None, List, ◌++◌, length, take, drop}
 use Rattle.std.proofs.Common.{sym, ap, ◌∙◌, arith, length-append, take_at, drop_at}
 use Rattle.sets.specs.Sets.{read_of}
 use Rattle.sets.proofs.laws.Sets.{none_read, more_read, none_stays}

@@ -1,21 +1,18 @@
 -- What the steps of the call give back, from what they call. Assumes nothing.
 use Prim.Native.Nat.{ℕ, ◌≤◌}
-use mathlib.Core.Bool.{Bool, true, false, not}
+use mathlib.Core.Bool.{Bool, false}
 use mathlib.Core.Path.{◌≡◌, refl, sym, ap, ◌∙◌}
-use mathlib.Core.List.{List, []}
+use mathlib.Core.List.{List}
 use native.Mathlib.Omega.{arith}
 use borrow.Author.Tests.{leb-false}
 use lib.Dec.{leb}
-use lib.ListN.{length}
-use Rattle.wire.specs.Wire.{Bytes}
 use Rattle.wire.proofs.laws.Cases.{else_eq}
 use Rattle.record.specs.declared.Timer.{Timer}
-use Rattle.session.specs.Session.{well_formed, with_timer}
+use Rattle.session.specs.Session.{with_timer}
 use Rattle.session.specs.Road.{passes, expires, ticked, timer_bell, time_passed, done, settled}
 use Rattle.session.specs.declared.Session.{Session}
 use Rattle.image.specs.declared.Head.{Head}
-use Rattle.image.specs.Image.{image_of, head_in, head_timed, session_in}
-use Rattle.layout.specs.Layout.{image_length}
+use Rattle.image.specs.Image.{image_of, head_timed, session_in}
 use Rattle.inplace.specs.declared.Told.{Told}
 use Rattle.inplace.specs.InPlace.{Opens, Unopened, rung_left, HeadStands}
 use Rattle.inplace.proofs.laws.Silent as silent

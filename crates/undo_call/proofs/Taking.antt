@@ -8,10 +8,10 @@ use Rattle.std.specs.Option.{unwrap_or}
 use native.Mathlib.Omega.{arith}
 use lib.Dec.{ltb, eqb}
 use lib.ListN.{length, take, drop, replicate, length-drop, length-replicate}
-use borrow.Author.Tests.{not-false, ltb-false}
+use borrow.Author.Tests.{ltb-false}
 use lib.Seq.{length-take-le, drop-drop}
 use Rattle.wire.proofs.laws.Cases.{cond_cases, if_b, else_b, if_eq, else_eq}
-use Rattle.wire.specs.Wire.{pasted, Bytes}
+use Rattle.wire.specs.Wire.{pasted}
 use Rattle.wire.proofs.laws.Wire.{part_of_part, length_pasted}
 use Rattle.record.specs.declared.Record.{Record}
 use Rattle.record.specs.declared.Timer.{Timer}
@@ -35,7 +35,7 @@ use Rattle.session.proofs.laws.Session.{formed}
 use Rattle.session.specs.declared.Session.{Session}
 use Rattle.change.proofs.laws.Timed.{kind_of_back, timed_kind}
 use Rattle.image.specs.declared.Head.{Head}
-use Rattle.image.specs.Image.{head_renewed, head_timed, image_of, part_at, head_in, store_at, store_in, with_store, journal_in, redo_in, marks_in, session_in}
+use Rattle.image.specs.Image.{head_renewed, head_timed, image_of, part_at, store_at, store_in, with_store, journal_in, redo_in, marks_in, session_in}
 use Rattle.layout.specs.Layout.{journal_at, redo_at, image_length}
 use Rattle.image.proofs.laws.Stores.{store_low, store_long, store_back, store_above, store_below, store_marks}
 use Rattle.image.proofs.Standing.{length_store}

@@ -1,20 +1,18 @@
 -- What the steps of the call give back, from what they call. Assumes nothing.
 use Prim.Native.Nat.{ℕ}
-use mathlib.Core.Bool.{Bool, true, false, not}
-use mathlib.Core.Path.{◌≡◌, refl, sym, ap, ◌∙◌}
-use mathlib.Core.List.{List, []}
+use mathlib.Core.Path.{◌≡◌, sym, ap, ◌∙◌}
+use mathlib.Core.List.{List}
 use lib.ListN.{length, replicate}
-use Rattle.wire.specs.Wire.{Bytes}
 use Rattle.wire.proofs.laws.Cases.{else_ne}
 use Rattle.record.specs.Record.{worked_of}
 use Rattle.record.specs.declared.Worked.{Worked}
 use Rattle.entries.specs.Entries.{scan_from, scan_by, entries_of}
 use Rattle.marks.specs.Marks.{milestones, spelled, marks_of}
-use Rattle.session.specs.Session.{entries_in, well_formed, renewed, with_profile}
+use Rattle.session.specs.Session.{entries_in, renewed, with_profile}
 use Rattle.session.specs.Road.{opens, watch_only, done, settled}
 use Rattle.session.specs.declared.Session.{Session}
 use Rattle.image.specs.declared.Head.{Head}
-use Rattle.image.specs.Image.{image_of, head_in, session_in, written_to}
+use Rattle.image.specs.Image.{image_of, session_in, written_to}
 use Rattle.layout.specs.Layout.{image_length}
 use Rattle.inplace.specs.declared.Told.{Told}
 use Rattle.inplace.specs.InPlace.{Opens, Unopened, rung_left}

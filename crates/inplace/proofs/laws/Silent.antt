@@ -1,17 +1,14 @@
 -- A call without a reply that asks for a well-formed session first, on lent bytes: once for all of them. Assumes nothing.
-use Rattle.std.specs.Prelude.{ℕ, Bool, true, false, cond, ◌≡◌, refl, List, [], length}
+use Rattle.std.specs.Prelude.{ℕ, Bool, cond, ◌≡◌, refl, List, []}
 use Rattle.std.proofs.Math.Bool.{not}
 use Rattle.std.proofs.Common.{sym, ◌∙◌}
 use Rattle.std.proofs.Math.Path.{ap}
-use Rattle.std.proofs.lemmas.Bool.{not-false}
-use Rattle.wire.specs.Wire.{Bytes}
-use Rattle.wire.proofs.laws.Cases.{if_b, else_b}
+use Rattle.wire.proofs.laws.Cases.{else_b}
 use Rattle.session.specs.Session.{well_formed}
 use Rattle.session.specs.Road.{Asks, refuses, Said, kept, settled}
 use Rattle.session.specs.declared.Session.{Session}
 use Rattle.image.specs.declared.Head.{Head}
-use Rattle.image.specs.Image.{image_of, head_in, session_in}
-use Rattle.layout.specs.Layout.{image_length}
+use Rattle.image.specs.Image.{image_of, session_in}
 use Rattle.inplace.specs.declared.Told.{Told}
 use Rattle.inplace.specs.InPlace.{Left, rung_left, on_image, Opens, Unopened}
 use Rattle.inplace.proofs.laws.InPlace as laws

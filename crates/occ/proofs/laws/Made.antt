@@ -1,10 +1,8 @@
 -- Laws of judged commands that other crates build on: what is known of a change that a command makes. Assumes nothing.
-use Rattle.std.specs.Prelude.{ℕ, ◌<◌, ◌≤◌, Bool, true, cond, not, ◌≡◌, List, Option, ◌⊎◌, eqb, length, drop, replicate, Result, Ok, Err, Some, None}
-use Rattle.std.specs.Result.{is_ok}
-use Rattle.packet.specs.Packet.{Checked, status_number}
-use Rattle.packet.proofs.laws.Exactly.{ok_is, checked_cases}
+use Rattle.std.specs.Prelude.{ℕ, ◌<◌, ◌≤◌, Bool, true, cond, not, ◌≡◌, List, Option, ◌⊎◌, eqb, length, drop, replicate, Ok, Err, Some, None}
+use Rattle.packet.specs.Packet.{Checked}
 use Rattle.packet.specs.declared.Status.{Status}
-use Rattle.packet.specs.declared.Status.TheVariants.{InvalidCommand, InvalidLength, InvalidData, ChecksumFailure, InternalError, StateProhibits}
+use Rattle.packet.specs.declared.Status.TheVariants.{InvalidCommand, InvalidLength, InvalidData}
 use Rattle.std.specs.Option.{IfSome}
 use Rattle.std.proofs.lemmas.Option.{IfSome_then}
 use Rattle.std.proofs.Math.Path.{refl, subst}
@@ -28,7 +26,6 @@ use Rattle.change.specs.declared.Change.{Change}
 use Rattle.change.specs.declared.Change.TheVariants.{Clear, Unclear, SetState, SetRole, SetCaps, SetUser, SetThermal, SetThrottles, Reset, Unreset, SetMask, SetDeadman, SetAreas, SetTimer}
 use Rattle.formed.specs.Formed.{state_ok, flag_ok, role_ok, caps_ok, thermal_ok, thermal_rule, throttles_ok, absent_zero, next_ok, reason_ok, record_ok, made_ok, change_ok}
 use Rattle.formed.proofs.laws.Formed.{Sound, sound, pends_cleared}
-use Rattle.sets.specs.Sets.{throttles_of, thermal_of}
 use Rattle.sets.proofs.laws.Sets.{sets_formed, frus_formed}
 use Rattle.occ.specs.declared.Verdict.{Verdict}
 use Rattle.occ.specs.declared.Verdict.TheVariants.{Refuse, Poll, Make}

@@ -1,8 +1,6 @@
 -- The columns of the table of what is open, as conditions; and what a watch-only session lets through. Assumes nothing.
-use Rattle.std.specs.Prelude.{ℕ, Bool, true, false, not, ◌↔◌, ◌⊎◌, ◌≡◌, refl, List, Some, None, eqb, length, get_or, Result, Ok, Err}
-use Rattle.std.specs.Result.{is_ok}
-use Rattle.packet.specs.Packet.{Checked, status_number}
-use Rattle.packet.proofs.laws.Exactly.{ok_is, checked_cases}
+use Rattle.std.specs.Prelude.{ℕ, Bool, true, false, not, ◌↔◌, ◌⊎◌, ◌≡◌, refl, List, Some, None, eqb, length, get_or}
+use Rattle.packet.specs.Packet.{status_number}
 use Rattle.packet.specs.declared.Status.{Status}
 use Rattle.packet.specs.declared.Status.TheVariants.{InvalidCommand, InvalidLength, InvalidData, ChecksumFailure, InternalError, StateProhibits}
 use Rattle.std.proofs.Math.Bool.{cond}

@@ -1,11 +1,8 @@
 use mathlib.Core.Path.{sym, ap, ◌∙◌}
-use Prim.Native.Nat.{ℕ}
-use Rattle.std.specs.Prelude.{Option}
 use Rattle.std.specs.Option.{ok_or}
-use Rattle.packet.specs.Packet.{Checked}
 use Rattle.packet.specs.declared.Status.TheVariants.{InvalidData}
 use Rattle.sets.specs.Sets.{thermal_of}
-use Rattle.occ.specs.Judge.{sets_read, thermal_read}
+use Rattle.occ.specs.Judge.{thermal_read}
 use Rattle.occ.proofs.Parts.{read_counted, handed_on, count_refused, sets_refused_or_read}
 use Rattle.occ.proofs.thermal_read.Goals as goal
 

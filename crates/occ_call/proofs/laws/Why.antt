@@ -1,20 +1,17 @@
 -- Document 02, c: beside the answer a wrong byte stands exactly where the command was read and judged 0x13, and it is the least of all
 -- faults. Assumes nothing.
-use Rattle.std.specs.Prelude.{Result, Ok, Err}
-use Rattle.std.specs.Result.{is_ok}
-use Rattle.packet.specs.Packet.{Checked, status_number}
-use Rattle.packet.proofs.laws.Exactly.{ok_is, checked_cases}
-use Rattle.packet.specs.declared.Status.{Status}
+use Rattle.std.specs.Prelude.{Ok, Err}
+use Rattle.packet.specs.Packet.{Checked}
+use Rattle.packet.proofs.laws.Exactly.{checked_cases}
 use Rattle.packet.specs.declared.Status.TheVariants.{InvalidCommand, InvalidLength, InvalidData, ChecksumFailure, InternalError, StateProhibits}
-use Rattle.std.specs.Prelude.{ℕ, ◌+◌, true, not, List, ◌↔◌, ltb, eqb, length, get_or, take, drop}
+use Rattle.std.specs.Prelude.{ℕ, true, not, List, ◌↔◌, length, get_or}
 use Rattle.std.proofs.Math.Path.{◌≡◌, refl, ap}
 use Rattle.std.proofs.Common.{sym, subst, ◌∙◌, arith}
-use borrow.Author.Tests.{eqb-true, not-false}
+use borrow.Author.Tests.{not-false}
 use Rattle.wire.specs.Conditions.{◌and◌}
-use Rattle.wire.specs.Wire.{be_nat, packet_sum}
-use Rattle.wire.proofs.laws.Cases.{cond_elim, cond_cases, else_ne}
+use Rattle.wire.proofs.laws.Cases.{cond_cases}
 use Rattle.record.specs.declared.Record.{Record}
-use Rattle.packet.specs.Packet.{data_length, status_at, packet_status, data_of}
+use Rattle.packet.specs.Packet.{packet_status, data_of}
 use Rattle.occ.specs.Judge.{plainly, judge_of}
 use Rattle.occ.specs.Open.{open_to}
 use Rattle.occ.proofs.laws.Open.{wrong_stays}

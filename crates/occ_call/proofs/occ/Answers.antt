@@ -1,4 +1,4 @@
-use mathlib.Core.Path.{refl, sym}
+use mathlib.Core.Path.{refl}
 use Rattle.occ_call.proofs.Answering.{unopened, met_in, refused_in, heard_in}
 use Rattle.occ_call.proofs.occ.Goals as goal
 

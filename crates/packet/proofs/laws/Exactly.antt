@@ -1,11 +1,11 @@
 -- Document 01, "Statuses": a packet is in one of three rows, the first 0x12, 0x14 or neither, and its status tells which. Assumes nothing.
-use Rattle.std.specs.Prelude.{Result, Ok, Err}
+use Rattle.std.specs.Prelude.{Ok, Err}
 use Rattle.packet.specs.declared.Status.{Status}
-use Rattle.packet.specs.declared.Status.TheVariants.{InvalidCommand, InvalidLength, InvalidData, ChecksumFailure, InternalError, StateProhibits}
+use Rattle.packet.specs.declared.Status.TheVariants.{InvalidLength, ChecksumFailure}
 use Rattle.std.specs.Result.{is_ok}
 use Rattle.std.proofs.lemmas.Bool.{false≢true}
 use Rattle.std.specs.Prelude.{ℕ, ◌+◌, ◌<◌, ◌≤◌, Bool, true, false, ◌⊎◌, ◌↔◌, ◌≡◌, refl, List, ltb, eqb, length}
-use Rattle.std.proofs.Common.{inl, inr, ⊎_elim, ◌∙◌, arith, ltb-true, ltb-false, eqb-true}
+use Rattle.std.proofs.Common.{inl, inr, ⊎_elim, ◌∙◌, ltb-true, ltb-false, eqb-true}
 use Rattle.std.proofs.Math.Path.{sym}
 use Rattle.std.proofs.lemmas.Bool.{eqb-false}
 use Rattle.wire.proofs.laws.Cases.{if_lt, else_lt, if_ne, else_ne}

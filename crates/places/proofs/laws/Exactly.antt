@@ -1,10 +1,8 @@
 -- Document 02, c: a fault is found exactly where the status is 0x13. d is the data. Assumes nothing.
-use Rattle.std.specs.Prelude.{ℕ, zero, suc, ◌+◌, ◌-◌, ◌*◌, ◌<◌, ◌≤◌, Bool, true, false, cond, not, ◌≡◌, refl, List, Some, None, ◌↔◌, ltb, leb, eqb, length, get_or, take, drop, Result, Ok, Err, Option}
+use Rattle.std.specs.Prelude.{ℕ, zero, suc, ◌+◌, ◌-◌, ◌*◌, ◌<◌, ◌≤◌, Bool, true, false, cond, not, ◌≡◌, refl, List, Some, None, ◌↔◌, ltb, leb, eqb, length, get_or, take, drop, Ok, Err, Option}
 use Rattle.std.specs.Option.{is_some}
-use Rattle.std.specs.Result.{is_ok}
-use Rattle.packet.specs.Packet.{Checked, status_number}
-use Rattle.packet.specs.declared.Status.{Status}
-use Rattle.packet.specs.declared.Status.TheVariants.{InvalidCommand, InvalidLength, InvalidData, ChecksumFailure, InternalError, StateProhibits}
+use Rattle.packet.specs.Packet.{status_number}
+use Rattle.packet.specs.declared.Status.TheVariants.{InvalidCommand, InvalidLength, InvalidData, InternalError, StateProhibits}
 use Rattle.std.proofs.lemmas.Bool.{false≢true}
 use Rattle.std.proofs.lemmas.Option.{none-some}
 use Rattle.std.proofs.Math.Bool.{true≢false}
@@ -19,7 +17,6 @@ use Rattle.record.specs.declared.Record.{Record}
 use Rattle.record.specs.declared.Worked.{Worked}
 use Rattle.change.specs.Logs.{pending_of, find_of}
 use Rattle.change.specs.declared.Change.{Change}
-use Rattle.change.specs.declared.Tables.{Tables}
 use Rattle.formed.specs.Formed.{in_order}
 use Rattle.formed.proofs.laws.Thresholds.{order_exactly, out_of_order}
 use Rattle.sets.specs.Sets.{throttles_of, thermal_of}

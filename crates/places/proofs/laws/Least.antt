@@ -20,7 +20,7 @@ use Rattle.occ.proofs.laws.Exactly.{found_exactly, user_allowed_exactly, counted
 use Rattle.places.specs.declared.Reason.{Reason}
 use Rattle.places.specs.declared.Reason.TheVariants.{BadVersion, BadCount, OutOfRange, Repeated, Clash, NotPending}
 use Rattle.places.specs.declared.Fault.{Fault}
-use Rattle.std.specs.Prelude.{Option, Some, None}
+use Rattle.std.specs.Prelude.{Option, None}
 use Rattle.places.specs.declared.SetTable.{SetTable}
 use Rattle.places.specs.declared.SetTable.TheVariants.{Throttles, Thermal}
 use Rattle.places.specs.Reasons.{named}

@@ -18,7 +18,7 @@ use Rattle.session.proofs.laws.Road.{Speaks}
 use Rattle.session.proofs.laws.Timer.{Clock}
 use Rattle.session.specs.declared.Session.{Session}
 use Rattle.packet.specs.Packet.{data_of}
-use Rattle.std.specs.Prelude.{Option, Some, None}
+use Rattle.std.specs.Prelude.{None}
 use Rattle.occ.specs.Open.{by_profile}
 use Rattle.occ_call.specs.Occ as occs
 use Rattle.occ_call.proofs.laws.Speaks.{occ_speaks}

@@ -1,10 +1,8 @@
 -- A change that a command of bytes makes is one that links can undo: its values pass, its numbers are of their widths. Assumes nothing.
-use Rattle.std.specs.Prelude.{ℕ, ◌+◌, ◌≤◌, Bool, true, cond, not, ◌⊎◌, ◌≡◌, List, ltb, leb, eqb, length, take, drop, Some, None, Result, Ok, Err, Option}
-use Rattle.std.specs.Result.{is_ok}
-use Rattle.packet.specs.Packet.{Checked, status_number}
-use Rattle.packet.proofs.laws.Exactly.{ok_is, checked_cases}
+use Rattle.std.specs.Prelude.{ℕ, ◌+◌, ◌≤◌, Bool, true, cond, not, ◌⊎◌, ◌≡◌, List, ltb, leb, eqb, length, take, drop, Some, None, Ok, Err, Option}
+use Rattle.packet.specs.Packet.{Checked}
 use Rattle.packet.specs.declared.Status.{Status}
-use Rattle.packet.specs.declared.Status.TheVariants.{InvalidCommand, InvalidLength, InvalidData, ChecksumFailure, InternalError, StateProhibits}
+use Rattle.packet.specs.declared.Status.TheVariants.{InvalidCommand, InvalidLength, InvalidData, InternalError, StateProhibits}
 use Rattle.std.specs.Option.{IfSome}
 use Rattle.std.proofs.lemmas.Option.{IfSome_then}
 use Rattle.std.proofs.Common.{inl, inr, ⊎_elim, sym, arith, ltb-false, eq-eqb}
@@ -31,7 +29,6 @@ use Rattle.formed.proofs.laws.Formed.{sound}
 use Rattle.record.specs.Widths.{CapsFit}
 use Rattle.journal.proofs.laws.Bodies.{Writable}
 use Rattle.journal.specs.declared.Way.TheVariants.{After}
-use Rattle.sets.specs.Sets.{throttles_of, thermal_of}
 use Rattle.sets.proofs.laws.Sets.{PairsFormed, sets_formed, ThermalFormed, frus_formed}
 use Rattle.occ.specs.Commands.{poll_verdict, clear_at, clear_verdict, state_fits, not_ready, state_verdict, role_verdict, caps_for, sent_caps, caps_verdict, user_allowed, user_for, user_verdict, log_due, reset_for, reset_verdict}
 use Rattle.occ.specs.Judge.{plainly, sets_status, sets_read, read_judged, throttles_made, throttles_read, throttles_judged, thermal_made, thermal_read, thermal_judged, format_judged, configure_judged, type_judged, judge_of}

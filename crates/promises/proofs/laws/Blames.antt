@@ -1,10 +1,6 @@
 -- Document 02, c in two worlds that differ in ids: the same data byte is told in both. Assumes nothing.
 use Rattle.std.specs.Option.{is_some}
-use Rattle.std.specs.Prelude.{ℕ, ◌≤◌, ◌<◌, not, List, [], ◌∷◌, map, ◌≡◌, eqb, length, get_or, Option, Result, Ok, Err}
-use Rattle.std.specs.Result.{is_ok}
-use Rattle.packet.specs.Packet.{Checked, status_number}
-use Rattle.packet.proofs.laws.Exactly.{ok_is, checked_cases}
-use Rattle.packet.specs.declared.Status.{Status}
+use Rattle.std.specs.Prelude.{ℕ, ◌≤◌, ◌<◌, not, List, [], ◌∷◌, map, ◌≡◌, eqb, length, get_or, Option}
 use Rattle.packet.specs.declared.Status.TheVariants.{InvalidCommand, InvalidLength, InvalidData, ChecksumFailure, InternalError, StateProhibits}
 use Rattle.places.specs.declared.Fault.{Fault}
 use Rattle.std.proofs.Math.Bool.{cond}
@@ -19,7 +15,7 @@ use Rattle.change.specs.With.{with_logs}
 use Rattle.occ.specs.declared.Verdict.{Verdict}
 use Rattle.occ.specs.declared.Verdict.TheVariants.{Refuse, Poll, Make}
 use Rattle.places.specs.Places.{wrong, clear_fault, fault_of}
-use Rattle.std.specs.Prelude.{Option, Some, None}
+use Rattle.std.specs.Prelude.{Option, None}
 use Rattle.places.specs.declared.Reason.TheVariants.{NotPending}
 use Rattle.occ_call.specs.Occ.{fault_by, fault_for}
 use Rattle.promises.specs.Shifted.{shifted, shifted_log, shifted_record}

@@ -1,11 +1,8 @@
 -- Document 02, g: what each side hears is what it would hear alone. Assumes nothing.
 use Rattle.std.specs.Option.{unwrap_or}
-use Rattle.std.specs.Prelude.{ℕ, ◌+◌, Bool, cond, not, ◌≡◌, ltb, leb, length, get_or, Option, Some, None, Result, Ok, Err}
-use Rattle.std.specs.Result.{is_ok}
-use Rattle.packet.specs.Packet.{Checked, status_number, packet_status}
-use Rattle.packet.proofs.laws.Exactly.{ok_is, checked_cases}
-use Rattle.packet.specs.declared.Status.{Status}
-use Rattle.packet.specs.declared.Status.TheVariants.{InvalidCommand, InvalidLength, InvalidData, ChecksumFailure, InternalError, StateProhibits}
+use Rattle.std.specs.Prelude.{ℕ, ◌+◌, Bool, cond, not, ◌≡◌, ltb, leb, length, get_or, Option, Some, None}
+use Rattle.packet.specs.Packet.{Checked, packet_status}
+use Rattle.packet.proofs.laws.Exactly.{checked_cases}
 use Rattle.places.specs.declared.Fault.{Fault}
 use Rattle.std.proofs.Math.Bool.{true, false}
 use Rattle.std.proofs.Common.{true≢false, ◌∙◌, eqb-true}
@@ -41,7 +38,7 @@ use Rattle.sbe.specs.Mailbox.{request_ruling, response_bytes}
 use Rattle.sbe.specs.declared.Ruling.{Ruling}
 use Rattle.sbe.specs.declared.Ruling.TheVariants.{Decline, Grant, Done, Read}
 use Rattle.places.specs.Places.{fault_of}
-use Rattle.std.specs.Prelude.{Option, Some, None}
+use Rattle.std.specs.Prelude.{Option, None}
 use Rattle.session.specs.Session.{fresh_session, well_formed, made_of, renewed, with_timer, carried_to, carried_of}
 use Rattle.session.specs.Road.{Asks, refuses, makes, passes, due, time_passed, Said, kept, done, carried_says, settled}
 use Rattle.session.proofs.laws.Road.{refusal_keeps, error_keeps}

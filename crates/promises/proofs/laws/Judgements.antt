@@ -1,10 +1,10 @@
 -- A command judged in both worlds: the same verdict but for ids, or the ids ended in the second. Assumes nothing.
-use Rattle.std.specs.Prelude.{ℕ, suc, ◌≤◌, ◌<◌, Bool, true, false, not, ◌⊎◌, ◌≡◌, List, [], ◌∷◌, map, ltb, eqb, length, take, drop, Option, Some, None, Result, Ok, Err}
+use Rattle.std.specs.Prelude.{ℕ, suc, ◌≤◌, ◌<◌, Bool, true, false, not, ◌⊎◌, ◌≡◌, List, [], ◌∷◌, map, ltb, eqb, length, take, drop, Option, Some, None, Ok, Err}
 use Rattle.std.specs.Result.{is_ok}
-use Rattle.packet.specs.Packet.{Checked, status_number}
-use Rattle.packet.proofs.laws.Exactly.{ok_is, checked_cases}
+use Rattle.packet.specs.Packet.{Checked}
+use Rattle.packet.proofs.laws.Exactly.{checked_cases}
 use Rattle.packet.specs.declared.Status.{Status}
-use Rattle.packet.specs.declared.Status.TheVariants.{InvalidCommand, InvalidLength, InvalidData, ChecksumFailure, InternalError, StateProhibits}
+use Rattle.packet.specs.declared.Status.TheVariants.{InvalidCommand, InvalidLength, InvalidData, InternalError}
 use Rattle.std.proofs.Math.Bool.{cond}
 use Rattle.std.proofs.Math.Logic.{inl, inr}
 use Rattle.std.proofs.Math.Path.{refl, sym, ap, subst}
@@ -23,7 +23,6 @@ use Rattle.change.specs.Logs.{pending_of, find_of}
 use Rattle.change.specs.With.{with_logs}
 use Rattle.change.specs.declared.Change.TheVariants.{Clear, Reset}
 use Rattle.sets.specs.Sets.{throttles_of, thermal_of}
-use Rattle.record.specs.declared.Throttles.{Throttles}
 use Rattle.occ.specs.Commands.{poll_verdict, clear_at, clear_verdict, state_fits, not_ready, state_verdict, role_verdict, caps_for, sent_caps, caps_verdict, user_allowed, user_for, user_verdict, log_due, reset_for, reset_verdict}
 use Rattle.occ.specs.Judge.{plainly, sets_status, sets_read, read_judged, throttles_made, throttles_read, throttles_judged, thermal_made, thermal_read, thermal_judged, format_judged, configure_judged, type_judged, judge_of}
 use Rattle.occ.specs.Open.{open_to}

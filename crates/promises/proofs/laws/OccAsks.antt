@@ -1,10 +1,9 @@
 -- What each OCC command asks for, with what is known of it where it is accepted. Assumes nothing.
-use Rattle.std.specs.Prelude.{ℕ, ◌*◌, ◌<◌, ◌≤◌, false, not, ◌≡◌, List, eqb, ltb, leb, length, take, drop, replicate, Option, Some, None, Result, Ok, Err}
+use Rattle.std.specs.Prelude.{ℕ, ◌*◌, ◌<◌, ◌≤◌, false, not, ◌≡◌, List, eqb, ltb, leb, length, take, drop, replicate, Option, Some, None, Ok, Err}
 use Rattle.std.specs.Result.{is_ok}
-use Rattle.packet.specs.Packet.{Checked, status_number}
-use Rattle.packet.proofs.laws.Exactly.{ok_is, checked_cases}
+use Rattle.packet.specs.Packet.{Checked}
 use Rattle.packet.specs.declared.Status.{Status}
-use Rattle.packet.specs.declared.Status.TheVariants.{InvalidCommand, InvalidLength, InvalidData, ChecksumFailure, InternalError, StateProhibits}
+use Rattle.packet.specs.declared.Status.TheVariants.{InvalidCommand, InvalidLength, InvalidData, InternalError, StateProhibits}
 use Rattle.std.proofs.Math.Bool.{true≢false}
 use Rattle.std.proofs.Math.Path.{refl}
 use Rattle.std.proofs.Common.{sym, ap, ◌∙◌, arith, length-drop}
@@ -22,7 +21,6 @@ use Rattle.change.specs.Change.{no_tables, kind_of}
 use Rattle.change.specs.declared.Tables.{Tables}
 use Rattle.change.specs.declared.Change.{Change}
 use Rattle.change.specs.declared.Change.TheVariants.{Clear, SetState, SetRole, SetCaps, SetUser, SetThermal, SetThrottles, Reset}
-use Rattle.sets.specs.Sets.{throttles_of, thermal_of}
 use Rattle.sets.specs.Conditions.{SentPairs, SentFrus}
 use Rattle.sets.proofs.laws.Sent.{sets_sent, frus_sent}
 use Rattle.occ.specs.declared.Verdict.{Verdict}

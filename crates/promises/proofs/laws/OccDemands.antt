@@ -1,22 +1,20 @@
 -- Demands 1 and 2 of the call `occ`, read off its ways. Assumes nothing.
 use Rattle.std.specs.Prelude.{Err, Ok as Good}
 use Rattle.std.specs.Result.{is_ok}
-use Rattle.packet.specs.Packet.{Checked, status_number}
-use Rattle.packet.proofs.laws.Exactly.{ok_is, checked_cases}
+use Rattle.packet.specs.Packet.{status_number}
 use Rattle.packet.specs.declared.Status.{Status}
 use Rattle.packet.specs.declared.Status.TheVariants.{InvalidCommand, InvalidLength, InvalidData, ChecksumFailure, InternalError, StateProhibits}
-use Rattle.std.specs.Prelude.{ℕ, ◌+◌, ◌≤◌, true, false, ◌↔◌, ◌⊎◌, ◌≡◌, eqb}
+use Rattle.std.specs.Prelude.{ℕ, ◌+◌, ◌≤◌, true, false, ◌↔◌, ◌⊎◌, ◌≡◌}
 use Rattle.std.proofs.Math.Bool.{false≢true}
-use Rattle.std.proofs.Common.{true≢false, subst, ◌∙◌, arith, eqb-true}
+use Rattle.std.proofs.Common.{true≢false, subst, ◌∙◌, arith}
 use Rattle.std.proofs.Math.Logic.{inl, inr, ⊎_elim}
 use Rattle.std.proofs.Math.Logic.Iff
 use Rattle.std.proofs.Math.Path.{refl, sym, ap}
 use mathlib.Core.List.{List, []}
 use Rattle.std.proofs.Math.Nat.{not-le_of_lt}
-use Rattle.std.proofs.lemmas.Bool.{eqb-false}
 use Rattle.std.proofs.Math.ListN.{length, get_or}
 use Rattle.wire.specs.Conditions.{◌and◌, is, row, here, later}
-use Rattle.wire.proofs.laws.Cases.{cond_elim, cond_cases, else_eq}
+use Rattle.wire.proofs.laws.Cases.{cond_cases, else_eq}
 use Rattle.wire.proofs.laws.Tables.{ByTable, by_is, hit, miss}
 use Rattle.record.specs.Record.{worked_of}
 use Rattle.record.specs.declared.Worked.{Worked}

@@ -1,12 +1,9 @@
 -- What holds of all that an OCC exchange may ask: of a refusal, of the packet's own statuses, and of the final verdict on a well-formed session. Assumes nothing.
-use Rattle.std.specs.Prelude.{Result, Ok, Err}
-use Rattle.std.specs.Result.{is_ok}
-use Rattle.packet.specs.Packet.{Checked, status_number}
-use Rattle.packet.proofs.laws.Exactly.{ok_is, checked_cases}
+use Rattle.packet.specs.Packet.{Checked}
+use Rattle.packet.proofs.laws.Exactly.{checked_cases}
 use Rattle.packet.specs.declared.Status.{Status}
-use Rattle.packet.specs.declared.Status.TheVariants.{InvalidCommand, InvalidLength, InvalidData, ChecksumFailure, InternalError, StateProhibits}
-use Rattle.std.specs.Prelude.{ℕ, true, not, ◌≡◌, refl, List, eqb, length, get_or}
-use Rattle.wire.proofs.laws.Cases.{cond_elim, cond_cases}
+use Rattle.std.specs.Prelude.{ℕ, true, ◌≡◌, refl, List, length, get_or}
+use Rattle.wire.proofs.laws.Cases.{cond_elim}
 use Rattle.change.specs.Change.{no_tables}
 use Rattle.change.specs.declared.Tables.{Tables}
 use Rattle.packet.specs.Packet.{packet_status, data_of}

@@ -1,17 +1,16 @@
 -- The ways of the call `occ`, with the tests that led there, and the deed that each counts as. Assumes nothing.
 use Rattle.std.proofs.Common.{ap}
-use Rattle.std.specs.Prelude.{Result, Ok, Err}
-use Rattle.std.specs.Result.{is_ok}
+use Rattle.std.specs.Prelude.{Ok, Err}
 use Rattle.packet.specs.Packet.{Checked, status_number}
-use Rattle.packet.proofs.laws.Exactly.{ok_is, checked_cases}
+use Rattle.packet.proofs.laws.Exactly.{checked_cases}
 use Rattle.packet.specs.declared.Status.{Status}
 use Rattle.packet.specs.declared.Status.TheVariants.{InvalidCommand, InvalidLength, InvalidData, ChecksumFailure, InternalError, StateProhibits}
-use Rattle.std.specs.Prelude.{ℕ, ◌≤◌, ◌<◌, true, false, not, ◌↔◌, ◌≡◌, refl, List, [], eqb, ltb, length, get_or}
+use Rattle.std.specs.Prelude.{ℕ, ◌≤◌, ◌<◌, true, false, not, ◌↔◌, ◌≡◌, refl, List, [], ltb, length, get_or}
 use Rattle.std.proofs.Math.Bool.{true≢false}
 use Rattle.std.proofs.Common.{sym, ◌∙◌, arith}
 use Rattle.std.proofs.Math.Path.{subst}
-use borrow.Author.Tests.{not-false, not-true, eqb-true, eqb-false, ltb-true, ltb-false}
-use Rattle.wire.proofs.laws.Cases.{cond_elim, cond_cases, else_eq, by_both}
+use borrow.Author.Tests.{not-false, not-true, ltb-true, ltb-false}
+use Rattle.wire.proofs.laws.Cases.{cond_elim, cond_cases, by_both}
 use Rattle.wire.proofs.laws.Chains.{holds, eq_holds, or_else}
 use Rattle.change.specs.Change.{no_tables}
 use Rattle.change.specs.declared.Change.{Change}

@@ -6,10 +6,10 @@ use Rattle.std.proofs.lemmas.Option.{same_Some, none-some}
 use Rattle.std.proofs.Common.{inl, inr, ⊎_elim, ap, subst, ◌∙◌, arith, take_at}
 use Rattle.std.proofs.Math.Path.{refl, sym}
 use Rattle.std.proofs.Math.Nat.{not-le_of_lt}
-use borrow.Author.Tests.{not-false, not-true, eqb-true, eqb-false, ltb-true, ltb-false}
+use borrow.Author.Tests.{not-false, not-true, eqb-true, ltb-true, ltb-false}
 use Rattle.wire.specs.Conditions.{is, row}
 use Rattle.wire.specs.Wire.{pasted}
-use Rattle.wire.proofs.laws.Cases.{cond_cases, if_b, else_lt, if_ne, else_ne, if_eq, else_eq}
+use Rattle.wire.proofs.laws.Cases.{cond_cases, if_b, else_lt, if_ne, else_ne}
 use Rattle.wire.proofs.laws.Chains.{holds, eq_holds, or_else, passed}
 use Rattle.wire.proofs.laws.Tables.{ByTable, by_is, hit, miss}
 use Rattle.session.specs.Session.{well_formed}
@@ -18,7 +18,7 @@ use Rattle.image.specs.Image.{session_of}
 use Rattle.layout.specs.Layout.{image_length}
 use Rattle.inplace.specs.declared.Told.{Told}
 use Rattle.plan.specs.Conditions.{FewestThenLeast}
-use Rattle.plan.specs.Plan.{packets_in, is_order, reaches, plan_ok, order_of, orders, least_plan, wanted_ok, plan_refusal, start_of, answered, accepted, plan_ok_call, Planned, given, plan_call, plan_ok_on, plan_on}
+use Rattle.plan.specs.Plan.{packets_in, is_order, reaches, plan_ok, order_of, least_plan, wanted_ok, plan_refusal, start_of, answered, accepted, plan_ok_call, Planned, given, plan_call, plan_ok_on, plan_on}
 use Rattle.plan.proofs.laws.Least.{least_low, least_passes, least_before}
 use Rattle.plan.proofs.laws.Numbers.{number_of, comes_first, number_order, order_number}
 use Rattle.plan.proofs.laws.Orders.{of_more}

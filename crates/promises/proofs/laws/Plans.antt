@@ -1,10 +1,8 @@
 -- Document 02, l: the check accepts exactly the orders that lead to the wanted state, and the search finds the least of them. Assumes nothing.
-use Rattle.std.specs.Prelude.{ℕ, ◌+◌, ◌-◌, ◌*◌, ◌≤◌, Bool, cond, ◌↔◌, ◌≡◌, ltb, eqb, length, get_or, drop, Option, Some, None, Err, Ok as Good}
+use Rattle.std.specs.Prelude.{ℕ, ◌+◌, ◌-◌, ◌*◌, ◌≤◌, Bool, cond, ◌↔◌, ◌≡◌, ltb, eqb, length, get_or, drop, Option, Some, None, Ok as Good}
 use Rattle.std.specs.Result.{is_ok}
-use Rattle.packet.specs.Packet.{Checked, status_number}
-use Rattle.packet.proofs.laws.Exactly.{ok_is, checked_cases}
+use Rattle.packet.proofs.laws.Exactly.{ok_is}
 use Rattle.packet.specs.declared.Status.{Status}
-use Rattle.packet.specs.declared.Status.TheVariants.{InvalidCommand, InvalidLength, InvalidData, ChecksumFailure, InternalError, StateProhibits}
 use Rattle.std.specs.Option.{is_some}
 use Rattle.std.proofs.Math.Bool.{true, false, not, true≢false}
 use Rattle.std.proofs.lemmas.Bool.{false≢true}
@@ -13,7 +11,7 @@ use Rattle.std.proofs.Math.Path.{refl, sym, ap}
 use Rattle.std.proofs.Common.{◌∙◌}
 use mathlib.Core.List.{List, [], ◌∷◌}
 use native.Mathlib.Omega.{arith}
-use borrow.Author.Tests.{not-false, eqb-true, ltb-false}
+use borrow.Author.Tests.{not-false, ltb-false}
 use Rattle.std.proofs.lemmas.List.{length-replicate}
 use Rattle.wire.specs.Conditions.{◌and◌}
 use Rattle.wire.specs.Wire.{Bytes}

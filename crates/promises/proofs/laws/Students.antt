@@ -1,10 +1,5 @@
 -- Document 02, k: a watch-only session that nobody can break: whatever it is sent, right or damaged. Assumes nothing.
-use Rattle.std.specs.Prelude.{ℕ, ◌+◌, true, not, ◌≡◌, ltb, leb, eqb, length, get_or, Option, Some, None, Result, Ok, Err}
-use Rattle.std.specs.Result.{is_ok}
-use Rattle.packet.specs.Packet.{Checked, status_number}
-use Rattle.packet.proofs.laws.Exactly.{ok_is, checked_cases}
-use Rattle.packet.specs.declared.Status.{Status}
-use Rattle.packet.specs.declared.Status.TheVariants.{InvalidCommand, InvalidLength, InvalidData, ChecksumFailure, InternalError, StateProhibits}
+use Rattle.std.specs.Prelude.{ℕ, ◌+◌, true, not, ◌≡◌, ltb, leb, eqb, length, get_or, Option, Some, None}
 use Rattle.std.proofs.Common.{⊎_elim, sym, subst, ◌∙◌, arith}
 use Rattle.std.proofs.Math.Path.{refl, ap}
 use mathlib.Core.List.{List, [], ◌∷◌}

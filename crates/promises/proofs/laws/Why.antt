@@ -1,10 +1,4 @@
 -- Document 02, c: the data byte that is told beside an answer. Assumes nothing.
-use Rattle.std.specs.Prelude.{Result, Ok, Err}
-use Rattle.std.specs.Result.{is_ok}
-use Rattle.packet.specs.Packet.{Checked, status_number}
-use Rattle.packet.proofs.laws.Exactly.{ok_is, checked_cases}
-use Rattle.packet.specs.declared.Status.{Status}
-use Rattle.packet.specs.declared.Status.TheVariants.{InvalidCommand, InvalidLength, InvalidData, ChecksumFailure, InternalError, StateProhibits}
 use Prim.Native.Nat.{ℕ}
 use Rattle.std.proofs.Math.Bool.{not}
 use Rattle.std.specs.Prelude.{List, ◌↔◌, ◌≡◌, refl, ltb, eqb, length, get_or}

@@ -1,15 +1,14 @@
 -- Document 01, formats 0x12 and 0x13: sets are read without fault exactly when each is in range and none comes twice. Assumes nothing.
-use Prim.Native.Nat.{ℕ, zero, suc, ◌+◌, ◌/◌, ◌%◌, ◌^◌, ◌<◌, ◌≤◌}
-use Rattle.std.specs.Prelude.{Bool, true, false, ◌≡◌, refl, Option, Some, None, List, ◌↔◌, get_or, take, drop}
+use Prim.Native.Nat.{ℕ, zero, suc, ◌+◌, ◌/◌, ◌%◌, ◌^◌, ◌<◌}
+use Rattle.std.specs.Prelude.{Bool, true, ◌≡◌, refl, Option, Some, None, List, ◌↔◌, take, drop}
 use Rattle.std.proofs.lemmas.Bool.{false≢true}
 use Rattle.std.proofs.Common.{sym, ap, subst, ◌∙◌, div-one, not-suc-le-zero, le_of_suc-le-suc, arith}
 use Rattle.std.proofs.Math.Nat.{two-pow-succ, pow-succ', div-div-eq-div-mul, zero-div, zero-mod}
-use Rattle.formed.specs.Formed.{InOrder}
 use Rattle.formed.proofs.laws.Thresholds.{order_exactly}
 use Rattle.std.specs.Option.{is_some, option_map}
 use Rattle.record.specs.declared.Throttles.{Throttles}
 use Rattle.sets.specs.declared.Frus.{Frus}
-use Rattle.sets.specs.Sets.{bit_of, one_more, read_of, with_pair, one_set, throttles_of, empty_frus, with_fru, one_fru, thermal_of}
+use Rattle.sets.specs.Sets.{bit_of, read_of, with_pair, one_set, throttles_of, with_fru, one_fru, thermal_of}
 use Rattle.sets.proofs.laws.Sets.{none_read, more_read, none_stays}
 use Rattle.wire.proofs.laws.Chains.{eq_holds, lt_passes, not_passes, Ends, ends_unless, ends_when, ends_last}
 use Rattle.wire.specs.Conditions.{◌and◌}

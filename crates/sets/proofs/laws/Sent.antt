@@ -1,6 +1,6 @@
 -- Document 01, formats 0x12 and 0x13: the tables hold what was sent, and what was not sent is as fresh. Assumes nothing.
 use Prim.Native.Nat.{ℕ, zero, suc, ◌+◌, ◌*◌, ◌<◌, ◌≤◌}
-use Rattle.std.specs.Prelude.{true, ◌≡◌, Option, Some, None, refl, get_or, take, drop, replicate}
+use Rattle.std.specs.Prelude.{true, ◌≡◌, Option, Some, None, refl, take, drop, replicate}
 use Rattle.std.proofs.Common.{sym, subst, ◌∙◌, not-suc-le-zero, le_of_suc-le-suc, drop_at, take_all, length-take-le}
 use Rattle.std.proofs.Math.Path.{ap}
 use mathlib.Core.List.{List}
@@ -14,7 +14,7 @@ use Rattle.std.specs.Option.{IfSome, is_some, option_map}
 use Rattle.std.proofs.lemmas.Option.{same_Some, none-some}
 use Rattle.record.specs.declared.Throttles.{Throttles}
 use Rattle.sets.specs.declared.Frus.{Frus}
-use Rattle.sets.specs.Sets.{bit_of, read_of, with_pair, one_set, throttles_of, empty_frus, with_fru, one_fru, thermal_of}
+use Rattle.sets.specs.Sets.{bit_of, read_of, with_pair, one_set, throttles_of, with_fru, one_fru, thermal_of}
 use Rattle.sets.specs.Conditions.{set_at, InPairs, pair_of, SentPairs, InFrus, fru_of, SentFrus}
 use Rattle.sets.proofs.laws.Sets.{none_read, paste_past, past_front, PairsFormed, sets_formed, ThermalFormed, frus_formed}
 use Rattle.sets.proofs.laws.Exactly.{bit_none, bit_added, bit_kept, Stepped, first_then, all_exactly, with_set, pairs_held, set_stepped, with_three, frus_held, fru_stepped}

@@ -1,6 +1,6 @@
 -- Laws of the sets that other crates build on: what was read is what a well-formed record can hold. Assumes nothing.
 use Rattle.std.specs.Prelude.{ℕ, zero, suc, ◌+◌, ◌-◌, ◌*◌, ◌/◌, ◌%◌, ◌^◌, ◌<◌, ◌≤◌, true, not, ◌≡◌, refl, Option, Some, None, List, [], ◌∷◌, ◌++◌, ltb, eqb, length, get_or, take, drop}
-use Rattle.std.proofs.Common.{sym, ap, subst, ◌∙◌, append_assoc, div-one, add_assoc, not-suc-le-zero, le_of_suc-le-suc, arith, ltb-false, eqb-true, length-take, length-drop, take-add, take_at, drop_at, drop-drop, length-take-le}
+use Rattle.std.proofs.Common.{sym, ap, ◌∙◌, append_assoc, div-one, add_assoc, not-suc-le-zero, le_of_suc-le-suc, arith, ltb-false, eqb-true, length-take, length-drop, take-add, take_at, drop_at, drop-drop, length-take-le}
 use Rattle.std.proofs.Math.Nat.{two-pow-succ, pow-succ', div-div-eq-div-mul}
 use Rattle.std.proofs.lemmas.Bool.{not-false}
 use Rattle.std.proofs.Math.Seq.{drop-append-add}
@@ -14,7 +14,7 @@ use Rattle.formed.specs.Formed.{pair_ok, pairs_ok, absent_zero, in_order, therma
 use Rattle.formed.proofs.laws.Formed.{both_hold, hold_both}
 use Rattle.formed.proofs.laws.Thresholds.{order_exactly}
 use Rattle.sets.specs.declared.Frus.{Frus}
-use Rattle.sets.specs.Sets.{bit_of, one_more, read_of, with_pair, one_set, throttles_of, empty_frus, with_fru, one_fru, thermal_of}
+use Rattle.sets.specs.Sets.{bit_of, one_more, read_of, with_pair, one_set, throttles_of, with_fru, one_fru, thermal_of}
 
 -- ---- set after set
 

@@ -5,7 +5,7 @@ use Rattle.std.proofs.Math.Path.{ap}
 use Rattle.io.specs.Counts.{IsPrefixLen}
 use Rattle.wire.specs.Wire.{pasted, to_be, joined}
 use Rattle.wire.proofs.laws.Wire.{length_to_be, length_pasted, take_pasted, drop_pasted}
-use Rattle.wire.proofs.laws.Cases.{else_lt, cond_elim, cond_cases}
+use Rattle.wire.proofs.laws.Cases.{else_lt, cond_cases}
 use Rattle.wire.proofs.Loops.{paste_none}
 use Rattle.text.specs.Text.{Sheet, sheet, put_on, put_all, from_front, hex_of, hexes}
 
@@ -33,19 +33,26 @@ same_pieces p e h = h ∙ ap (put_all p) e
 
 -- ---- no place is past the end
 
-put_within : (p : Sheet) (x : List ℕ) → p.past ≤ length p.text → (put_on p x).past ≤ length (put_on p x).text
+put_within : (p : Sheet) (x : List ℕ) → (put_on p x).past ≤ length (put_on p x).text
 unfolding put_on
-put_within p x h =
-    cond_elim (λ (s : Sheet). s.past ≤ length s.text) (ltb (length p.text) p.past) (omega arith)
-    (cond_cases (λ (s : Sheet). s.past ≤ length s.text) (ltb (length p.text - p.past) (length x)) (λ e. h)
+put_within p x =
+    cond_cases (λ (s : Sheet). s.past ≤ length s.text) (ltb (length p.text) p.past) (λ e. omega arith)
     (λ e.
-    let fits : p.past + length x ≤ length p.text = omega (arith, ltb-false (length p.text - p.past) (length x) e) in
+    let within : p.past ≤ length p.text = ltb-false (length p.text) p.past e in
+    cond_cases (λ (s : Sheet). s.past ≤ length s.text) (ltb (length p.text - p.past) (length x)) (λ f. within)
+    (λ f.
+    let fits : p.past + length x ≤ length p.text = omega (arith, ltb-false (length p.text - p.past) (length x) f, within) in
     omega (arith, length_pasted p.past x p.text fits)))
 
 pub past_within : (p : Sheet) (xs : List (List ℕ)) → p.past ≤ length p.text → (put_all p xs).past ≤ length (put_all p xs).text
 unfolding put_all
 past_within p [] h = h
-past_within p (x ∷ xs) h = past_within (put_on p x) xs (put_within p x h)
+past_within p (x ∷ xs) h = past_within (put_on p x) xs (put_within p x)
+
+-- once a piece is put, wherever that was to begin
+pub some_within : (p : Sheet) (x : List ℕ) (xs : List (List ℕ)) → (put_all p (x ∷ xs)).past ≤ length (put_all p (x ∷ xs)).text
+unfolding put_all
+some_within p x xs = past_within (put_on p x) xs (put_within p x)
 
 -- ---- where all fits, the pieces stand as one text
 

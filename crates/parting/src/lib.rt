@@ -1,13 +1,14 @@
 // Where two recordings part: the whole entries that two lent traces share at their start, and the lines that say it.
 #![tactic(auto, unfolding(text::specs::Text::put_all, crate::specs::Lines::shared_line, crate::specs::Lines::refusal_line))]
 
-ghost use Rattle.std.specs.Prelude.{◌≡◌, ◌≤◌, length};
+ghost use Rattle.std.specs.Prelude.{◌≡◌, ◌≤◌, ◌==◌, length};
+ghost use Rattle.std.specs.List.{take_while, zip};
 ghost use Rattle.wire.specs.Wire.{joined};
 ghost use Rattle.io.specs.Counts.{IsPrefixLen};
 ghost use Rattle.text.specs.Pages.{Puts};
 ghost use Rattle.entries.specs.Entries.{written, entries_of};
 ghost use Rattle.trace.specs.Trace.{trace_scan};
-ghost use Rattle.parting.specs.Parting.{front, shared_part, refusal_of, parting_of};
+ghost use Rattle.parting.specs.Parting.{shared_part, refusal_of, parting_of};
 ghost use Rattle.parting.specs.Lines.{shared_line, refusal_line, pieces_of, told, told_length};
 
 use entries::Fault;
@@ -32,20 +33,9 @@ pub struct Parting {
 
 // How many bytes both begin with.
 fn agree(first: &[u8], second: &[u8]) -> usize
-    ensures value { result ≡ length (front first.now second.now) }
-    ensures prefix_len { IsPrefixLen result first.now }
+    ensures { result ≡ length (take_while (λ p. p.0 == p.1) (zip first.now second.now)) }
 {
-    let mut i = 0;
-    while i < first.len() {
-        if second.len() <= i {
-            return i;
-        }
-        if first[i] != second[i] {
-            return i;
-        }
-        i += 1;
-    }
-    i
+    first.iter().zip(second).take_while(|(a, b)| a == b).count()
 }
 
 // How many bytes the whole entries of a trace have.

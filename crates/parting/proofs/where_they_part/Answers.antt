@@ -2,9 +2,14 @@
 use native.Mathlib.Omega.{arith}
 use Rattle.parting.proofs.Told.{count_fits, parting_is}
 use Rattle.parting.proofs.where_they_part.Goals as goal
+use Rattle.std.proofs.Common.{◌∙◌}
+use Rattle.parting.proofs.Agreeing.{agreed, agreed_fits}
 
 pub overflow_add-result : goal.overflow_add-result
-overflow_add-result c = omega (arith, count_fits _ _ c.agree-same.ensures.value c.count-count.ensures, c.well_formed.0.1)
+overflow_add-result c = omega (arith, count_fits _ _ (c.agree-same.ensures ∙ agreed c.args.first.now c.args.second.now) c.count-count.ensures, c.well_formed.0.1)
 
 pub returns : goal.returns
-returns c = parting_is _ _ c.agree-same.ensures.value c.count-count.ensures c.refusal_of-refusal.ensures
+returns c = parting_is _ _ (c.agree-same.ensures ∙ agreed c.args.first.now c.args.second.now) c.count-count.ensures c.refusal_of-refusal.ensures
+
+pub slice_bounds-count-end : goal.slice_bounds-count-end
+slice_bounds-count-end c = agreed_fits c.args.first.now c.args.second.now c.agree-same.ensures

@@ -559,10 +559,7 @@ fn serve<R: Read>(
 }
 
 // The file that the argument names, as the SEEPROM's image at the start; an empty one where none is named.
-fn first_seeprom(
-    rt: &(impl Env + Files + Eprint),
-    sent: &mut [u8],
-) -> Result<usize, Failed>
+fn first_seeprom(rt: &(impl Env + Files + Eprint), sent: &mut [u8]) -> Result<usize, Failed>
     requires { 106502 ≤ length sent.old }
 {
     if !streams::is_given(rt, 1) {

@@ -197,11 +197,7 @@ pub fn open<R: Files>(rt: &R, name: &[u8]) -> io::Result<R::File> {
 }
 
 // Reads the file of that name, as far as the space goes. If it can't be opened, that is reported.
-pub fn read_named<R: Files + Eprint>(
-    rt: &R,
-    name: &[u8],
-    space: &mut [u8],
-) -> Result<usize, Failed>
+pub fn read_named<R: Files + Eprint>(rt: &R, name: &[u8], space: &mut [u8]) -> Result<usize, Failed>
     ensures { IsPrefixLen (count_of result) space.new }
 {
     match open(rt, name) {

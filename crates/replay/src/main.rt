@@ -3,33 +3,24 @@
 
 ghost use Rattle.std.specs.Prelude.{◌+◌, ◌≤◌, length, IfSome};
 ghost use Rattle.io.specs.Counts.{IsPrefixLen};
+ghost use Rattle.streams.specs.Reads.{count_of};
 
 use entries::{Broken, Fault};
 use std::io::Read;
-use streams::Got;
+use streams::Failed;
 
 // ---- lines
 
-// The bytes of lines that wait, and whether lines can still be written.
-#[derive(Clone, Copy)]
-struct Lines {
-    waiting: usize,
-    heard: bool,
-}
-
-// Writes the lines that wait where another may have no room behind them.
-fn make_room(rt: &(impl Print + Eprint), out: &[u8], lines: Lines) -> Lines
-    requires { IsPrefixLen lines.waiting out.now }
-    ensures { IsPrefixLen result.waiting out.now }
+// Writes the lines that wait where another may have no room behind them. The bytes that wait then;
+// none where lines can't be written any more.
+fn make_room(rt: &(impl Print + Eprint), out: &[u8], waiting: usize) -> Option<usize>
+    requires { IsPrefixLen waiting out.now }
+    ensures { IfSome result (λ n. IsPrefixLen n out.now) }
 {
-    let waiting = lines.waiting;
-    if out.len() - waiting < playing::LINE {
-        return Lines {
-            waiting: 0,
-            heard: streams::write(rt, &out[..waiting]),
-        };
+    if playing::LINE <= out.len() - waiting {
+        return Some(waiting);
     }
-    lines
+    streams::write(rt, &out[..waiting]).then_some(0)
 }
 
 // Plays a whole entry, and puts its line behind those that wait.
@@ -39,18 +30,13 @@ fn play(
     number: u64,
     entry: &[u8],
     out: &mut [u8],
-    before: Lines,
-) -> Lines
-    requires { IsPrefixLen before.waiting out.old }
-    ensures { IsPrefixLen result.waiting out.new }
+    before: usize,
+) -> Option<usize>
+    requires { IsPrefixLen before out.old }
+    ensures { IfSome result (λ n. IsPrefixLen n out.new) }
 {
-    let lines = make_room(rt, out, before);
-    let start = lines.waiting;
-    let n = playing::step(lent, number, entry, &mut out[start..]);
-    Lines {
-        waiting: start + n,
-        heard: lines.heard,
-    }
+    let waiting = make_room(rt, out, before)?;
+    Some(waiting + playing::step(lent, number, entry, &mut out[waiting..]))
 }
 
 fn tell_stop(rt: &(impl Print + Eprint), out: &mut [u8], place: usize, fault: Fault) {
@@ -67,50 +53,34 @@ fn front(rest: &[u8]) -> Option<usize>
     trace::next(rest).ok().flatten()
 }
 
-// How many entries were played since the start, how many of the bytes at hand they take, and whether lines can still be written.
+// How many entries were played since the start, and how many of the bytes at hand they take.
 #[derive(Clone, Copy)]
 struct Past {
     entries: u64,
     bytes: usize,
-    heard: bool,
 }
 
-// Plays the whole entries at the front. Their numbers go on from those before; no run comes to the number at which they would wrap.
+// Plays the whole entries at the front. Their numbers go on from those before; no run comes to the
+// number at which they would wrap. None where lines can't be written any more.
 fn play_front(
     rt: &(impl Print + Eprint),
     lent: &mut [u8],
     before: u64,
     piece: &[u8],
     out: &mut [u8],
-) -> Past
-    ensures { result.bytes ≤ length piece.now }
+) -> Option<Past>
+    ensures { IfSome result (λ past. past.bytes ≤ length piece.now) }
 {
-    let mut number = before;
-    let mut at = 0;
-    let mut lines = Lines {
-        waiting: 0,
-        heard: true,
-    };
-    while let Some(n) = front(&piece[at..]) {
-        let past = at + n;
-        number = number.wrapping_add(1);
-        let next = play(rt, lent, number, &piece[at..past], out, lines);
-        at = past;
-        if !next.heard {
-            return Past {
-                entries: number,
-                bytes: at,
-                heard: false,
-            };
-        }
-        lines = next;
+    let mut entries = before;
+    let mut bytes = 0;
+    let mut waiting = 0;
+    while let Some(n) = front(&piece[bytes..]) {
+        let next = bytes + n;
+        entries = entries.wrapping_add(1);
+        waiting = play(rt, lent, entries, &piece[bytes..next], out, waiting)?;
+        bytes = next;
     }
-    let waiting = lines.waiting;
-    Past {
-        entries: number,
-        bytes: at,
-        heard: streams::write(rt, &out[..waiting]),
-    }
+    streams::write(rt, &out[..waiting]).then_some(Past { entries, bytes })
 }
 
 // The bytes from `start` to `end` go to the front; how many they are.
@@ -125,9 +95,14 @@ fn keep(held: &mut [u8], start: usize, end: usize) -> usize
 // ---- input
 
 // Reads behind the first `have` bytes.
-fn fetch<R: Read>(rt: &impl Eprint, input: &mut R, held: &mut [u8], have: usize) -> Got
+fn fetch<R: Read>(
+    rt: &impl Eprint,
+    input: &mut R,
+    held: &mut [u8],
+    have: usize,
+) -> Result<usize, Failed>
     requires { have ≤ length held.old }
-    ensures { have + result.count ≤ length held.new }
+    ensures { have + count_of result ≤ length held.new }
 {
     streams::read_input(rt, input, &mut held[have..])
 }
@@ -152,19 +127,17 @@ fn serve<R: Read>(
     let mut place = 0;
     let mut have = 0;
     for _ in 0..u64::MAX {
-        let got = fetch(rt, input, held, have);
-        if got.failed {
+        let Ok(n) = fetch(rt, input, held, have) else {
             return;
-        }
-        if got.count == 0 {
+        };
+        if n == 0 {
             finish(rt, out, have, place);
             return;
         }
-        let end = have + got.count;
-        let past = play_front(rt, lent, number, &held[..end], out);
-        if !past.heard {
+        let end = have + n;
+        let Some(past) = play_front(rt, lent, number, &held[..end], out) else {
             return;
-        }
+        };
         let at = past.bytes;
         number = past.entries;
         place = place.wrapping_add(at);

@@ -45,7 +45,7 @@ use Rattle.promises.proofs.laws.Asked.{data_bytes, next_some, occ_made, sbe_made
 use Rattle.promises.proofs.laws.WellFormed.{back_writable, room, session_is}
 use Rattle.promises.proofs.laws.OccAsks as occ-asks
 use Rattle.promises.proofs.laws.OccWays as occ-ways
-use Rattle.promises.proofs.laws.OccDemands.{ill_well,  not_refused, polled_type, made_judged, made_as, made_type, done_is, heard_exactly}
+use Rattle.promises.proofs.laws.OccDemands.{ill_well, not_refused, polled_type, made_judged, made_as, made_type, done_is, heard_exactly}
 use Rattle.promises.proofs.laws.Served.{change_granted, plain_exactly, never_changes}
 use Rattle.promises.proofs.laws.SbeDemands as sbe-demands
 use Rattle.promises.proofs.laws.Replies.{front_is}

@@ -8,9 +8,9 @@ use Rattle.std.proofs.Common.{◌∙◌, arith}
 use mathlib.Core.List.{List}
 use Rattle.std.proofs.Math.Nat.{not-le_of_lt}
 use borrow.Author.Tests.{not-false, not-true, ltb-true, ltb-false, eqb-true, eqb-false}
-use Rattle.wire.specs.Conditions.{◌and◌, is, none, row}
+use Rattle.wire.specs.Conditions.{◌and◌, none, row}
 use Rattle.wire.proofs.laws.Cases.{cond_cases, cond_elim, if_ne, else_b, else_ne, else_lt}
-use Rattle.wire.proofs.laws.Tables.{ByTable, by_none, by_is, hit, miss}
+use Rattle.wire.proofs.laws.Tables.{ByTable, by_none, hit, miss}
 use Rattle.change.specs.declared.Change.{Change}
 use Rattle.sbe.specs.Mailbox.{Tested, word_at, request_ruling, response_bytes}
 use Rattle.sbe.specs.Conditions.{grants, accepts, ReadAsked, Changes, Plainly}

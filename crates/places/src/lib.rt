@@ -165,44 +165,46 @@ pub enum SetTable {
     Thermal,
 }
 
-fn width(table: SetTable) -> usize
-    ensures { result ≡ width_of table }
-{
-    match table {
-        SetTable::Throttles => 12,
-        SetTable::Thermal => 4,
+impl SetTable {
+    fn width(self) -> usize
+        ensures { result ≡ width_of self }
+    {
+        match self {
+            SetTable::Throttles => 12,
+            SetTable::Thermal => 4,
+        }
     }
-}
 
-// The greatest hub or FRU.
-fn most(table: SetTable) -> u8
-    ensures { result ≡ most_of table }
-{
-    match table {
-        SetTable::Throttles => 7,
-        SetTable::Thermal => 2,
+    // The greatest hub or FRU.
+    fn most(self) -> u8
+        ensures { result ≡ most_of self }
+    {
+        match self {
+            SetTable::Throttles => 7,
+            SetTable::Thermal => 2,
+        }
     }
-}
 
-// The bytes before the i-th set, from 0.
-fn start(table: SetTable, i: usize) -> usize
-    requires { i < 256 }
-    ensures { result ≡ start_of table i }
-{
-    3 + i * width(table)
-}
-
-// Whether the sets at two places are of one pair or FRU.
-fn same_number(table: SetTable, d: &[u8], one: usize, other: usize) -> bool
-    requires { (one + 1 < length d.now) × (other + 1 < length d.now) }
-    ensures { result ≡ same_number table d.now one other }
-{
-    if d[one] != d[other] {
-        return false;
+    // The bytes before the i-th set, from 0.
+    fn start(self, i: usize) -> usize
+        requires { i < 256 }
+        ensures { result ≡ start_of self i }
+    {
+        3 + i * self.width()
     }
-    match table {
-        SetTable::Throttles => d[one + 1] == d[other + 1],
-        SetTable::Thermal => true,
+
+    // Whether the sets at two places are of one pair or FRU.
+    fn same_number(self, d: &[u8], one: usize, other: usize) -> bool
+        requires { (one + 1 < length d.now) × (other + 1 < length d.now) }
+        ensures { result ≡ same_number self d.now one other }
+    {
+        if d[one] != d[other] {
+            return false;
+        }
+        match self {
+            SetTable::Throttles => d[one + 1] == d[other + 1],
+            SetTable::Thermal => true,
+        }
     }
 }
 
@@ -210,9 +212,9 @@ fn seen_before(table: SetTable, d: &[u8], i: usize) -> bool
     requires { (i < 255) × (start_of table i + 1 < length d.now) }
     ensures { result ≡ seen_before table d.now i }
 {
-    let second = start(table, i);
+    let second = table.start(i);
     for k in 0..i {
-        if same_number(table, d, start(table, k), second) {
+        if table.same_number(d, table.start(k), second) {
             return true;
         }
     }
@@ -243,8 +245,8 @@ fn set_fault(table: SetTable, d: &[u8], i: usize) -> Option<Fault>
     requires { (i < 255) × (start_of table i + width_of table ≤ length d.now) }
     ensures { result ≡ set_fault table d.now i }
 {
-    let first = start(table, i);
-    if most(table) < d[first] {
+    let first = table.start(i);
+    if table.most() < d[first] {
         return found_at(Reason::OutOfRange, first + 1);
     }
     if seen_before(table, d, i) {
@@ -273,7 +275,7 @@ fn sets_format(table: SetTable, d: &[u8]) -> Option<Fault>
         return None;
     }
     let n = d[2] as usize;
-    if d.len() - 3 != n * width(table) {
+    if d.len() - 3 != n * table.width() {
         return None;
     }
     if d[1] != 0x10 {

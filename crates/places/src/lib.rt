@@ -1,5 +1,5 @@
 // Document 02, c: the first data byte of an OCC command that is wrong, and why. `occ` judges the status; this judge says where.
-#![tactic(auto, unfolding(crate::specs::Places::wrong, crate::specs::Places::poll_fault, crate::specs::Places::clear_fault, crate::specs::Places::state_fault, crate::specs::Places::role_fault, crate::specs::Places::caps_fault, crate::specs::Places::user_fault, crate::specs::Places::reset_fault, crate::specs::Places::width_of, crate::specs::Places::most_of, crate::specs::Places::same_number, crate::specs::Places::same_second, crate::specs::Places::rest_fault, crate::specs::Places::configure_fault, crate::specs::Places::sets_fault, crate::specs::Places::count_fault, crate::specs::Places::format_fault, crate::specs::Places::fault_of, crate::specs::Reasons::named))]
+#![tactic(auto, unfolding(crate::specs::Places::wrong, crate::specs::Places::poll_fault, crate::specs::Places::clear_fault, crate::specs::Places::state_fault, crate::specs::Places::role_fault, crate::specs::Places::caps_fault, crate::specs::Places::user_fault, crate::specs::Places::reset_fault, crate::specs::Places::width_of, crate::specs::Places::most_of, crate::specs::Places::same_number, crate::specs::Places::same_second, crate::specs::Places::any_below, crate::specs::Places::seen_before, crate::specs::Places::rest_fault, crate::specs::Places::configure_fault, crate::specs::Places::sets_fault, crate::specs::Places::count_fault, crate::specs::Places::format_fault, crate::specs::Places::fault_of, crate::specs::Reasons::named))]
 
 ghost use Rattle.std.specs.Prelude.{◌≡◌, ◌+◌, ◌*◌, ◌<◌, ◌≤◌, length};
 ghost use Rattle.places.specs.Places.{wrong, poll_fault, clear_fault, state_fault, role_fault, caps_fault, user_fault, reset_fault};
@@ -193,11 +193,13 @@ impl SetTable {
         3 + i * self.width()
     }
 
-    // Whether the sets at two places are of one pair or FRU.
-    fn same_number(self, d: &[u8], one: usize, other: usize) -> bool
-        requires { (one + 1 < length d.now) × (other + 1 < length d.now) }
-        ensures { result ≡ same_number self d.now one other }
+    // Whether the k-th set and the i-th are of one pair or FRU.
+    fn same_number(self, d: &[u8], k: usize, i: usize) -> bool
+        requires { (k < 256) × (i < 256) × (start_of self k + 1 < length d.now) × (start_of self i + 1 < length d.now) }
+        ensures { result ≡ same_number self d.now (start_of self k) (start_of self i) }
     {
+        let one = self.start(k);
+        let other = self.start(i);
         if d[one] != d[other] {
             return false;
         }
@@ -212,13 +214,7 @@ fn seen_before(table: SetTable, d: &[u8], i: usize) -> bool
     requires { (i < 255) × (start_of table i + 1 < length d.now) }
     ensures { result ≡ seen_before table d.now i }
 {
-    let second = table.start(i);
-    for k in 0..i {
-        if table.same_number(d, table.start(k), second) {
-            return true;
-        }
-    }
-    false
+    (0..i).any(|k| table.same_number(d, k, i))
 }
 
 // What comes after a set's first byte: the MBA, or DVFS and ERROR.

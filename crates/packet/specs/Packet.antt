@@ -1,5 +1,5 @@
 -- Document 01, "OCC packets".
-use Rattle.std.specs.Prelude.{ℕ, ◌+◌, ◌-◌, cond, not, Result, Ok, Err, List, [], ◌∷◌, ◌++◌, length, take, drop, ltb, eqb}
+use Rattle.std.specs.Prelude.{ℕ, ◌+◌, ◌-◌, cond, not, Option, Some, None, Result, Ok, Err, List, [], ◌∷◌, ◌++◌, length, take, drop, ltb, eqb}
 use Rattle.packet.specs.declared.Status.{Status}
 use Rattle.packet.specs.declared.Status.TheVariants.{InvalidCommand, InvalidLength, InvalidData, ChecksumFailure, InternalError, StateProhibits}
 use Rattle.wire.specs.Wire.{be_nat, to_be, packet_sum, pasted}
@@ -7,6 +7,10 @@ use Rattle.wire.specs.Wire.{be_nat, to_be, packet_sum, pasted}
 -- "Command: sequence, type, two bytes of data length L (at most 4,090), data, two bytes of checksum"
 unfoldable pub data_length : List ℕ → ℕ
 data_length c = be_nat (take 2 (drop 2 c))
+
+-- L where the whole packet, L+6 bytes, is in the buffer
+unfoldable pub whole_length : List ℕ → Option ℕ
+whole_length c = cond (ltb (length c) (data_length c + 6)) None (Some (data_length c))
 
 -- "Statuses": the number of each
 abbrev pub status_number : Status → ℕ

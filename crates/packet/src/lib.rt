@@ -1,8 +1,8 @@
 // OCC packets: the command reader, which hands back the data as that part of the caller's buffer, and the replies.
-#![tactic(auto, unfolding(crate::specs::Packet::data_length, crate::specs::Packet::status_at, crate::specs::Packet::packet_status, crate::specs::Packet::data_at, crate::specs::Packet::data_of, crate::specs::Packet::unsummed, crate::specs::Packet::reply_bytes, crate::specs::Packet::replied))]
+#![tactic(auto, unfolding(crate::specs::Packet::whole_length, crate::specs::Packet::data_length, crate::specs::Packet::status_at, crate::specs::Packet::packet_status, crate::specs::Packet::data_at, crate::specs::Packet::data_of, crate::specs::Packet::unsummed, crate::specs::Packet::reply_bytes, crate::specs::Packet::replied))]
 
 ghost use Rattle.std.specs.Prelude.{◌≡◌};
-ghost use Rattle.packet.specs.Packet.{packet_status, data_of, no_log_id, replied};
+ghost use Rattle.packet.specs.Packet.{whole_length, packet_status, data_of, no_log_id, replied};
 
 // Why a command gets an error reply.
 #[derive(Clone, Copy)]
@@ -33,18 +33,26 @@ impl From<Status> for u8 {
     }
 }
 
+// The length of the data, where the whole packet is in the buffer.
+fn whole_length(c: &[u8]) -> Option<usize>
+    ensures { result ≡ whole_length c.now }
+{
+    if c.len() < 6 {
+        return None;
+    }
+    let n = wire::be16(c, 2) as usize;
+    if c.len() - 6 < n {
+        return None;
+    }
+    Some(n)
+}
+
 // Whether the packet is whole and its checksum right.
 pub fn check(c: &[u8]) -> Result<(), Status>
     ensures { result ≡ packet_status c.now }
 {
-    if c.len() < 6 {
-        return Err(Status::InvalidLength);
-    }
-    let n = wire::be16(c, 2) as usize;
+    let n = whole_length(c).ok_or(Status::InvalidLength)?;
     if 4090 < n {
-        return Err(Status::InvalidLength);
-    }
-    if c.len() - 6 < n {
         return Err(Status::InvalidLength);
     }
     let end = n + 4;
@@ -59,13 +67,9 @@ pub fn check(c: &[u8]) -> Result<(), Status>
 pub fn data_part(c: &[u8]) -> &[u8]
     ensures { result.now ≡ data_of c.now }
 {
-    if c.len() < 6 {
+    let Some(n) = whole_length(c) else {
         return &c[..0];
-    }
-    let n = wire::be16(c, 2) as usize;
-    if c.len() - 6 < n {
-        return &c[..0];
-    }
+    };
     let end = 4 + n;
     &c[4..end]
 }

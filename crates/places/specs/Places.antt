@@ -1,5 +1,6 @@
 -- Document 02, c: the first fault of a command's data, as the code looks for it. d is the data; where its length is wrong (0x12) no byte
 -- is judged. All faults: Faults.antt.
+use Rattle.std.specs.List.{list_any, range_with_len}
 use Rattle.std.specs.Prelude.{ℕ, zero, suc, ◌+◌, ◌-◌, ◌*◌, Bool, true, false, cond, not, List, length, get_or, take, drop, ltb, eqb}
 use Rattle.std.specs.Option.{is_some}
 use Rattle.places.specs.declared.Fault.{Fault}
@@ -89,9 +90,9 @@ same_second Thermal d one other = true
 unfoldable pub same_number : SetTable → List ℕ → ℕ → ℕ → Bool
 same_number t d one other = cond (not (eqb (get_or d one 0) (get_or d other 0))) false (same_second t d one other)
 
+-- whether a test holds of a number below n
 unfoldable pub any_below : (ℕ → Bool) → ℕ → Bool
-any_below p zero = false
-any_below p (suc k) = cond (any_below p k) true (p k)
+any_below p n = list_any p (range_with_len 0 n)
 
 -- "where a repeated pair or FRU is seen the second time"
 unfoldable pub seen_before : SetTable → List ℕ → ℕ → Bool

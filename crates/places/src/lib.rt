@@ -1,5 +1,5 @@
 // Document 02, c: the first data byte of an OCC command that is wrong, and why. `occ` judges the status; this judge says where.
-#![tactic(auto, unfolding(crate::specs::Places::wrong, crate::specs::Places::poll_fault, crate::specs::Places::clear_fault, crate::specs::Places::state_fault, crate::specs::Places::role_fault, crate::specs::Places::caps_fault, crate::specs::Places::user_fault, crate::specs::Places::reset_fault, crate::specs::Places::width_of, crate::specs::Places::most_of, crate::specs::Places::same_number, crate::specs::Places::same_second, crate::specs::Places::rest_fault, crate::specs::Places::configure_fault, crate::specs::Places::sets_fault, crate::specs::Places::count_fault, crate::specs::Places::format_fault, crate::specs::Places::fault_of, crate::specs::Reasons::named))]
+#![tactic(auto, unfolding(crate::specs::Places::wrong, crate::specs::Places::poll_fault, crate::specs::Places::clear_fault, crate::specs::Places::state_fault, crate::specs::Places::role_fault, crate::specs::Places::caps_fault, crate::specs::Places::user_fault, crate::specs::Places::reset_fault, crate::specs::Places::width_of, crate::specs::Places::most_of, crate::specs::Places::same_number, crate::specs::Places::same_second, crate::specs::Places::any_below, crate::specs::Places::seen_before, crate::specs::Places::rest_fault, crate::specs::Places::configure_fault, crate::specs::Places::sets_fault, crate::specs::Places::count_fault, crate::specs::Places::format_fault, crate::specs::Places::fault_of, crate::specs::Reasons::named, crate::specs::Places::first_set, crate::specs::Places::set_fault))]
 
 ghost use Rattle.std.specs.Prelude.{◌≡◌, ◌+◌, ◌*◌, ◌<◌, ◌≤◌, length};
 ghost use Rattle.places.specs.Places.{wrong, poll_fault, clear_fault, state_fault, role_fault, caps_fault, user_fault, reset_fault};
@@ -165,44 +165,48 @@ pub enum SetTable {
     Thermal,
 }
 
-fn width(table: SetTable) -> usize
-    ensures { result ≡ width_of table }
-{
-    match table {
-        SetTable::Throttles => 12,
-        SetTable::Thermal => 4,
+impl SetTable {
+    fn width(self) -> usize
+        ensures { result ≡ width_of self }
+    {
+        match self {
+            SetTable::Throttles => 12,
+            SetTable::Thermal => 4,
+        }
     }
-}
 
-// The greatest hub or FRU.
-fn most(table: SetTable) -> u8
-    ensures { result ≡ most_of table }
-{
-    match table {
-        SetTable::Throttles => 7,
-        SetTable::Thermal => 2,
+    // The greatest hub or FRU.
+    fn most(self) -> u8
+        ensures { result ≡ most_of self }
+    {
+        match self {
+            SetTable::Throttles => 7,
+            SetTable::Thermal => 2,
+        }
     }
-}
 
-// The bytes before the i-th set, from 0.
-fn start(table: SetTable, i: usize) -> usize
-    requires { i < 256 }
-    ensures { result ≡ start_of table i }
-{
-    3 + i * width(table)
-}
-
-// Whether the sets at two places are of one pair or FRU.
-fn same_number(table: SetTable, d: &[u8], one: usize, other: usize) -> bool
-    requires { (one + 1 < length d.now) × (other + 1 < length d.now) }
-    ensures { result ≡ same_number table d.now one other }
-{
-    if d[one] != d[other] {
-        return false;
+    // The bytes before the i-th set, from 0.
+    fn start(self, i: usize) -> usize
+        requires { i < 256 }
+        ensures { result ≡ start_of self i }
+    {
+        3 + i * self.width()
     }
-    match table {
-        SetTable::Throttles => d[one + 1] == d[other + 1],
-        SetTable::Thermal => true,
+
+    // Whether the k-th set and the i-th are of one pair or FRU.
+    fn same_number(self, d: &[u8], k: usize, i: usize) -> bool
+        requires { (k < 256) × (i < 256) × (start_of self k + 1 < length d.now) × (start_of self i + 1 < length d.now) }
+        ensures { result ≡ same_number self d.now (start_of self k) (start_of self i) }
+    {
+        let one = self.start(k);
+        let other = self.start(i);
+        if d[one] != d[other] {
+            return false;
+        }
+        match self {
+            SetTable::Throttles => d[one + 1] == d[other + 1],
+            SetTable::Thermal => true,
+        }
     }
 }
 
@@ -210,13 +214,7 @@ fn seen_before(table: SetTable, d: &[u8], i: usize) -> bool
     requires { (i < 255) × (start_of table i + 1 < length d.now) }
     ensures { result ≡ seen_before table d.now i }
 {
-    let second = start(table, i);
-    for k in 0..i {
-        if same_number(table, d, start(table, k), second) {
-            return true;
-        }
-    }
-    false
+    (0..i).any(|k| table.same_number(d, k, i))
 }
 
 // What comes after a set's first byte: the MBA, or DVFS and ERROR.
@@ -243,8 +241,8 @@ fn set_fault(table: SetTable, d: &[u8], i: usize) -> Option<Fault>
     requires { (i < 255) × (start_of table i + width_of table ≤ length d.now) }
     ensures { result ≡ set_fault table d.now i }
 {
-    let first = start(table, i);
-    if most(table) < d[first] {
+    let first = table.start(i);
+    if table.most() < d[first] {
         return found_at(Reason::OutOfRange, first + 1);
     }
     if seen_before(table, d, i) {
@@ -273,7 +271,7 @@ fn sets_format(table: SetTable, d: &[u8]) -> Option<Fault>
         return None;
     }
     let n = d[2] as usize;
-    if d.len() - 3 != n * width(table) {
+    if d.len() - 3 != n * table.width() {
         return None;
     }
     if d[1] != 0x10 {

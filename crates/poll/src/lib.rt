@@ -10,19 +10,13 @@ use record::{Caps, Record, Worked};
 fn master_bit(role: u8) -> u8
     ensures { (result ≡ master_bit role) × (result ≤ 0x80) }
 {
-    if role == 1 {
-        return 0x80;
-    }
-    0x00
+    if role == 1 { 0x80 } else { 0x00 }
 }
 
 fn mark_bit(mark: u8, bit: u8) -> u8
     ensures { (result ≡ mark_bit mark bit) × (result ≤ bit) }
 {
-    if mark == 0 {
-        return 0x00;
-    }
-    bit
+    if mark == 0 { 0x00 } else { bit }
 }
 
 fn status_byte(role: u8, w: Worked) -> u8
@@ -35,20 +29,14 @@ fn status_byte(role: u8, w: Worked) -> u8
 fn log_length(id: u8) -> u8
     ensures { result ≡ log_length id }
 {
-    if id == 0 {
-        return 0x00;
-    }
-    0x10
+    if id == 0 { 0x00 } else { 0x10 }
 }
 
 // Whether the reply has the CAPS block: a master with caps received.
 fn shows_caps(role: u8, got: u8) -> bool
     ensures { result ≡ shows_caps role got }
 {
-    if role != 1 {
-        return false;
-    }
-    got != 0
+    role == 1 && got != 0
 }
 
 // The 40 data bytes; the log's address is its id x 256.

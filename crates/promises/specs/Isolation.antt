@@ -206,7 +206,7 @@ pub record Posted : Type 0 where
   pub after : Timer
 
 unfoldable pub posted_by : Timer → List ℕ → List ℕ → List ℕ → Ruling → Posted
-posted_by t r d y (Decline primary secondary) = record { rung = record { answer = 0; bell = bell_of r; reply = sbes.told_of (Decline primary secondary) r d; second = y }; after = t }
+posted_by t r d y (Decline why) = record { rung = record { answer = 0; bell = bell_of r; reply = sbes.told_of (Decline why) r d; second = y }; after = t }
 posted_by t r d y (Grant change) = record { rung = record { answer = 0; bell = bell_of r; reply = pasted 0 (response_bytes 0x00 0x00 r) d; second = y }; after = timer_after t change }
 posted_by t r d y Done = record { rung = record { answer = 0; bell = bell_of r; reply = sbes.told_of Done r d; second = y }; after = t }
 posted_by t r d y (Read offset size) = record { rung = record { answer = 0; bell = bell_of r; reply = sbes.told_of (Read offset size) r d; second = y }; after = t }

@@ -3,7 +3,9 @@ use Prim.Native.Nat.{ℕ, ◌-◌, ◌≤◌, ◌<◌}
 use mathlib.Core.Bool.{Bool, true, false, not, false≢true}
 use mathlib.Core.Path.{◌≡◌, refl, sym, ap, ◌∙◌}
 use mathlib.Core.List.{List}
-use borrow.Author.Tests.{not-false, not-true, eqb-true, ltb-false}
+use Rattle.std.specs.Prelude.{Option, Some, None}
+use Rattle.std.specs.Option.{is_some, MatchOption}
+use borrow.Author.Tests.{not-false, eqb-true, ltb-false}
 use lib.Dec.{eqb, ltb}
 use lib.ListN.{length, take, drop, length-drop}
 use Rattle.wire.specs.Wire.{pasted, Bytes}
@@ -37,9 +39,23 @@ module _ (s : Session) (typed : Typed s) (d y : List ℕ) (long : length d ≡ i
   pub image_long : length y ≡ image_length
   image_long = ap length image_put ∙ length_image s typed.session
 
+  session_put : session_of y ≡ s
+  session_put = ap session_of image_put ∙ session_image s typed
+
   module _ (h : Head) (read : h ≡ head_in y) where
     pub session_there : session_in h y ≡ s
-    session_there = as_read y image_long h read ∙ ap session_of image_put ∙ session_image s typed
+    session_there = as_read y image_long h read ∙ session_put
+
+  -- it opens where the session is well formed, and only there
+  pub shut_ill : Unopened y → well_formed s ≡ false
+  shut_ill shut = ap well_formed (sym session_put) ∙ (shut image_long).0
+
+  pub opens_formed : (h : Head) → Opens y h → well_formed s ≡ true
+  opens_formed h o = ap well_formed (sym (session_there h o.read)) ∙ o.formed
+
+  pub opened : (o : Option Head) → MatchOption o (Unopened y) (Opens y) → is_some o ≡ well_formed s
+  opened None shut = sym (shut_ill shut)
+  opened (Some h) o = sym (opens_formed h o)
 
 is_false : (b : Bool) → (b ≡ true → ⊥) → b ≡ false
 is_false true h = absurd (h refl)
@@ -60,12 +76,12 @@ module _ (b : List ℕ) (long : length b ≡ saved_length) (k : Bool) (kinds : k
   unfolding saved_reads
   saved_kinds y h = (else_ne _ _ long (if_not _ _ kinds h refl), λ z. absurd (false≢true z))
 
-  pub saved_found : Bytes b → not k ≡ false → (d y : List ℕ) → length d ≡ image_length → (s : Session) → s ≡ session_of_saved b → y ≡ written_to d s → (h : Head) → h ≡ head_in y
-      → (g : Bool) → g ≡ well_formed (session_in h y) → FoundSaved b y g
+  pub saved_found : Bytes b → not k ≡ false → (d y : List ℕ) → length d ≡ image_length → (s : Session) → s ≡ session_of_saved b → y ≡ written_to d s → (o : Option Head) → MatchOption o (Unopened y) (Opens y)
+      → (g : Bool) → g ≡ is_some o → FoundSaved b y g
   unfolding saved_reads
-  saved_found bytes ok d y dl s is put h read g formed =
+  saved_found bytes ok d y dl s is put o opens g formed =
       let t = saved_typed b bytes long in (
-        else_ne _ _ long (else_not _ _ kinds ok (formed ∙ ap well_formed (session_there (session_of_saved b) t d y dl s is put h read))),
+        else_ne _ _ long (else_not _ _ kinds ok (formed ∙ opened (session_of_saved b) t d y dl s is put o opens)),
         λ z. image_put (session_of_saved b) t d y dl s is put,
       )
 
@@ -99,23 +115,17 @@ module _ (b : List ℕ) (long : base_head ≤ length b) (most : length b ≤ bas
     base_whole h = all_used (drop base_head b) (sym used_there ∙ h ∙ sym (length-drop base_head b))
 
   module _ (bytes : Bytes b) (d y : List ℕ) (dl : length d ≡ image_length) (s : Session) (is : s ≡ session_of_base b) (put : y ≡ written_to d s) where
-    pub base_image_long : length y ≡ image_length
-    base_image_long = image_long (session_of_base b) (base_typed b bytes long most) d y dl s is put
+    pub base_shut : Unopened y → FoundBase b y false
+    base_shut shut = ill y (shut_ill (session_of_base b) (base_typed b bytes long most) d y dl s is put shut)
 
-    module _ (h : Head) (read : h ≡ head_in y) (g : Bool) (judged : g ≡ well_formed (session_in h y)) where
+    module _ (h : Head) (o : Opens y h) where
       there : session_in h y ≡ session_of_base b
-      there = session_there (session_of_base b) (base_typed b bytes long most) d y dl s is put h read
+      there = session_there (session_of_base b) (base_typed b bytes long most) d y dl s is put h o.read
 
-      pub base_ill : not g ≡ true → FoundBase b y false
-      base_ill t = ill y (ap well_formed (sym there) ∙ sym judged ∙ not-true g t)
-
-      pub base_formed : not g ≡ false → well_formed (session_in h y) ≡ true
-      base_formed t = sym judged ∙ not-false g t
-
-      pub base_found : not g ≡ false → (z : Bool) → z ≡ base_holds (session_in h y) → FoundBase b y z
+      pub base_found : (z : Bool) → z ≡ base_holds (session_in h y) → FoundBase b y z
       unfolding base_reads
-      base_found t z e = (
-        else_lt _ _ long (else_lt _ _ most (else_not _ _ (judged ∙ ap well_formed there) t (e ∙ ap base_holds there))),
+      base_found z e = (
+        else_lt _ _ long (else_lt _ _ most (else_b _ _ (ap not (opens_formed (session_of_base b) (base_typed b bytes long most) d y dl s is put h o)) (e ∙ ap base_holds there))),
         λ k. image_put (session_of_base b) (base_typed b bytes long most) d y dl s is put,
       )
 

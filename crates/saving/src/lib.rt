@@ -206,10 +206,8 @@ fn read_saved(b: &[u8], d: &mut [u8]) -> bool
     if !kinds_ok(b) {
         return false;
     }
-    let s = session_in(b);
-    image::write(s, &mut *d);
-    let h = image::read_head(&*d);
-    inplace::well_formed(&*d, h)
+    image::write(session_in(b), &mut *d);
+    inplace::open(&*d).is_some()
 }
 
 // ---- the base form read
@@ -276,12 +274,10 @@ fn read_base(b: &[u8], d: &mut [u8]) -> bool
     if used_in(&b[BASE_HEAD..]) != b.len() - BASE_HEAD {
         return false;
     }
-    let s = session_of_base(b);
-    image::write(s, &mut *d);
-    let h = image::read_head(&*d);
-    if !inplace::well_formed(&*d, h) {
+    image::write(session_of_base(b), &mut *d);
+    let Some(h) = inplace::open(&*d) else {
         return false;
-    }
+    };
     holds_base(&*d, h)
 }
 

@@ -10,14 +10,14 @@ use Rattle.sbe.specs.Mailbox.{flags_of, word_at, register_at, target_of, chiplet
 
 -- a change is to be made
 unfoldable pub grants : Ruling → Bool
-grants (Decline primary secondary) = false
+grants (Decline why) = false
 grants (Grant change) = true
 grants Done = false
 grants (Read offset size) = false
 
 -- a change is to be made, or nothing but the response; what is to be read is judged further in the call
 unfoldable pub accepts : Ruling → Bool
-accepts (Decline primary secondary) = false
+accepts (Decline why) = false
 accepts (Grant change) = true
 accepts Done = true
 accepts (Read offset size) = false

@@ -1,12 +1,30 @@
 -- Document 01, "SBE mailbox", and document 02, h: "More of the mailbox". Statuses are primary/secondary.
-use Rattle.std.specs.Prelude.{ℕ, ◌+◌, ◌*◌, ◌/◌, ◌%◌, Bool, true, false, cond, not, List, [], ◌∷◌, ◌++◌, get_or, take, drop, replicate, ltb, leb, eqb}
+use Rattle.std.specs.Prelude.{ℕ, ◌+◌, ◌*◌, ◌/◌, ◌%◌, Bool, true, false, cond, not, Result, Ok, Err, List, [], ◌∷◌, ◌++◌, get_or, take, drop, replicate, ltb, leb, eqb}
 use Rattle.wire.specs.Wire.{be_nat, to_be}
 use Rattle.record.specs.Record.{no_area, timer_off}
 use Rattle.record.specs.declared.Area.{Area}
+use Rattle.record.specs.declared.Areas.{Areas}
 use Rattle.change.specs.declared.Change.TheVariants.{SetMask, SetDeadman, SetAreas, SetTimer}
 use Rattle.formed.specs.Formed.{multiple_of128, in_memory}
+use Rattle.sbe.specs.declared.Refusal.{Refusal}
+use Rattle.sbe.specs.declared.Refusal.TheVariants.{ClassNotSupported, CommandNotSupported, InvalidAddress, InvalidTarget, InvalidChiplet, BufferOverflow, InvalidParameters, AccessDenied}
 use Rattle.sbe.specs.declared.Ruling.{Ruling}
 use Rattle.sbe.specs.declared.Ruling.TheVariants.{Decline, Grant, Done, Read}
+
+-- primary and secondary status of each refusal
+abbrev pub numbers_of : Refusal → ℕ × ℕ
+numbers_of ClassNotSupported = (0x01, 0x01)
+numbers_of CommandNotSupported = (0x01, 0x02)
+numbers_of InvalidAddress = (0x02, 0x03)
+numbers_of InvalidTarget = (0x02, 0x04)
+numbers_of InvalidChiplet = (0x02, 0x05)
+numbers_of BufferOverflow = (0x02, 0x18)
+numbers_of InvalidParameters = (0x02, 0x19)
+numbers_of AccessDenied = (0x05, 0x20)
+
+-- nothing to refuse, or a refusal
+abbrev pub Tested : Type 0
+Tested = Result (Unit {0}) Refusal
 
 -- ---- "Request: 2 reserved, flags, sequence (2 bytes each), class, command, then data": registers of 8 bytes
 
@@ -27,10 +45,10 @@ plain_flags flags = cond (leb 0x0400 flags) false (eqb (flags % 0x0100) 0)
 
 unfoldable pub start_or_stop : ℕ → Ruling → Ruling → Ruling
 start_or_stop flags start stop =
-    cond (leb 0x0400 flags) (Decline 0x02 0x19)
+    cond (leb 0x0400 flags) (Decline InvalidParameters)
     (cond (eqb (flags % 0x0100) 0x01) start
     (cond (eqb (flags % 0x0100) 0x02) stop
-    (Decline 0x02 0x19)))
+    (Decline InvalidParameters)))
 
 -- ---- "D1 01: exactly one of flags 0x0001 (start, time in register 1) and 0x0002 (stop, time becomes 0), else 02/19"
 
@@ -42,12 +60,12 @@ deadman_of r =
 -- ---- "exit cache-contained mode (D1 02)", section 3.2 of source document 003; "no journal entry"
 
 unfoldable pub exit_of : List ℕ → Ruling
-exit_of r = cond (not (plain_flags (flags_of r))) (Decline 0x02 0x19) Done
+exit_of r = cond (not (plain_flags (flags_of r))) (Decline InvalidParameters) Done
 
 -- ---- "D1 03: register 1's first four bytes become the mask"
 
 unfoldable pub cores_of : List ℕ → Ruling
-cores_of r = cond (not (plain_flags (flags_of r))) (Decline 0x02 0x19) (Grant (SetMask (word_at 8 r)))
+cores_of r = cond (not (plain_flags (flags_of r))) (Decline InvalidParameters) (Grant (SetMask (word_at 8 r)))
 
 -- ---- "put ring (D3 01)", section 4.1: target type in bytes 8 and 9, chiplet in byte 11; "ring id and mode are taken as sent"
 
@@ -78,10 +96,10 @@ chiplet_known target chiplet = in_ranges (chiplet_ranges target) chiplet
 
 -- "02/04 wrong type, 02/05 wrong chiplet"
 unfoldable pub ring_at : ℕ → ℕ → Ruling
-ring_at target chiplet = cond (ltb 4 target) (Decline 0x02 0x04) (cond (not (chiplet_known target chiplet)) (Decline 0x02 0x05) Done)
+ring_at target chiplet = cond (ltb 4 target) (Decline InvalidTarget) (cond (not (chiplet_known target chiplet)) (Decline InvalidChiplet) Done)
 
 unfoldable pub ring_of : List ℕ → Ruling
-ring_of r = cond (not (plain_flags (flags_of r))) (Decline 0x02 0x19) (ring_at (target_of r) (chiplet_of r))
+ring_of r = cond (not (plain_flags (flags_of r))) (Decline InvalidParameters) (ring_at (target_of r) (chiplet_of r))
 
 -- ---- "control timer (D4 01)", section 5.1: start with the microseconds in register 1's last four bytes, or stop; "exactly one flag as for D1 01"
 
@@ -91,33 +109,40 @@ timer_of r = start_or_stop (flags_of r) (Grant (SetTimer (record { running = 1; 
 -- ---- "read SEEPROM (D7 03)", section 8.2: offset and size in register 1, judged where the lent image is known
 
 unfoldable pub seeprom_of : List ℕ → Ruling
-seeprom_of r = cond (not (plain_flags (flags_of r))) (Decline 0x02 0x19) (Read (word_at 8 r) (word_at 12 r))
+seeprom_of r = cond (not (plain_flags (flags_of r))) (Decline InvalidParameters) (Read (word_at 8 r) (word_at 12 r))
 
 -- ---- "D7 04: sizes in register 1, addresses in 2 and 3"
 
--- "address not a multiple of 128, or address + size over 2^64: 02/03; size not a multiple of 128: 02/19"; 0 where the area is fine
-unfoldable pub area_status : ℕ → ℕ → ℕ
+-- "address not a multiple of 128, or address + size over 2^64: 02/03; size not a multiple of 128: 02/19"
+unfoldable pub area_status : ℕ → ℕ → Tested
 area_status address size =
-    cond (eqb size 0) 0x00
-    (cond (not (multiple_of128 address)) 0x03
-    (cond (not (in_memory address size)) 0x03
-    (cond (not (multiple_of128 size)) 0x19 0x00)))
+    cond (eqb size 0) (Ok tt)
+    (cond (not (multiple_of128 address)) (Err InvalidAddress)
+    (cond (not (in_memory address size)) (Err InvalidAddress)
+    (cond (not (multiple_of128 size)) (Err InvalidParameters) (Ok tt))))
+
+unfoldable pub if_fine : Tested → Result Areas Refusal → Result Areas Refusal
+if_fine (Err why) areas = Err why
+if_fine (Ok x) areas = areas
 
 -- "Size 0 makes that area's address and size 0"
 unfoldable pub area_of : ℕ → ℕ → Area
 area_of address size = cond (eqb size 0) no_area (record { address = address; size = size })
 
 -- "FFDC area first, address before size"
-unfoldable pub areas_at : ℕ → ℕ → ℕ → ℕ → Ruling
-areas_at ffdc pass front back =
-    cond (not (eqb (area_status front ffdc) 0)) (Decline 0x02 (area_status front ffdc))
-    (cond (not (eqb (area_status back pass) 0)) (Decline 0x02 (area_status back pass))
-    (Grant (SetAreas (record { ffdc = area_of front ffdc; pass = area_of back pass }))))
+unfoldable pub areas_read : List ℕ → Result Areas Refusal
+areas_read r =
+    if_fine (area_status (register_at 16 r) (word_at 8 r)) (if_fine (area_status (register_at 24 r) (word_at 12 r))
+    (Ok (record { ffdc = area_of (register_at 16 r) (word_at 8 r); pass = area_of (register_at 24 r) (word_at 12 r) })))
+
+unfoldable pub areas_judged : Result Areas Refusal → Ruling
+areas_judged (Err why) = Decline why
+areas_judged (Ok areas) = Grant (SetAreas areas)
 
 unfoldable pub areas_of : List ℕ → Ruling
 areas_of r =
-    cond (not (plain_flags (flags_of r))) (Decline 0x02 0x19)
-    (areas_at (word_at 8 r) (word_at 12 r) (register_at 16 r) (register_at 24 r))
+    cond (not (plain_flags (flags_of r))) (Decline InvalidParameters)
+    (areas_judged (areas_read r))
 
 -- ---- "In order: class not D1, D3 to D7: 01/01; other command: 01/02"
 
@@ -126,29 +151,29 @@ core_state command r =
     cond (eqb command 0x01) (deadman_of r)
     (cond (eqb command 0x02) (exit_of r)
     (cond (eqb command 0x03) (cores_of r)
-    (Decline 0x01 0x02)))
+    (Decline CommandNotSupported)))
 
 unfoldable pub ring_class : ℕ → List ℕ → Ruling
-ring_class command r = cond (eqb command 0x01) (ring_of r) (Decline 0x01 0x02)
+ring_class command r = cond (eqb command 0x01) (ring_of r) (Decline CommandNotSupported)
 
 unfoldable pub timer_class : ℕ → List ℕ → Ruling
-timer_class command r = cond (eqb command 0x01) (timer_of r) (Decline 0x01 0x02)
+timer_class command r = cond (eqb command 0x01) (timer_of r) (Decline CommandNotSupported)
 
 unfoldable pub general : ℕ → List ℕ → Ruling
 general command r =
     cond (eqb command 0x03) (seeprom_of r)
     (cond (eqb command 0x04) (areas_of r)
-    (Decline 0x01 0x02))
+    (Decline CommandNotSupported))
 
 unfoldable pub request_for : ℕ → ℕ → List ℕ → Ruling
 request_for class command r =
     cond (eqb class 0xD1) (core_state command r)
-    (cond (ltb class 0xD3) (Decline 0x01 0x01)
-    (cond (ltb 0xD7 class) (Decline 0x01 0x01)
+    (cond (ltb class 0xD3) (Decline ClassNotSupported)
+    (cond (ltb 0xD7 class) (Decline ClassNotSupported)
     (cond (eqb class 0xD3) (ring_class command r)
     (cond (eqb class 0xD4) (timer_class command r)
     (cond (eqb class 0xD7) (general command r)
-    (Decline 0x01 0x02))))))
+    (Decline CommandNotSupported))))))
 
 unfoldable pub request_ruling : List ℕ → Ruling
 request_ruling r = request_for (get_or r 6 0) (get_or r 7 0) r

@@ -1,19 +1,53 @@
 // The SBE mailbox: a request judged, its doorbell bits and its response. Nothing here changes a record or the timer.
-#![tactic(auto, unfolding(crate::specs::Mailbox::flags_of, crate::specs::Mailbox::word_at, crate::specs::Mailbox::register_at, crate::specs::Mailbox::plain_flags, crate::specs::Mailbox::start_or_stop, crate::specs::Mailbox::deadman_of, crate::specs::Mailbox::exit_of, crate::specs::Mailbox::cores_of, crate::specs::Mailbox::target_of, crate::specs::Mailbox::chiplet_of, crate::specs::Mailbox::chiplet_ranges, crate::specs::Mailbox::within, crate::specs::Mailbox::in_ranges, crate::specs::Mailbox::chiplet_known, crate::specs::Mailbox::ring_at, crate::specs::Mailbox::ring_of, crate::specs::Mailbox::timer_of, crate::specs::Mailbox::seeprom_of, crate::specs::Mailbox::area_status, crate::specs::Mailbox::area_of, crate::specs::Mailbox::areas_at, crate::specs::Mailbox::areas_of, crate::specs::Mailbox::core_state, crate::specs::Mailbox::ring_class, crate::specs::Mailbox::timer_class, crate::specs::Mailbox::general, crate::specs::Mailbox::request_for, crate::specs::Mailbox::request_ruling, crate::specs::Mailbox::bell_of, crate::specs::Mailbox::response_bytes))]
+#![tactic(auto, unfolding(crate::specs::Mailbox::flags_of, crate::specs::Mailbox::word_at, crate::specs::Mailbox::register_at, crate::specs::Mailbox::plain_flags, crate::specs::Mailbox::start_or_stop, crate::specs::Mailbox::deadman_of, crate::specs::Mailbox::exit_of, crate::specs::Mailbox::cores_of, crate::specs::Mailbox::target_of, crate::specs::Mailbox::chiplet_of, crate::specs::Mailbox::chiplet_ranges, crate::specs::Mailbox::within, crate::specs::Mailbox::in_ranges, crate::specs::Mailbox::chiplet_known, crate::specs::Mailbox::ring_at, crate::specs::Mailbox::ring_of, crate::specs::Mailbox::timer_of, crate::specs::Mailbox::seeprom_of, crate::specs::Mailbox::area_status, crate::specs::Mailbox::area_of, crate::specs::Mailbox::if_fine, crate::specs::Mailbox::areas_read, crate::specs::Mailbox::areas_judged, crate::specs::Mailbox::areas_of, crate::specs::Mailbox::core_state, crate::specs::Mailbox::ring_class, crate::specs::Mailbox::timer_class, crate::specs::Mailbox::general, crate::specs::Mailbox::request_for, crate::specs::Mailbox::request_ruling, crate::specs::Mailbox::bell_of, crate::specs::Mailbox::response_bytes))]
 
 ghost use Rattle.std.specs.Prelude.{◌≡◌, ◌≤◌, length};
 ghost use Rattle.wire.specs.Wire.{pasted};
 ghost use Rattle.sbe.specs.declared.Ruling.TheVariants.{Grant};
-ghost use Rattle.sbe.specs.Mailbox.{start_or_stop, deadman_of, exit_of, cores_of, chiplet_known, ring_of, timer_of, seeprom_of, area_status, area_of, areas_of, core_state, ring_class, timer_class, general, request_ruling, plain_flags, bell_of, response_bytes};
+ghost use Rattle.sbe.specs.Mailbox.{start_or_stop, deadman_of, exit_of, cores_of, chiplet_known, ring_of, timer_of, seeprom_of, area_status, area_of, areas_read, areas_of, request_ruling, plain_flags, bell_of, response_bytes};
 
 use change::Change;
 use record::{Area, Areas, Deadman, Timer};
 
-// Refused with primary and secondary status; the change to make; accepted without one; or an offset and a size of the
-// SEEPROM to read, judged where its image is known.
+// Why a request is refused.
+#[derive(Clone, Copy)]
+pub enum Refusal {
+    ClassNotSupported,
+    CommandNotSupported,
+    InvalidAddress,
+    InvalidTarget,
+    InvalidChiplet,
+    BufferOverflow,
+    InvalidParameters,
+    AccessDenied,
+}
+
+// Primary and secondary status.
+impl From<Refusal> for (u16, u16) {
+    ghost use Rattle.std.specs.Prelude.{◌≡◌};
+    ghost use Rattle.sbe.specs.Mailbox.{numbers_of};
+
+    ghost from_gives = { λ why n. n ≡ numbers_of why };
+
+    fn from(why: Refusal) -> (u16, u16) {
+        match why {
+            Refusal::ClassNotSupported => (0x01, 0x01),
+            Refusal::CommandNotSupported => (0x01, 0x02),
+            Refusal::InvalidAddress => (0x02, 0x03),
+            Refusal::InvalidTarget => (0x02, 0x04),
+            Refusal::InvalidChiplet => (0x02, 0x05),
+            Refusal::BufferOverflow => (0x02, 0x18),
+            Refusal::InvalidParameters => (0x02, 0x19),
+            Refusal::AccessDenied => (0x05, 0x20),
+        }
+    }
+}
+
+// Refused; the change to make; accepted without one; or an offset and a size of the SEEPROM to read, judged where its
+// image is known.
 #[derive(Clone, Copy)]
 pub enum Ruling {
-    Decline(u16, u16),
+    Decline(Refusal),
     Grant(Change),
     Done,
     Read(u32, u32),
@@ -34,13 +68,13 @@ fn start_or_stop(flags: u16, start: Change, stop: Change) -> Ruling
     ensures { result ≡ start_or_stop flags (Grant start) (Grant stop) }
 {
     if 0x0400 <= flags {
-        return Ruling::Decline(0x02, 0x19);
+        return Ruling::Decline(Refusal::InvalidParameters);
     }
     let asked = flags % 0x0100;
     match asked {
         0x01 => Ruling::Grant(start),
         0x02 => Ruling::Grant(stop),
-        0x00 | 0x03..=0xFFFF => Ruling::Decline(0x02, 0x19),
+        0x00 | 0x03..=0xFFFF => Ruling::Decline(Refusal::InvalidParameters),
     }
 }
 
@@ -66,7 +100,7 @@ fn exit_contained(r: &[u8]) -> Ruling
     ensures { result ≡ exit_of r.now }
 {
     if !plain_flags(wire::be16(r, 2)) {
-        return Ruling::Decline(0x02, 0x19);
+        return Ruling::Decline(Refusal::InvalidParameters);
     }
     Ruling::Done
 }
@@ -77,7 +111,7 @@ fn cores(r: &[u8]) -> Ruling
     ensures { result ≡ cores_of r.now }
 {
     if !plain_flags(wire::be16(r, 2)) {
-        return Ruling::Decline(0x02, 0x19);
+        return Ruling::Decline(Refusal::InvalidParameters);
     }
     Ruling::Grant(Change::SetMask(wire::be32(r, 8)))
 }
@@ -112,14 +146,14 @@ fn ring(r: &[u8]) -> Ruling
     ensures { result ≡ ring_of r.now }
 {
     if !plain_flags(wire::be16(r, 2)) {
-        return Ruling::Decline(0x02, 0x19);
+        return Ruling::Decline(Refusal::InvalidParameters);
     }
     let target = wire::be16(r, 8);
     if 4 < target {
-        return Ruling::Decline(0x02, 0x04);
+        return Ruling::Decline(Refusal::InvalidTarget);
     }
     if !chiplet_known(target, r[11]) {
-        return Ruling::Decline(0x02, 0x05);
+        return Ruling::Decline(Refusal::InvalidChiplet);
     }
     Ruling::Done
 }
@@ -146,28 +180,28 @@ fn seeprom(r: &[u8]) -> Ruling
     ensures { result ≡ seeprom_of r.now }
 {
     if !plain_flags(wire::be16(r, 2)) {
-        return Ruling::Decline(0x02, 0x19);
+        return Ruling::Decline(Refusal::InvalidParameters);
     }
     Ruling::Read(wire::be32(r, 8), wire::be32(r, 12))
 }
 
-// An area's secondary status, 0 where it is fine.
-fn area_status(address: u64, size: u32) -> u16
+// Whether an area may be set; one of size 0 always may.
+fn area_status(address: u64, size: u32) -> Result<(), Refusal>
     ensures { result ≡ area_status address size }
 {
     if size == 0 {
-        return 0x00;
+        return Ok(());
     }
     if !formed::aligned(address) {
-        return 0x03;
+        return Err(Refusal::InvalidAddress);
     }
     if !formed::in_memory(address, size) {
-        return 0x03;
+        return Err(Refusal::InvalidAddress);
     }
     if !formed::aligned(size as u64) {
-        return 0x19;
+        return Err(Refusal::InvalidParameters);
     }
-    0x00
+    Ok(())
 }
 
 // Size 0 makes that area's address and size 0.
@@ -186,72 +220,34 @@ fn area(address: u64, size: u32) -> Area
     }
 }
 
-// D7 04: sizes in register 1, addresses in 2 and 3, the FFDC area first.
+// Sizes in register 1, addresses in 2 and 3, the FFDC area first.
+fn areas_read(r: &[u8]) -> Result<Areas, Refusal>
+    requires { 32 ≤ length r.now }
+    ensures { result ≡ areas_read r.now }
+{
+    let ffdc = wire::be32(r, 8);
+    let pass = wire::be32(r, 12);
+    let front = wire::be64(r, 16);
+    let back = wire::be64(r, 24);
+    area_status(front, ffdc)?;
+    area_status(back, pass)?;
+    Ok(Areas {
+        ffdc: area(front, ffdc),
+        pass: area(back, pass),
+    })
+}
+
+// D7 04: both areas, or neither.
 fn areas(r: &[u8]) -> Ruling
     requires { 32 ≤ length r.now }
     ensures { result ≡ areas_of r.now }
 {
     if !plain_flags(wire::be16(r, 2)) {
-        return Ruling::Decline(0x02, 0x19);
+        return Ruling::Decline(Refusal::InvalidParameters);
     }
-    let ffdc = wire::be32(r, 8);
-    let pass = wire::be32(r, 12);
-    let front = wire::be64(r, 16);
-    let back = wire::be64(r, 24);
-    let first = area_status(front, ffdc);
-    if first != 0 {
-        return Ruling::Decline(0x02, first);
-    }
-    let second = area_status(back, pass);
-    if second != 0 {
-        return Ruling::Decline(0x02, second);
-    }
-    Ruling::Grant(Change::SetAreas(Areas {
-        ffdc: area(front, ffdc),
-        pass: area(back, pass),
-    }))
-}
-
-fn core_state(command: u8, r: &[u8]) -> Ruling
-    requires { 32 ≤ length r.now }
-    ensures { result ≡ core_state command r.now }
-{
-    match command {
-        0x01 => deadman(r),
-        0x02 => exit_contained(r),
-        0x03 => cores(r),
-        0x00 | 0x04..=0xFF => Ruling::Decline(0x01, 0x02),
-    }
-}
-
-fn ring_class(command: u8, r: &[u8]) -> Ruling
-    requires { 32 ≤ length r.now }
-    ensures { result ≡ ring_class command r.now }
-{
-    match command {
-        0x01 => ring(r),
-        0x00 | 0x02..=0xFF => Ruling::Decline(0x01, 0x02),
-    }
-}
-
-fn timer_class(command: u8, r: &[u8]) -> Ruling
-    requires { 32 ≤ length r.now }
-    ensures { result ≡ timer_class command r.now }
-{
-    match command {
-        0x01 => timer(r),
-        0x00 | 0x02..=0xFF => Ruling::Decline(0x01, 0x02),
-    }
-}
-
-fn general_command(command: u8, r: &[u8]) -> Ruling
-    requires { 32 ≤ length r.now }
-    ensures { result ≡ general command r.now }
-{
-    match command {
-        0x03 => seeprom(r),
-        0x04 => areas(r),
-        0x00..=0x02 | 0x05..=0xFF => Ruling::Decline(0x01, 0x02),
+    match areas_read(r) {
+        Ok(areas) => Ruling::Grant(Change::SetAreas(areas)),
+        Err(why) => Ruling::Decline(why),
     }
 }
 
@@ -260,15 +256,18 @@ pub fn judge(r: &[u8]) -> Ruling
     requires { 32 ≤ length r.now }
     ensures { result ≡ request_ruling r.now }
 {
-    let class = r[6];
-    let command = r[7];
-    match class {
-        0xD1 => core_state(command, r),
-        0xD3 => ring_class(command, r),
-        0xD4 => timer_class(command, r),
-        0xD7 => general_command(command, r),
-        0xD5..=0xD6 => Ruling::Decline(0x01, 0x02),
-        0x00..=0xD0 | 0xD2 | 0xD8..=0xFF => Ruling::Decline(0x01, 0x01),
+    match (r[6], r[7]) {
+        (0xD1, 0x01) => deadman(r),
+        (0xD1, 0x02) => exit_contained(r),
+        (0xD1, 0x03) => cores(r),
+        (0xD3, 0x01) => ring(r),
+        (0xD4, 0x01) => timer(r),
+        (0xD7, 0x03) => seeprom(r),
+        (0xD7, 0x04) => areas(r),
+        (0xD1 | 0xD3..=0xD7, 0x00..=0xFF) => Ruling::Decline(Refusal::CommandNotSupported),
+        (0x00..=0xD0 | 0xD2 | 0xD8..=0xFF, 0x00..=0xFF) => Ruling::Decline(
+            Refusal::ClassNotSupported,
+        ),
     }
 }
 

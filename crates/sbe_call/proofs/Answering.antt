@@ -1,17 +1,15 @@
 -- What the steps of the call give back, from what they call. Assumes nothing.
-use Prim.Native.Nat.{ℕ, ◌+◌, ◌-◌, ◌%◌, ◌≤◌}
+use Prim.Native.Nat.{ℕ, ◌≤◌}
 use mathlib.Core.Bool.{Bool, true, false, cond, not}
 use mathlib.Core.Path.{◌≡◌, refl, sym, ap, ◌∙◌}
 use mathlib.Core.List.{List, [], ◌∷◌}
 use types.Run.{OneOf, miss}
-use native.Mathlib.Nat.{add-sub_cancel_left, le_trans}
 use native.Mathlib.Omega.{arith}
-use borrow.Author.Tests.{ltb-true, ltb-false, eqb-true, not-false}
+use borrow.Author.Tests.{ltb-false, eqb-true, not-false}
 use lib.Dec.{ltb, eqb}
-use lib.ListN.{length, take, drop, length-drop}
-use lib.Seq.{length-take-le}
+use lib.ListN.{length}
 use Rattle.wire.specs.Wire.{pasted}
-use Rattle.wire.proofs.laws.Cases.{cond_cases, said_of, if_ne, else_ne}
+use Rattle.wire.proofs.laws.Cases.{cond_cases, if_ne, else_ne}
 use Rattle.change.specs.Change.{no_tables}
 use Rattle.change.specs.declared.Change.{Change}
 use Rattle.change.specs.declared.Edit.{Edit}
@@ -22,7 +20,7 @@ use Rattle.session.specs.Session.{well_formed, carried_of}
 use Rattle.session.specs.Road.{Asks, refuses, tells, makes, due, Said, kept, done, settled}
 use Rattle.session.proofs.laws.Road.{made_full, made_done}
 use Rattle.session.specs.declared.Session.{Session}
-use Rattle.sbe_call.specs.Sbe.{refusal_of, sbe_refusal, counted_in, read_status, read_at, judged_for, served_at, served_by, told_of, ruling_asks, sbe_ruling, by_profile, sbe_read, sbe_asks, sbe_call, ruled_left, sbe_on, data_for, sbe_data, data_on}
+use Rattle.sbe_call.specs.Sbe.{refusal_of, sbe_refusal, judged_for, served_by, told_of, ruling_asks, sbe_ruling, by_profile, sbe_read, sbe_asks, sbe_call, ruled_left, sbe_on, data_for, sbe_data, data_on}
 use Rattle.image.specs.declared.Head.{Head}
 use Rattle.image.specs.Image.{image_of, session_in, session_of}
 use Rattle.layout.specs.Layout.{image_length}
@@ -33,11 +31,6 @@ use Rattle.inplace.proofs.laws.InPlace as inplace
 use Rattle.sbe.specs.contracts.Ruling.{the_type}
 use denote.Enum.Declared.{tag_of}
 use Rattle.change.specs.declared.Tables.{Tables}
-
--- a test that refuses let pass
-passed : (t : Bool) (m n : ℕ) → (m ≡ 0 → ⊥) → cond t m n ≡ 0 → (t ≡ false) × (n ≡ 0)
-passed true m n h e = absurd (h e)
-passed false m n h e = (refl, e)
 
 -- no refusal is due: the session is well formed and both buffers are long enough
 none_due : (b c d : Bool) → cond {A = ℕ} (not b) 1 (cond c 3 (cond d 4 0)) ≡ 0 → (b ≡ true) × (c ≡ false) × (d ≡ false)
@@ -62,13 +55,10 @@ no_read = 0 ∷ 1 ∷ 2 ∷ []
 
 told : (r d : List ℕ) (v : Ruling) → OneOf no_change (tag_of the_type v) → tells (bell_of r) (told_of v r d) ≡ ruling_asks r d v
 unfolding ruling_asks
-told r d (Decline p q) h = refl
+told r d (Decline why) h = refl
 told r d (Grant ch) h = absurd (miss no_change 1 tt h)
 told r d Done h = refl
 told r d (Read offset size) h = refl
-
-pub replies : (r d : List ℕ) {v w : Ruling} {y : List ℕ} → v ≡ w → y ≡ told_of w r d → y ≡ told_of v r d
-replies r d = said_of (λ (u : Ruling). told_of u r d)
 
 -- ---- a request that is due an answer: h is the head that stands in the lent bytes b, v the ruling
 
@@ -115,60 +105,6 @@ module _ (h : Head) (b : List ℕ) (here : HeadStands h b) (r d : List ℕ) (v :
           let rung-as-asked = p ∙ (λ i. record { answer = 0; small = 0; beside = rings i }) in
           parts t y z _ ((λ i. record { told = rung-as-asked i; image = carried_new h b here edit full y room left g i; reply = q i })
           ∙ by_made (done (carried_of s edit).session (bell_of r) 0 (pasted 0 (response_bytes 0x00 0x00 r) d)) (sym (made_done s d edit (bell_of r) _ (sym room ∙ g))))
-
--- ---- the second buffer: what is served, by the ruling
-
-module _ (m x : List ℕ) where
-  -- a ruling other than a read
-  pub keeps_data : (v : Ruling) → OneOf no_read (tag_of the_type v) → x ≡ served_by v m x
-  unfolding served_by
-  keeps_data (Decline p q) h = refl
-  keeps_data (Grant ch) h = refl
-  keeps_data Done h = refl
-  keeps_data (Read offset size) h = absurd (miss no_read 3 tt h)
-
-  module _ (v : Ruling) (offset size status : ℕ) (is : v ≡ Read offset size) (st : status ≡ read_status (length m) (length x) offset size) where
-    by_read : (y : List ℕ) → y ≡ served_at status offset size m x → y ≡ served_by v m x
-    unfolding served_by
-    by_read y e = e ∙ ap (λ (n : ℕ). served_at n offset size m x) st ∙ sym (ap (λ (u : Ruling). served_by u m x) is)
-
-    pub read_refused : (status ≡ 0 → ⊥) → x ≡ served_by v m x
-    unfolding served_at
-    read_refused n = by_read x (if_ne _ _ n refl)
-
-    pub read_served : status ≡ 0 → (y : List ℕ) → y ≡ pasted 0 (take (offset + size - offset) (drop offset m)) x → y ≡ served_by v m x
-    unfolding served_at
-    read_served z y p = by_read y (else_ne _ _ z (p ∙ ap (λ (n : ℕ). pasted 0 (take n (drop offset m)) x) (add-sub_cancel_left offset size)))
-
-  -- a read that is served lies within both
-  pub within_both : (offset size status : ℕ) → status ≡ read_status (length m) (length x) offset size → status ≡ 0 → (offset + size ≤ length m) × (size ≤ length x)
-  unfolding read_status counted_in
-  within_both offset size status st z =
-      let a = passed (not (eqb (offset % 8) 0)) 0x19 _ (λ e. omega (arith, e)) (sym st ∙ z) in
-      let b = passed (not (eqb (size % 8) 0)) 0x19 _ (λ e. omega (arith, e)) a.1 in
-      let e = passed (ltb (counted_in (length m)) (offset + size)) 0x19 _ (λ e. omega (arith, e)) b.1 in
-      let f = passed (ltb (length x) size) 0x18 _ (λ e. omega (arith, e)) e.1 in (
-        le_trans (ltb-false (counted_in (length m)) (offset + size) e.0) (cond_cases (λ (n : ℕ). n ≤ length m) (ltb 65536 (length m)) (λ t. omega (arith, ltb-true 65536 (length m) t)) (λ t. omega arith)),
-        ltb-false (length x) size f.0,
-      )
-
-  -- so what is served fits
-  pub part_fits : (offset size : ℕ) → (offset + size ≤ length m) × (size ≤ length x) → 0 + length (take (offset + size - offset) (drop offset m)) ≤ length x
-  part_fits offset size h =
-      let n : length (take (offset + size - offset) (drop offset m)) ≡ offset + size - offset = length-take-le (offset + size - offset) (drop offset m) (omega (arith, length-drop offset m, h.0)) in
-      omega (arith, n, h.1)
-
--- a read judged
-pub read_judged : (image room : ℕ) (v w : Ruling) (offset size status : ℕ) → v ≡ Read offset size → status ≡ read_status image room offset size → w ≡ read_at status → w ≡ judged_for image room v
-unfolding judged_for
-read_judged image room v w offset size status is st e = e ∙ ap read_at st ∙ sym (ap (judged_for image room) is)
-
-pub other_judged : (image room : ℕ) (v : Ruling) → OneOf no_read (tag_of the_type v) → v ≡ judged_for image room v
-unfolding judged_for
-other_judged image room (Decline p q) h = refl
-other_judged image room (Grant ch) h = refl
-other_judged image room Done h = refl
-other_judged image room (Read offset size) h = absurd (miss no_read 3 tt h)
 
 -- ---- the whole call: n is the refusal that is due to a well-formed session
 

@@ -1,10 +1,11 @@
 -- Document 01, "Session answers" and "SBE mailbox", with document 02, h: what the call `sbe` comes to, for every session, request, reply buffer, SEEPROM image m and
 -- second buffer x.
-use Rattle.std.specs.Prelude.{ℕ, ◌+◌, ◌%◌, Bool, cond, not, List, [], ◌≡◌, length, take, drop, ltb, eqb}
+use Rattle.std.specs.Prelude.{ℕ, ◌+◌, ◌%◌, Bool, cond, not, Ok, Err, List, [], ◌≡◌, length, take, drop, ltb, eqb}
 use Rattle.wire.specs.Wire.{pasted}
 use Rattle.wire.specs.Conditions.{◌and◌}
 use Rattle.change.specs.Change.{no_tables}
-use Rattle.sbe.specs.Mailbox.{request_ruling, bell_of, response_bytes}
+use Rattle.sbe.specs.Mailbox.{numbers_of, Tested, request_ruling, bell_of, response_bytes}
+use Rattle.sbe.specs.declared.Refusal.TheVariants.{BufferOverflow, InvalidParameters, AccessDenied}
 use Rattle.sbe.specs.declared.Ruling.{Ruling}
 use Rattle.sbe.specs.declared.Ruling.TheVariants.{Decline, Grant, Done, Read}
 use Rattle.session.specs.Session.{well_formed}
@@ -28,31 +29,33 @@ sbe_refusal s request reply = refusal_of (well_formed s) request reply
 unfoldable pub counted_in : ℕ → ℕ
 counted_in n = cond (ltb 65536 n) 65536 n
 
--- "02/19 an offset or size that is no multiple of 8 or leaves the image, 02/18 when the second buffer is shorter than the data": the secondary status, 0 where
--- it is served. The image has so many bytes, the second buffer so many
-unfoldable pub read_status : ℕ → ℕ → ℕ → ℕ → ℕ
+-- "02/19 an offset or size that is no multiple of 8 or leaves the image, 02/18 when the second buffer is shorter than the data".
+-- The image has so many bytes, the second buffer so many
+unfoldable pub read_status : ℕ → ℕ → ℕ → ℕ → Tested
 read_status image room offset size =
-    cond (not (eqb (offset % 8) 0)) 0x19
-    (cond (not (eqb (size % 8) 0)) 0x19
-    (cond (ltb (counted_in image) (offset + size)) 0x19
-    (cond (ltb room size) 0x18 0x00)))
+    cond (not (eqb (offset % 8) 0)) (Err InvalidParameters)
+    (cond (not (eqb (size % 8) 0)) (Err InvalidParameters)
+    (cond (ltb (counted_in image) (offset + size)) (Err InvalidParameters)
+    (cond (ltb room size) (Err BufferOverflow) (Ok tt))))
 
-unfoldable pub read_at : ℕ → Ruling
-read_at status = cond (not (eqb status 0)) (Decline 0x02 status) Done
+unfoldable pub read_at : Tested → Ruling
+read_at (Err why) = Decline why
+read_at (Ok x) = Done
 
 -- a ruling, judged where image and buffer are known
 unfoldable pub judged_for : ℕ → ℕ → Ruling → Ruling
-judged_for image room (Decline primary secondary) = Decline primary secondary
+judged_for image room (Decline why) = Decline why
 judged_for image room (Grant change) = Grant change
 judged_for image room Done = Done
 judged_for image room (Read offset size) = read_at (read_status image room offset size)
 
 -- the second buffer after it
-unfoldable pub served_at : ℕ → ℕ → ℕ → List ℕ → List ℕ → List ℕ
-served_at status offset size m x = cond (not (eqb status 0)) x (pasted 0 (take size (drop offset m)) x)
+unfoldable pub served_at : Tested → ℕ → ℕ → List ℕ → List ℕ → List ℕ
+served_at (Err why) offset size m x = x
+served_at (Ok y) offset size m x = pasted 0 (take size (drop offset m)) x
 
 unfoldable pub served_by : Ruling → List ℕ → List ℕ → List ℕ
-served_by (Decline primary secondary) m x = x
+served_by (Decline why) m x = x
 served_by (Grant change) m x = x
 served_by Done m x = x
 served_by (Read offset size) m x = served_at (read_status (length m) (length x) offset size) offset size m x
@@ -61,14 +64,14 @@ served_by (Read offset size) m x = served_at (read_status (length m) (length x) 
 
 -- to what is no change; a read is judged before it comes here (judgedFor)
 unfoldable pub told_of : Ruling → List ℕ → List ℕ → List ℕ
-told_of (Decline primary secondary) r d = pasted 0 (response_bytes primary secondary r) d
+told_of (Decline why) r d = pasted 0 (response_bytes (numbers_of why).0 (numbers_of why).1 r) d
 told_of (Grant change) r d = d
 told_of Done r d = pasted 0 (response_bytes 0x00 0x00 r) d
 told_of (Read offset size) r d = pasted 0 (response_bytes 0x00 0x00 r) d
 
 -- the response "is written on every answer 0"; the bell is rung as asked, refused or not
 unfoldable pub ruling_asks : List ℕ → List ℕ → Ruling → Asks
-ruling_asks r d (Decline primary secondary) = tells (bell_of r) (told_of (Decline primary secondary) r d)
+ruling_asks r d (Decline why) = tells (bell_of r) (told_of (Decline why) r d)
 ruling_asks r d (Grant change) = makes (record { change = change; tables = no_tables }) (bell_of r) (pasted 0 (response_bytes 0x00 0x00 r) d)
 ruling_asks r d Done = tells (bell_of r) (told_of Done r d)
 ruling_asks r d (Read offset size) = tells (bell_of r) (told_of (Read offset size) r d)
@@ -78,8 +81,8 @@ sbe_ruling r m x = judged_for (length m) (length x) (request_ruling r)
 
 -- k: in a watch-only session "each SBE request that would make a journal entry is refused", with 05/20 after the data checks
 unfoldable pub denied : Ruling → Ruling
-denied (Decline primary secondary) = Decline primary secondary
-denied (Grant change) = Decline 0x05 0x20
+denied (Decline why) = Decline why
+denied (Grant change) = Decline AccessDenied
 denied Done = Done
 denied (Read offset size) = Read offset size
 

@@ -10,7 +10,7 @@ ghost use Rattle.inplace.specs.InPlace.{HeadStands, Refused};
 use change::Edit;
 use image::Head;
 use inplace::Told;
-use sbe::Ruling;
+use sbe::{Refusal, Ruling};
 
 // Answers 3 and 4 in document 01's order, of a session that is well formed.
 fn refusal(request: usize, reply: usize) -> Option<u8>
@@ -37,23 +37,23 @@ fn counted(image: usize) -> usize
     image
 }
 
-// The secondary status of a read, 0 where it is served.
-fn read_status(image: usize, room: usize, offset: u32, size: u32) -> u16
+// Whether a read is served.
+fn read_status(image: usize, room: usize, offset: u32, size: u32) -> Result<(), Refusal>
     ensures { result ≡ read_status image room offset size }
 {
     if offset % 8 != 0 {
-        return 0x19;
+        return Err(Refusal::InvalidParameters);
     }
     if size % 8 != 0 {
-        return 0x19;
+        return Err(Refusal::InvalidParameters);
     }
     if counted(image) < offset as usize + size as usize {
-        return 0x19;
+        return Err(Refusal::InvalidParameters);
     }
     if room < size as usize {
-        return 0x18;
+        return Err(Refusal::BufferOverflow);
     }
-    0x00
+    Ok(())
 }
 
 // A read is declined, or done; other rulings stay.
@@ -63,11 +63,10 @@ fn judged(ruling: Ruling, image: usize, room: usize) -> Ruling
     let Ruling::Read(offset, size) = ruling else {
         return ruling;
     };
-    let status = read_status(image, room, offset, size);
-    if status != 0 {
-        return Ruling::Decline(0x02, status);
+    match read_status(image, room, offset, size) {
+        Ok(()) => Ruling::Done,
+        Err(why) => Ruling::Decline(why),
     }
-    Ruling::Done
 }
 
 // The bytes asked for go to the front of the second buffer; the rest is kept.
@@ -77,7 +76,7 @@ fn serve(ruling: Ruling, seeprom: &[u8], served: &mut [u8])
     let Ruling::Read(offset, size) = ruling else {
         return;
     };
-    if read_status(seeprom.len(), served.len(), offset, size) != 0 {
+    if read_status(seeprom.len(), served.len(), offset, size).is_err() {
         return;
     }
     let start = offset as usize;
@@ -92,8 +91,8 @@ fn denied(ruling: Ruling) -> Ruling
     ensures { result ≡ denied ruling }
 {
     match ruling {
-        Ruling::Decline(primary, secondary) => Ruling::Decline(primary, secondary),
-        Ruling::Grant(_) => Ruling::Decline(0x05, 0x20),
+        Ruling::Decline(why) => Ruling::Decline(why),
+        Ruling::Grant(_) => Ruling::Decline(Refusal::AccessDenied),
         Ruling::Done => Ruling::Done,
         Ruling::Read(offset, size) => Ruling::Read(offset, size),
     }
@@ -114,7 +113,10 @@ fn tell(ruling: Ruling, request: &[u8], reply: &mut [u8])
     ensures { reply.new ≡ told_of ruling request.now reply.old }
 {
     match ruling {
-        Ruling::Decline(primary, secondary) => sbe::respond(reply, request, primary, secondary),
+        Ruling::Decline(why) => {
+            let (primary, secondary) = why.into();
+            sbe::respond(reply, request, primary, secondary);
+        }
         Ruling::Grant(_) => {}
         Ruling::Done => sbe::respond(reply, request, 0x00, 0x00),
         Ruling::Read(_, _) => sbe::respond(reply, request, 0x00, 0x00),

@@ -1,5 +1,5 @@
 -- A change that a command of bytes makes is one that links can undo: its values pass, its numbers are of their widths. Assumes nothing.
-use Rattle.std.specs.Prelude.{ℕ, ◌+◌, ◌≤◌, Bool, true, cond, not, ◌⊎◌, ◌≡◌, List, ltb, leb, eqb, length, take, drop, Some, None, Ok, Err, Option}
+use Rattle.std.specs.Prelude.{ℕ, ◌+◌, ◌≤◌, Bool, true, not, ◌⊎◌, ◌≡◌, List, ltb, leb, eqb, length, take, drop, Some, None, Ok, Err, Option}
 use Rattle.packet.specs.Packet.{Checked}
 use Rattle.packet.specs.declared.Status.{Status}
 use Rattle.packet.specs.declared.Status.TheVariants.{InvalidCommand, InvalidLength, InvalidData, InternalError, StateProhibits}

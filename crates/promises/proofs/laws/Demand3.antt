@@ -106,7 +106,7 @@ module _ (s : Session) where
 
     ruling_fair : (r d : List ℕ) (v : Ruling) → Fairly (sbes.ruling_asks r d v)
     unfolding sbes.ruling_asks
-    ruling_fair r d (Decline primary secondary) = tt
+    ruling_fair r d (Decline why) = tt
     ruling_fair r d (Grant ch) = tt
     ruling_fair r d Done = tt
     ruling_fair r d (Read offset size) = tt

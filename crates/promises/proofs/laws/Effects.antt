@@ -274,7 +274,7 @@ module _ (s : Session) (typed : TypedSession s) (r d m x : List ℕ) where
   called_request b q e (sbe-demands.ill_formed h) ok = absurd (omega (arith, ok.0))
   called_request b q e (sbe-demands.short_reply w h) ok = absurd (omega (arith, ok.0))
   called_request b q e (sbe-demands.short_request w g h) ok = absurd (omega (arith, ok.0))
-  called_request b q e (sbe-demands.answered p y g (sbe-demands.declined i j v)) ok = absurd (sbe-demands.told_apart s typed r d m x i j v (sym (front_is _ d) ∙ ok.1))
+  called_request b q e (sbe-demands.answered p y g (sbe-demands.declined why v)) ok = absurd (sbe-demands.told_apart s typed r d m x why v (sym (front_is _ d) ∙ ok.1))
   called_request b q e (sbe-demands.answered p y g (sbe-demands.plain v)) ok = plain_effect ((plain_exactly s r m x).0 v)
   called_request b q e (sbe-demands.answered p y g (sbe-demands.no_room_lem ch v full)) ok = absurd (omega (arith, ok.0))
   called_request b q e (sbe-demands.answered p y g (sbe-demands.carried ch v fits)) ok =
@@ -292,8 +292,8 @@ module _ (s : Session) (typed : TypedSession s) (r d m x : List ℕ) where
   request_deed q e (sbe-demands.ill_formed h) = (none_added, λ z. absurd (omega (arith, z.0.0)))
   request_deed q e (sbe-demands.short_reply w h) = (none_added, λ z. absurd (omega (arith, z.0.0)))
   request_deed q e (sbe-demands.short_request w g h) = (none_added, λ z. absurd (omega (arith, z.0.0)))
-  request_deed q e (sbe-demands.answered p y g (sbe-demands.declined i j v)) =
-      (none_added, λ z. absurd (sbe-demands.told_apart s typed r d m x i j v (sym (front_is _ d) ∙ z.0.1)))
+  request_deed q e (sbe-demands.answered p y g (sbe-demands.declined why v)) =
+      (none_added, λ z. absurd (sbe-demands.told_apart s typed r d m x why v (sym (front_is _ d) ∙ z.0.1)))
   request_deed q e (sbe-demands.answered p y g (sbe-demands.plain v)) = (none_added, λ z. absurd (never_changes s r m x v z.1))
   request_deed q e (sbe-demands.answered p y g (sbe-demands.no_room_lem ch v full)) = (none_added, λ z. absurd (omega (arith, z.0.0)))
   request_deed q e (sbe-demands.answered p y g (sbe-demands.carried ch v fits)) =

@@ -1,7 +1,7 @@
 -- One call on two sessions that are the same but for ids: both say the same but for ids, and do the same. Assumes nothing.
 use Rattle.packet.specs.declared.Status.TheVariants.{InvalidData}
 use Rattle.places.specs.declared.Fault.{Fault}
-use Rattle.std.specs.Prelude.{ℕ, suc, ◌≤◌, Bool, true, false, not, ◌⊎◌, ◌≡◌, eqb, length, get_or}
+use Rattle.std.specs.Prelude.{ℕ, suc, ◌≤◌, Bool, true, false, not, ◌⊎◌, ◌≡◌, Ok, Err, eqb, length, get_or}
 use Rattle.std.proofs.Math.Bool.{cond}
 use Rattle.std.proofs.lemmas.Bool.{false≢true, not-false}
 use Rattle.std.proofs.Math.Logic.{inl, inr, ⊎_elim}
@@ -28,7 +28,9 @@ use Rattle.std.specs.Prelude.{Option, None}
 use Rattle.sbe.specs.Mailbox as mailbox
 use Rattle.sbe.specs.Conditions.{grants}
 use Rattle.sbe.proofs.laws.Made.{change_fits}
+use Rattle.sbe.specs.declared.Refusal.{Refusal}
 use Rattle.sbe.specs.declared.Ruling.{Ruling}
+use Rattle.sbe.specs.Mailbox.{Tested}
 use Rattle.sbe.specs.declared.Ruling.TheVariants.{Decline, Grant, Done, Read}
 use Rattle.session.specs.Session.{well_formed, carried_of}
 use Rattle.session.specs.Road.{Asks, refuses, tells, makes, moves, passes, timer_bell, due, kept, done, carried_says, settled}
@@ -59,7 +61,7 @@ shifted_deed k (drops n) = drops n
 shifted_deed k (ticks n) = ticks n
 
 -- what is no grant
-no_grant : {p q : ℕ} {ch : Change} → Decline p q ≡ Grant ch → ⊥
+no_grant : {why : Refusal} {ch : Change} → Decline why ≡ Grant ch → ⊥
 unfolding grants
 no_grant g = false≢true (ap grants g)
 
@@ -211,7 +213,7 @@ module _ (k : ℕ) (low : 1 ≤ k) (s t : Session) (tw : Twins k s t) (from_k : 
 
     told_alike : (v : Ruling) → ((ch : Change) → v ≡ Grant ch → mailbox.request_ruling r ≡ Grant ch) → AlikeAsks k s (sbes.ruling_asks r d v) (sbes.ruling_asks r d v)
     unfolding sbes.ruling_asks
-    told_alike (Decline primary secondary) e = both_tell _ _ _ (same_bytes _)
+    told_alike (Decline why) e = both_tell _ _ _ (same_bytes _)
     told_alike (Grant ch) e =
         subst (λ (x : Edit). AlikeAsks k s (sbes.ruling_asks r d (Grant ch)) (makes x (mailbox.bell_of r) (pasted 0 (mailbox.response_bytes 0x00 0x00 r) d))) (edit_is ch (e ch refl)) (both_make _ _ _)
     told_alike Done e = both_tell _ _ _ (same_bytes _)
@@ -220,11 +222,15 @@ module _ (k : ℕ) (low : 1 ≤ k) (s t : Session) (tw : Twins k s t) (from_k : 
     -- a change is granted by the request itself, whatever image and buffer are lent
     granted_so : (image room : ℕ) (v : Ruling) → mailbox.request_ruling r ≡ v → (ch : Change) → sbes.judged_for image room v ≡ Grant ch → mailbox.request_ruling r ≡ Grant ch
     unfolding sbes.judged_for sbes.read_at
-    granted_so image room (Decline p q) e ch = λ g. e ∙ g
+    granted_so image room (Decline why) e ch = λ g. e ∙ g
     granted_so image room (Grant x) e ch = λ g. e ∙ g
     granted_so image room Done e ch = λ g. e ∙ g
     granted_so image room (Read offset size) e ch =
-        cond_cases (λ (u : Ruling). u ≡ Grant ch → mailbox.request_ruling r ≡ Grant ch) (not (eqb (sbes.read_status image room offset size) 0)) (λ f g. absurd (no_grant g)) (λ f g. absurd (no_grant_done g))
+        by_read (sbes.read_status image room offset size)
+      where
+        by_read : (status : Tested) → sbes.read_at status ≡ Grant ch → mailbox.request_ruling r ≡ Grant ch
+        by_read (Err why) g = absurd (no_grant g)
+        by_read (Ok x) g = absurd (no_grant_done g)
 
     sbe_alike : (m x : List ℕ) → AlikeAsks k s (sbes.sbe_asks s r d m x) (sbes.sbe_asks t r d m x)
     unfolding sbes.sbe_asks sbes.sbe_read sbes.by_profile sbes.sbe_ruling sbes.sbe_refusal

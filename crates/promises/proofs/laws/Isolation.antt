@@ -273,7 +273,7 @@ module _ (s : Session) (ok : well_formed s ≡ true) (full : s.profile ≡ 0) (r
 
   by_ruling : (v : Ruling) → Alike (settled s d (sbes.ruling_asks r d v)) served (posted_by s.timer r d served v)
   unfolding posted_by sbes.ruling_asks settled carried_says kept done
-  by_ruling (Decline primary secondary) = λ h. record { rung_is = refl; timer_is = refl }
+  by_ruling (Decline why) = λ h. record { rung_is = refl; timer_is = refl }
   by_ruling (Grant ch) =
       let e : Edit = record { change = ch; tables = no_tables } in
       cond_cases (λ (q : Said). Alike q served (posted_by s.timer r d served (Grant ch))) (carried_of s e).full (λ f h. absurd (h refl))

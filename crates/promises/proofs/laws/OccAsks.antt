@@ -1,5 +1,5 @@
 -- What each OCC command asks for, with what is known of it where it is accepted. Assumes nothing.
-use Rattle.std.specs.Prelude.{ℕ, ◌*◌, ◌<◌, ◌≤◌, false, not, ◌≡◌, List, eqb, ltb, leb, length, take, drop, replicate, Option, Some, None, Ok, Err}
+use Rattle.std.specs.Prelude.{ℕ, ◌*◌, ◌<◌, ◌≤◌, not, ◌≡◌, List, eqb, ltb, leb, length, take, drop, replicate, Option, Some, None, Ok, Err}
 use Rattle.std.specs.Result.{is_ok}
 use Rattle.packet.specs.Packet.{Checked}
 use Rattle.packet.specs.declared.Status.{Status}

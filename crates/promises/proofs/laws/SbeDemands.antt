@@ -16,9 +16,10 @@ use Rattle.change.specs.Change.{no_tables, kind_of}
 use Rattle.change.specs.declared.Change.{Change}
 use Rattle.change.specs.declared.Change.TheVariants.{SetMask, SetDeadman, SetAreas, SetTimer}
 use Rattle.change.specs.declared.Edit.{Edit}
-use Rattle.sbe.specs.Mailbox.{flags_of, word_at, request_ruling, bell_of, response_bytes}
+use Rattle.sbe.specs.Mailbox.{numbers_of, flags_of, word_at, request_ruling, bell_of, response_bytes}
 use Rattle.sbe.specs.Conditions.{grants, accepts, Names, Changes, Plainly, start_asked, stop_asked, timer_start, timer_stop, areas_asked}
 use Rattle.sbe.specs.Statuses.{Status, RequestStatus}
+use Rattle.sbe.specs.declared.Refusal.{Refusal}
 use Rattle.sbe.specs.declared.Ruling.{Ruling}
 use Rattle.sbe.specs.declared.Ruling.TheVariants.{Decline, Grant, Done, Read}
 use Rattle.sbe.proofs.laws.Exactly.{same_change, deadman_start, deadman_stop, cores_set, timer_started, timer_stopped, areas_set, changes_exactly}
@@ -136,9 +137,9 @@ module _ (s : Session) (r m x : List ℕ) where
   abbrev Asked : Type 0
   Asked = (Changes r and (s.profile ≡ 0)) ⊎ (Plainly r ⊎ Served r m x)
 
-  declined_not : (p q : ℕ) → Ruled (Decline p q) → Asked → ⊥
+  declined_not : (why : Refusal) → Ruled (Decline why) → Asked → ⊥
   unfolding accepts grants
-  declined_not p q e =
+  declined_not why e =
       ⊎_elim (λ c. false≢true (sym (ap grants e) ∙ changes_granted s r m x c.0 c.1)) (λ b. false≢true (sym (ap accepts e) ∙ ap accepts ((plain_exactly s r m x).1 b)))
 
   changed_not : (ch : Change) → Ruled (Grant ch) → (Plainly r ⊎ Served r m x) → ⊥
@@ -146,14 +147,14 @@ module _ (s : Session) (r m x : List ℕ) where
   changed_not ch e a = true≢false (sym (ap grants e) ∙ ap grants ((plain_exactly s r m x).1 a))
 
   -- a status is told by one ruling alone
-  same_refusal : (a b p q : ℕ) → Decline a b ≡ Decline p q → (a ≡ p) × (b ≡ q)
-  same_refusal a b p q e = (cc, cc)
+  same_refusal : (x y : Refusal) → Decline x ≡ Decline y → x ≡ y
+  same_refusal x y e = cc
 
-  declined_small : (p q : ℕ) → Ruled (Decline p q) → Small r (p, q)
-  declined_small p q e = status_small r s m x (p, q) ((status_ruled s r m x (p, q)).0 e)
+  declined_small : (why : Refusal) → Ruled (Decline why) → Small r (numbers_of why)
+  declined_small why e = status_small r s m x (numbers_of why) ((status_ruled s r m x (numbers_of why)).0 (why, e, refl))
 
   status_never : (p q : ℕ) → SbeStatus s r m x (p, q) → Asked → ⊥
-  status_never p q t = declined_not p q ((status_ruled s r m x (p, q)).1 t)
+  status_never p q t = let h = (status_ruled s r m x (p, q)).1 t in declined_not h.0 h.1
 
   pub is_asked : (ch : Change) → Ruled (Grant ch) → Changes r and (s.profile ≡ 0)
   is_asked ch e = let g = change_granted s r m x ch e in (granted r ch g.0, g.1)
@@ -162,7 +163,7 @@ module _ (s : Session) (typed : TypedSession s) (r d m x : List ℕ) where
   -- ---- the ways
 
   pub data Heard : Said → Deed → Type 0 where
-    declined : (p q : ℕ) → Ruled s r m x (Decline p q) → Heard (done s (bell_of r) 0 (pasted 0 (response_bytes p q r) d)) keeps
+    declined : (why : Refusal) → Ruled s r m x (Decline why) → Heard (done s (bell_of r) 0 (pasted 0 (response_bytes (numbers_of why).0 (numbers_of why).1 r) d)) keeps
     plain : Ruled s r m x Done → Heard (done s (bell_of r) 0 (pasted 0 (response_bytes 0x00 0x00 r) d)) keeps
     no_room_lem : (ch : Change) → Ruled s r m x (Grant ch) → (carried_of s (edit ch)).full ≡ true → Heard (kept 5 s d) keeps
     carried : (ch : Change) → Ruled s r m x (Grant ch) → (carried_of s (edit ch)).full ≡ false
@@ -180,7 +181,7 @@ module _ (s : Session) (typed : TypedSession s) (r d m x : List ℕ) where
   -- a read is judged by now
   heard_ruling : (v : Ruling) → Ruled s r m x v → Settles (ruling_asks r d v)
   unfolding settled deed_by ruling_asks told_of carried_says adding
-  heard_ruling (Decline p q) e = declined p q e
+  heard_ruling (Decline why) e = declined why e
   heard_ruling (Grant ch) e = by_both Heard (carried_of s (edit ch)).full (no_room_lem ch e) (carried ch e)
   heard_ruling Done e = plain e
   heard_ruling (Read offset size) e = absurd (never_read s r m x offset size e)
@@ -208,8 +209,8 @@ module _ (s : Session) (typed : TypedSession s) (r d m x : List ℕ) where
   made_none : (ch : Change) → Ruled s r m x (Grant ch) → (carried_of s (edit ch)).full ≡ true → NoRoom s (sbe_kind r)
   made_none ch v = has_none s typed.journal (edit ch) (sbe_kind r) (kind ch v)
 
-  pub told_apart : (p q : ℕ) → Ruled s r m x (Decline p q) → at_front (response_bytes p q r) d ≡ at_front (response_bytes 0x00 0x00 r) d → ⊥
-  told_apart p q v e = let n = declined_small s r m x p q v in omega (arith, n.some, same_primary r p q 0x00 0x00 d n.primary (omega arith) e)
+  pub told_apart : (why : Refusal) → Ruled s r m x (Decline why) → at_front (response_bytes (numbers_of why).0 (numbers_of why).1 r) d ≡ at_front (response_bytes 0x00 0x00 r) d → ⊥
+  told_apart why v e = let n = declined_small s r m x why v in omega (arith, n.some, same_primary r _ _ 0x00 0x00 d n.primary (omega arith) e)
 
   abbrev Granted : Type 0
   Granted = (Changes r and (s.profile ≡ 0) and HasRoom s (sbe_kind r)) ⊎ (Plainly r ⊎ Served r m x)
@@ -223,8 +224,8 @@ module _ (s : Session) (typed : TypedSession s) (r d m x : List ℕ) where
   success y q e (ill_formed h) = absurd (h y)
   success y q e (short_reply w h) = (λ z. absurd (omega (arith, z.0)), λ z. absurd (not-le_of_lt h z.0))
   success y q e (short_request w l h) = (λ z. absurd (omega (arith, z.0)), λ z. absurd (not-le_of_lt h z.1.0))
-  success y q e (answered p _ _ (declined a b v)) =
-      (λ z. absurd (told_apart a b v (sym (front_is _ d) ∙ z.1)), λ z. absurd (declined_not s r m x a b v (was_asked z.1.1)))
+  success y q e (answered p _ _ (declined why v)) =
+      (λ z. absurd (told_apart why v (sym (front_is _ d) ∙ z.1)), λ z. absurd (declined_not s r m x why v (was_asked z.1.1)))
   success y q e (answered p _ _ (plain v)) = (λ z. (p.reply, (p.request, inr ((plain_exactly s r m x).0 v))), λ z. (refl, front_is _ d))
   success y q e (answered p _ _ (no_room_lem ch v full)) =
       (λ z. absurd (omega (arith, z.0)), λ z. absurd (⊎_elim (λ k. not-le_of_lt (made_none ch v full) k.1.1) (changed_not s r m x ch v) z.1.1))
@@ -250,7 +251,7 @@ module _ (s : Session) (typed : TypedSession s) (r d m x : List ℕ) where
   answer_table q e (answered p y g h) = miss Answers (λ z. z p.formed) (miss Answers (λ z. not-le_of_lt z p.reply) (miss Answers (λ z. not-le_of_lt z p.request) (go y g h)))
     where
       go : (q : Said) (e : Deed) → Heard q e → ByTable Answers q (row 5 (Changes r and (s.profile ≡ 0) and NoRoom s (sbe_kind r)) (is 0))
-      go q e (declined a b v) = miss Answers (λ z. declined_not s r m x a b v (inl (z.0, z.1.0))) (answers _ _ _ _)
+      go q e (declined why v) = miss Answers (λ z. declined_not s r m x why v (inl (z.0, z.1.0))) (answers _ _ _ _)
       go q e (plain v) = miss Answers (λ z. never_changes s r m x v z.0) (answers _ _ _ _)
       go q e (no_room_lem ch v full) = hit Answers (let a = is_asked s r m x ch v in (a.0, (a.1, made_none ch v full))) (answers _ _ _ _)
       go q e (carried ch v fits) = miss Answers (λ z. not-le_of_lt z.1.1 (made_room ch v fits)) (answers _ _ _ _)
@@ -270,14 +271,19 @@ module _ (s : Session) (typed : TypedSession s) (r d m x : List ℕ) where
   status_table y p q j k error u e (ill_formed h) = absurd (h y.formed)
   status_table y p q j k error u e (short_reply w h) = absurd (not-le_of_lt h y.reply)
   status_table y p q j k error u e (short_request w l h) = absurd (not-le_of_lt h y.request)
-  status_table y p q j k error u e (answered _ _ _ (declined a b v)) =
-      let n = declined_small s r m x a b v in (
+  status_table y p q j k error u e (answered _ _ _ (declined why v)) =
+      let a = (numbers_of why).0 in
+      let b = (numbers_of why).1 in
+      let n = declined_small s r m x why v in (
         λ z.
             let g = sym (front_is (response_bytes a b r) d) ∙ ap (λ (o : Said). o.reply) z in
             let f = same_primary r a b p q d n.primary j g in
             let h = same_secondary r a b p q d n.secondary k g in
-            (status_ruled s r m x (p, q)).0 (v ∙ (λ i. Decline (f i) (h i))),
-        λ z. error_is a b p q (same_refusal s r m x a b p q (sym v ∙ (status_ruled s r m x (p, q)).1 z)),
+            (status_ruled s r m x (p, q)).0 (why, v, (λ i. (sym f i, sym h i))),
+        λ z.
+            let h = (status_ruled s r m x (p, q)).1 z in
+            let e = ap numbers_of (same_refusal s r m x why h.0 (sym v ∙ h.1)) ∙ sym h.2 in
+            error_is a b p q (ap (λ (t : Status). t.0) e, ap (λ (t : Status). t.1) e),
       )
   status_table y p q j k error u e (answered _ _ _ (plain v)) = (
     λ z.
@@ -300,7 +306,7 @@ module _ (s : Session) (typed : TypedSession s) (r d m x : List ℕ) where
   called_reply u e (ill_formed h) z = absurd (omega (arith, z))
   called_reply u e (short_reply w h) z = absurd (omega (arith, z))
   called_reply u e (short_request w l h) z = absurd (omega (arith, z))
-  called_reply u e (answered _ _ _ (declined a b v)) z = inr ((a, b), error_is a b a b (refl, refl))
+  called_reply u e (answered _ _ _ (declined why v)) z = inr (numbers_of why, error_is (numbers_of why).0 (numbers_of why).1 (numbers_of why).0 (numbers_of why).1 (refl, refl))
   called_reply u e (answered _ _ _ (plain v)) z = inl (front_is (response_bytes 0x00 0x00 r) d)
   called_reply u e (answered _ _ _ (no_room_lem ch v full)) z = absurd (omega (arith, z))
   called_reply u e (answered _ _ _ (carried ch v fits)) z = inl (front_is (response_bytes 0x00 0x00 r) d)

@@ -1,6 +1,6 @@
 -- Document 02, h, D7 03: a read is judged by the lent image and the second buffer; what the ruling of a call says of its request, and what the second buffer
 -- holds after it. Assumes nothing.
-use Rattle.std.specs.Prelude.{ℕ, ◌+◌, ◌%◌, ◌≤◌, ◌<◌, Bool, ◌↔◌, ◌⊎◌, ◌≡◌, eqb, ltb, length, take, drop}
+use Rattle.std.specs.Prelude.{ℕ, ◌+◌, ◌%◌, ◌≤◌, ◌<◌, Bool, ◌↔◌, ◌⊎◌, ◌≡◌, Ok, Err, eqb, ltb, length, take, drop}
 use Rattle.std.proofs.Math.Bool.{true, false, not, false≢true, true≢false}
 use Rattle.std.proofs.Math.Logic.{inl, inr, ⊎_elim}
 use Rattle.std.proofs.Math.Path.{refl, sym, ap, subst}
@@ -8,17 +8,19 @@ use Rattle.std.proofs.Common.{◌∙◌, arith}
 use mathlib.Core.List.{List}
 use Rattle.std.proofs.Math.Nat.{not-le_of_lt}
 use borrow.Author.Tests.{not-false, not-true, ltb-true, ltb-false, eqb-true, eqb-false}
-use Rattle.wire.specs.Conditions.{◌and◌, is, none, row}
+use Rattle.wire.specs.Conditions.{◌and◌, none, row}
 use Rattle.wire.proofs.laws.Cases.{cond_cases, cond_elim, if_ne, else_b, else_ne, else_lt}
-use Rattle.wire.proofs.laws.Tables.{ByTable, by_none, by_is, hit, miss}
+use Rattle.wire.proofs.laws.Tables.{ByTable, by_none, hit, miss}
 use Rattle.change.specs.declared.Change.{Change}
-use Rattle.sbe.specs.Mailbox.{word_at, request_ruling, response_bytes}
+use Rattle.sbe.specs.Mailbox.{Tested, word_at, request_ruling, response_bytes}
 use Rattle.sbe.specs.Conditions.{grants, accepts, ReadAsked, Changes, Plainly}
 use Rattle.sbe.specs.Statuses.{Status, RequestStatus}
+use Rattle.sbe.specs.declared.Refusal.{Refusal}
+use Rattle.sbe.specs.declared.Refusal.TheVariants.{BufferOverflow, InvalidParameters, AccessDenied}
 use Rattle.sbe.specs.declared.Ruling.{Ruling}
 use Rattle.sbe.specs.declared.Ruling.TheVariants.{Decline, Grant, Done, Read}
 use Rattle.sbe.proofs.laws.Exactly.{changes_exactly, done_exactly, read_exactly, read_asked}
-use Rattle.sbe.proofs.laws.Statuses.{Refuses, request_rows}
+use Rattle.sbe.proofs.laws.Statuses.{Refuses, refuses, request_rows}
 use Rattle.session.specs.Session.{well_formed}
 use Rattle.session.specs.Road.{Asks, due, done, settled}
 use Rattle.session.specs.declared.Session.{Session}
@@ -43,10 +45,10 @@ module _ (image room offset size : ℕ) where
   abbrev Inside : Type 0
   Inside = (offset % 8 ≡ 0) and (size % 8 ≡ 0) and (offset + size ≤ 65536) and (offset + size ≤ image)
 
-  data ReadAs : ℕ → Type 0 where
-    outside : (Inside → ⊥) → ReadAs 0x19
-    too_long_lem : Inside → room < size → ReadAs 0x18
-    fits : Inside → size ≤ room → ReadAs 0x00
+  data ReadAs : Tested → Type 0 where
+    outside : (Inside → ⊥) → ReadAs (Err InvalidParameters)
+    too_long_lem : Inside → room < size → ReadAs (Err BufferOverflow)
+    fits : Inside → size ≤ room → ReadAs (Ok tt)
 
   read_as : ReadAs (read_status image room offset size)
   unfolding read_status
@@ -59,62 +61,62 @@ module _ (image room offset size : ℕ) where
       cond_cases ReadAs (ltb room size) (λ d. too_long_lem inside (ltb-true room size d)) (λ d. fits inside (ltb-false room size d)))))
 
   -- as rows
-  same_status : (q : ℕ) (n : Status) → Decline 0x02 q ≡ Decline n.0 n.1 → n ≡ (0x02, q)
-  same_status q n e = let p : n.0 ≡ 0x02 = cc in let s : n.1 ≡ q = cc in λ i. (p i, s i)
-
-  refuses : (q : ℕ) → ByTable Refuses (Decline 0x02 q) (is (0x02, q))
-  refuses q = by_is Refuses refl (same_status q)
-
   serves : ByTable Refuses Done none
   unfolding accepts
-  serves = by_none Refuses (λ n e. true≢false (ap accepts e))
+  serves = by_none Refuses (λ n e. true≢false (ap accepts e.1))
 
-  read_rows : (n : ℕ) → ReadAs n → ByTable Refuses (read_at n) (row (0x02, 0x19) (Inside → ⊥) (row (0x02, 0x18) (room < size) none))
+  read_rows : (n : Tested) → ReadAs n → ByTable Refuses (read_at n) (row (0x02, 0x19) (Inside → ⊥) (row (0x02, 0x18) (room < size) none))
   unfolding read_at
-  read_rows n (outside h) = hit Refuses h (refuses 0x19)
-  read_rows n (too_long_lem h l) = miss Refuses (λ k. k h) (hit Refuses l (refuses 0x18))
+  read_rows n (outside h) = hit Refuses h (refuses InvalidParameters)
+  read_rows n (too_long_lem h l) = miss Refuses (λ k. k h) (hit Refuses l (refuses BufferOverflow))
   read_rows n (fits h l) = miss Refuses (λ k. k h) (miss Refuses (λ k. not-le_of_lt k l) serves)
 
   -- and served
-  declined_not : (p q : ℕ) → Decline p q ≡ Done → ⊥
+  declined_not : (why : Refusal) → Decline why ≡ Done → ⊥
   unfolding accepts
-  declined_not p q e = false≢true (ap accepts e)
+  declined_not why e = false≢true (ap accepts e)
 
-  read_done : (n : ℕ) → ReadAs n → (read_at n ≡ Done) ↔ (Inside and (size ≤ room))
+  read_done : (n : Tested) → ReadAs n → (read_at n ≡ Done) ↔ (Inside and (size ≤ room))
   unfolding read_at
-  read_done n (outside h) = (λ e. absurd (declined_not _ _ e), λ z. absurd (h z.0))
-  read_done n (too_long_lem h l) = (λ e. absurd (declined_not _ _ e), λ z. absurd (not-le_of_lt l z.1))
+  read_done n (outside h) = (λ e. absurd (declined_not _ e), λ z. absurd (h z.0))
+  read_done n (too_long_lem h l) = (λ e. absurd (declined_not _ e), λ z. absurd (not-le_of_lt l z.1))
   read_done n (fits h l) = (λ e. (h, l), λ z. refl)
 
-  read_served : (n : ℕ) → ReadAs n → Inside and (size ≤ room) → n ≡ 0
+  read_served : (n : Tested) → ReadAs n → Inside and (size ≤ room) → n ≡ Ok tt
   read_served n (outside h) z = absurd (h z.0)
   read_served n (too_long_lem h l) z = absurd (not-le_of_lt l z.1)
   read_served n (fits h l) z = refl
 
-never_grants : (status : ℕ) → grants (read_at status) ≡ false
+never_grants : (status : Tested) → grants (read_at status) ≡ false
 unfolding read_at grants
-never_grants status = cond_elim (λ (v : Ruling). grants v ≡ false) (not (eqb status 0)) refl refl
+never_grants (Err why) = refl
+never_grants (Ok x) = refl
 
 abbrev is_read : Ruling → Bool
-is_read (Decline p q) = false
+is_read (Decline why) = false
 is_read (Grant ch) = false
 is_read Done = false
 is_read (Read offset size) = true
 
+at_read : (status : Tested) → is_read (read_at status) ≡ false
+unfolding read_at
+at_read (Err why) = refl
+at_read (Ok x) = refl
+
 judged_read : (image room : ℕ) (v : Ruling) → is_read (judged_for image room v) ≡ false
-unfolding judged_for read_at
-judged_read image room (Decline p q) = refl
+unfolding judged_for
+judged_read image room (Decline why) = refl
 judged_read image room (Grant ch) = refl
 judged_read image room Done = refl
-judged_read image room (Read offset size) = cond_elim (λ (v : Ruling). is_read v ≡ false) (not (eqb (read_status image room offset size) 0)) refl refl
+judged_read image room (Read offset size) = at_read (read_status image room offset size)
 
 -- ---- the ruling of a call
 
 module _ (r m x : List ℕ) where
-  abbrev status : ℕ
+  abbrev status : Tested
   status = read_status (length m) (length x) (word_at 8 r) (word_at 12 r)
 
-  abbrev ReadIs : ℕ → Type 0
+  abbrev ReadIs : Tested → Type 0
   ReadIs = ReadAs (length m) (length x) (word_at 8 r) (word_at 12 r)
 
   status_is : ReadIs status
@@ -126,7 +128,7 @@ module _ (r m x : List ℕ) where
   by_request P f g = go (request_ruling r) refl
     where
       go : (v : Ruling) → request_ruling r ≡ v → P (judged_for (length m) (length x) v)
-      go (Decline p q) e = f (Decline p q) e
+      go (Decline why) e = f (Decline why) e
       go (Grant ch) e = f (Grant ch) e
       go Done e = f Done e
       go (Read offset size) e =
@@ -154,12 +156,13 @@ module _ (r m x : List ℕ) where
   abbrev OwnStatus : Status → Type 0
   OwnStatus n = RequestStatus r n ⊎ (ReadAsked r and ReadStatus r m x n)
 
-  own_ruled : (n : Status) → (sbe_ruling r m x ≡ Decline n.0 n.1) ↔ OwnStatus n
+  own_ruled : (n : Status) → Refuses (sbe_ruling r m x) n ↔ OwnStatus n
   unfolding ReadStatus sbe_ruling judged_for
   own_ruled n =
       let rows = read_rows _ _ _ _ status status_is in (
-        by_request (λ (v : Ruling). v ≡ Decline n.0 n.1 → OwnStatus n) (λ v e h. inl (((request_rows r).exactly n).0 (e ∙ h))) (λ a h. inr (a, (rows.exactly n).0 h)),
-        ⊎_elim (λ t. ap (judged_for (length m) (length x)) (((request_rows r).exactly n).1 t)) (λ t. read_ruled t.0 ∙ (rows.exactly n).1 t.1),
+        by_request (λ (v : Ruling). Refuses v n → OwnStatus n) (λ v e h. inl (((request_rows r).exactly n).0 (h.0, e ∙ h.1, h.2))) (λ a h. inr (a, (rows.exactly n).0 h)),
+        ⊎_elim (λ t. let h = ((request_rows r).exactly n).1 t in (h.0, ap (judged_for (length m) (length x)) h.1, h.2))
+            (λ t. let h = (rows.exactly n).1 t.1 in (h.0, read_ruled t.0 ∙ h.1, h.2)),
       )
 
   -- a request that makes a change is no read
@@ -176,16 +179,16 @@ module _ (r m x : List ℕ) where
 
 -- ---- by the profile (k): what would make an entry is refused with 05/20, and nothing else differs
 
-denied_change : (v : Ruling) → grants v ≡ true → denied v ≡ Decline 0x05 0x20
+denied_change : (v : Ruling) → grants v ≡ true → denied v ≡ Decline AccessDenied
 unfolding denied grants
-denied_change (Decline p q) g = absurd (false≢true g)
+denied_change (Decline why) g = absurd (false≢true g)
 denied_change (Grant ch) g = refl
 denied_change Done g = absurd (false≢true g)
 denied_change (Read offset size) g = absurd (false≢true g)
 
 denied_same : (v : Ruling) → grants v ≡ false → denied v ≡ v
 unfolding denied grants
-denied_same (Decline p q) g = refl
+denied_same (Decline why) g = refl
 denied_same (Grant ch) g = absurd (true≢false g)
 denied_same Done g = refl
 denied_same (Read offset size) g = refl
@@ -202,7 +205,7 @@ module _ (s : Session) (r m x : List ℕ) where
 
   -- it is the one that was judged, in a full session or where nothing is granted; else 05/20
   by_profile_lem : (P : Ruling → Type 0) → ((s.profile ≡ 0) ⊎ (grants (sbe_ruling r m x) ≡ false) → P (sbe_ruling r m x))
-      → ((s.profile ≡ 0 → ⊥) → grants (sbe_ruling r m x) ≡ true → P (Decline 0x05 0x20)) → P ruling
+      → ((s.profile ≡ 0 → ⊥) → grants (sbe_ruling r m x) ≡ true → P (Decline AccessDenied)) → P ruling
   unfolding by_profile
   by_profile_lem P same other =
       cond_cases P (eqb s.profile 0) (λ t. same (inl (eqb-true s.profile 0 t)))
@@ -243,32 +246,26 @@ module _ (s : Session) (r m x : List ℕ) where
   -- the statuses
   granted_changes : (v : Ruling) → sbe_ruling r m x ≡ v → grants v ≡ true → Changes r
   unfolding grants
-  granted_changes (Decline p q) e g = absurd (false≢true g)
+  granted_changes (Decline why) e g = absurd (false≢true g)
   granted_changes (Grant ch) e g = (changes_exactly r).0 (ap grants (change_ruled r m x ch e))
   granted_changes Done e g = absurd (false≢true g)
   granted_changes (Read offset size) e g = absurd (false≢true g)
 
-  five_twenty : (n : Status) → Decline 0x05 0x20 ≡ Decline n.0 n.1 → n ≡ (0x05, 0x20)
-  five_twenty n e = let p : n.0 ≡ 0x05 = cc in let q : n.1 ≡ 0x20 = cc in λ i. (p i, q i)
-
-  five_is : (n : Status) → n ≡ (0x05, 0x20) → Decline 0x05 0x20 ≡ Decline n.0 n.1
-  five_is n e = sym (ap (λ (k : Status). Decline k.0 k.1) e)
-
-  own_stays : (n : Status) → OwnStatus r m x n → ruling ≡ Decline n.0 n.1
+  own_stays : (n : Status) → OwnStatus r m x n → Refuses ruling n
   unfolding grants
-  own_stays n t = let e = (own_ruled r m x n).1 t in stays s.profile (sbe_ruling r m x) (ap grants e) ∙ e
+  own_stays n t = let e = (own_ruled r m x n).1 t in (e.0, stays s.profile (sbe_ruling r m x) (ap grants e.1) ∙ e.1, e.2)
 
-  watch_refuses : (s.profile ≡ 0 → ⊥) → Changes r → ruling ≡ Decline 0x05 0x20
+  watch_refuses : (s.profile ≡ 0 → ⊥) → Changes r → ruling ≡ Decline AccessDenied
   watch_refuses z c =
-      by_profile_lem (λ (v : Ruling). v ≡ Decline 0x05 0x20) (⊎_elim (λ full. absurd (z full)) (λ g. absurd (true≢false (sym (changes_ruled r m x c) ∙ g)))) (λ y g. refl)
+      by_profile_lem (λ (v : Ruling). v ≡ Decline AccessDenied) (⊎_elim (λ full. absurd (z full)) (λ g. absurd (true≢false (sym (changes_ruled r m x c) ∙ g)))) (λ y g. refl)
 
-  pub status_ruled : (n : Status) → (ruling ≡ Decline n.0 n.1) ↔ SbeStatus s r m x n
+  pub status_ruled : (n : Status) → Refuses ruling n ↔ SbeStatus s r m x n
   unfolding SbeStatus
   status_ruled n = (
-    by_profile_lem (λ (v : Ruling). v ≡ Decline n.0 n.1 → SbeStatus s r m x n) (λ p e. ⊎_elim (λ t. inl t) (λ t. inr (inl t)) ((own_ruled r m x n).0 e))
-        (λ z g e. inr (inr (z, (granted_changes (sbe_ruling r m x) refl g, five_twenty n e)))),
+    by_profile_lem (λ (v : Ruling). Refuses v n → SbeStatus s r m x n) (λ p e. ⊎_elim (λ t. inl t) (λ t. inr (inl t)) ((own_ruled r m x n).0 e))
+        (λ z g e. inr (inr (z, (granted_changes (sbe_ruling r m x) refl g, ((refuses AccessDenied).exactly n).0 e)))),
     ⊎_elim (λ t. own_stays n (inl t))
-        (⊎_elim (λ t. own_stays n (inr t)) (λ t. watch_refuses t.0 t.1.0 ∙ five_is n t.1.1)),
+        (⊎_elim (λ t. own_stays n (inr t)) (λ t. (AccessDenied, watch_refuses t.0 t.1.0, t.1.1))),
   )
 
 -- ---- the second buffer
@@ -300,11 +297,11 @@ module _ (s : Session) (r d : List ℕ) where
     data_served y h =
         sym (else_ne _ _ (none_refused y) refl)
         ∙ ap (λ (v : Ruling). served_by v m x) (read_asked r h.0)
-        ∙ sym (else_ne _ _ (read_served _ _ _ _ (status r m x) (status_is r m x) h.1) refl)
+        ∙ ap (λ (n : Tested). served_at n (word_at 8 r) (word_at 12 r) m x) (read_served _ _ _ _ (status r m x) (status_is r m x) h.1)
         ∙ front_is (take (word_at 12 r) (drop (word_at 8 r) m)) x
 
     -- by every other call it is kept
-    read_kept : (n : ℕ) → ReadIs r m x n → (InImage r m and (word_at 12 r ≤ length x) → ⊥) → served_at n (word_at 8 r) (word_at 12 r) m x ≡ x
+    read_kept : (n : Tested) → ReadIs r m x n → (InImage r m and (word_at 12 r ≤ length x) → ⊥) → served_at n (word_at 8 r) (word_at 12 r) m x ≡ x
     unfolding served_at
     read_kept n (outside h) z = refl
     read_kept n (too_long_lem h l) z = refl
@@ -312,7 +309,7 @@ module _ (s : Session) (r d : List ℕ) where
 
     request_kept : (v : Ruling) → request_ruling r ≡ v → (Served r m x → ⊥) → served_by v m x ≡ x
     unfolding served_by
-    request_kept (Decline p q) e z = refl
+    request_kept (Decline why) e z = refl
     request_kept (Grant ch) e z = refl
     request_kept Done e z = refl
     request_kept (Read offset size) e z =

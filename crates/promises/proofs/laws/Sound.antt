@@ -1,6 +1,6 @@
 -- What is known of what a call asks of a well-formed session: a change is one that can be undone, an entry is its store's newest and can be put in.
 -- Assumes nothing.
-use Rattle.std.specs.Prelude.{ℕ, Bool, true, false, not, ◌⊎◌, ◌≡◌, refl, List, eqb, ltb, length, get_or}
+use Rattle.std.specs.Prelude.{ℕ, Bool, true, false, not, ◌⊎◌, ◌≡◌, refl, Ok, Err, List, eqb, ltb, length, get_or}
 use Rattle.std.proofs.Math.Logic.{inl}
 use Rattle.std.proofs.Common.{inr, eqb-true}
 use Rattle.std.proofs.lemmas.Bool.{eqb-false}
@@ -16,7 +16,7 @@ use Rattle.occ.proofs.laws.Open.{made_open, open_clears}
 use Rattle.occ.specs.declared.Judged.{Judged}
 use Rattle.occ.specs.declared.Verdict.{Verdict}
 use Rattle.occ.specs.declared.Verdict.TheVariants.{Refuse, Poll, Make}
-use Rattle.sbe.specs.Mailbox.{request_ruling}
+use Rattle.sbe.specs.Mailbox.{Tested, request_ruling}
 use Rattle.sbe.specs.declared.Ruling.{Ruling}
 use Rattle.sbe.specs.declared.Ruling.TheVariants.{Decline, Grant, Done, Read}
 use Rattle.session.specs.Road.{Asks, refuses, tells, makes, moves, forgets, passes, opens}
@@ -81,12 +81,15 @@ module _ (s : Session) where
 
     ruling_sound : (image room : ℕ) (v : Ruling) → request_ruling r ≡ v → Ruled (sbes.by_profile s.profile (judged_for image room v))
     unfolding ruling_asks judged_for read_at sbes.by_profile denied
-    ruling_sound image room (Decline primary secondary) e = cond_elim Ruled (eqb s.profile 0) tt tt
+    ruling_sound image room (Decline why) e = cond_elim Ruled (eqb s.profile 0) tt tt
     ruling_sound image room (Grant ch) e = cond_cases Ruled (eqb s.profile 0) (λ t. (sbe_made s.held s.next r bytes ch e, inl (eqb-true s.profile 0 t))) (λ t. tt)
     ruling_sound image room Done e = cond_elim Ruled (eqb s.profile 0) tt tt
     ruling_sound image room (Read offset size) e =
-        cond_elim (λ (v : Ruling). Ruled (sbes.by_profile s.profile v)) (not (eqb (read_status image room offset size) 0)) (cond_elim Ruled (eqb s.profile 0) tt tt)
-        (cond_elim Ruled (eqb s.profile 0) tt tt)
+        read_sound (read_status image room offset size)
+      where
+        read_sound : (status : Tested) → Ruled (sbes.by_profile s.profile (read_at status))
+        read_sound (Err why) = cond_elim Ruled (eqb s.profile 0) tt tt
+        read_sound (Ok x) = cond_elim Ruled (eqb s.profile 0) tt tt
 
     pub sbe_sound : (m x : List ℕ) → Sound (sbe_asks s r d m x)
     unfolding sbe_asks sbe_read sbe_ruling

@@ -100,7 +100,7 @@ module _ (s : Session) (on : s.profile ≡ 1) where
   module _ (r d : List ℕ) where
     denied_clears : (v : Ruling) → Clearing s (sbes.ruling_asks r d (sbes.denied v))
     unfolding sbes.ruling_asks sbes.denied
-    denied_clears (Decline primary secondary) = tt
+    denied_clears (Decline why) = tt
     denied_clears (Grant ch) = tt
     denied_clears Done = tt
     denied_clears (Read offset size) = tt

@@ -1,29 +1,34 @@
 use native.Mathlib.Omega.{arith}
 use Rattle.wire.proofs.laws.Wire.{bytes_of}
-use Rattle.saving.proofs.Calls.{base_short, base_over, base_broken, base_whole, base_image_long, base_ill, base_formed, base_found}
-use Rattle.wire.proofs.laws.Pairs.{first_of_two, second_of_two}
+use Rattle.saving.proofs.Calls.{base_short, base_over, base_broken, base_whole, base_shut, base_found}
 use Rattle.saving.proofs.read_base.Goals as goal
 
 pub returns-then-b-lt-BASE_HEAD : goal.returns-then-b-lt-BASE_HEAD
-returns-then-b-lt-BASE_HEAD c = record { value = first_of_two (base_short c.args.b.now c.args.d.now c.if-b-lt-BASE_HEAD.true); d_after = second_of_two (base_short c.args.b.now c.args.d.now c.if-b-lt-BASE_HEAD.true) }
+returns-then-b-lt-BASE_HEAD c = let f = base_short c.args.b.now c.args.d.now c.if-b-lt-BASE_HEAD.true in record { value = f.0; d_after = f.1 }
 
 pub returns-then-b-gt-BASE_MOST : goal.returns-then-b-gt-BASE_MOST
-returns-then-b-gt-BASE_MOST c = record { value = first_of_two (base_over c.args.b.now c.args.d.now c.if-b-lt-BASE_HEAD.false c.if-b-gt-BASE_MOST.true); d_after = second_of_two (base_over c.args.b.now c.args.d.now c.if-b-lt-BASE_HEAD.false c.if-b-gt-BASE_MOST.true) }
+returns-then-b-gt-BASE_MOST c =
+    let f = base_over c.args.b.now c.args.d.now c.if-b-lt-BASE_HEAD.false c.if-b-gt-BASE_MOST.true in record { value = f.0; d_after = f.1 }
 
 pub returns-then-used_in-b : goal.returns-then-used_in-b
-returns-then-used_in-b c = record { value = first_of_two (base_broken c.args.b.now c.if-b-lt-BASE_HEAD.false c.if-b-gt-BASE_MOST.false _ c.used_in.ensures.0 c.args.d.now c.if-used_in-b.true); d_after = second_of_two (base_broken c.args.b.now c.if-b-lt-BASE_HEAD.false c.if-b-gt-BASE_MOST.false _ c.used_in.ensures.0 c.args.d.now c.if-used_in-b.true) }
+returns-then-used_in-b c =
+    let f = base_broken c.args.b.now c.if-b-lt-BASE_HEAD.false c.if-b-gt-BASE_MOST.false _ c.used_in.ensures.0 c.args.d.now c.if-used_in-b.true in
+    record { value = f.0; d_after = f.1 }
 
-pub session_of_base-s-requires : goal.session_of_base-s-requires
-session_of_base-s-requires c = (c.if-b-lt-BASE_HEAD.false, c.if-b-gt-BASE_MOST.false, base_whole c.args.b.now c.if-b-lt-BASE_HEAD.false c.if-b-gt-BASE_MOST.false _ c.used_in.ensures.0 c.if-used_in-b.false)
+pub session_of_base-requires : goal.session_of_base-requires
+session_of_base-requires c = (c.if-b-lt-BASE_HEAD.false, c.if-b-gt-BASE_MOST.false, base_whole c.args.b.now c.if-b-lt-BASE_HEAD.false c.if-b-gt-BASE_MOST.false _ c.used_in.ensures.0 c.if-used_in-b.false)
 
-pub well_formed-requires : goal.well_formed-requires
-well_formed-requires c = base_image_long c.args.b.now c.if-b-lt-BASE_HEAD.false c.if-b-gt-BASE_MOST.false (bytes_of c.args.b.now (λ i. omega (arith, c.shared_slice_known-1.given i))) _ _ c.requires _ c.session_of_base-s.ensures c.write.ensures
-
-pub returns-then-not-well_formed : goal.returns-then-not-well_formed
-returns-then-not-well_formed c = record { value = first_of_two (base_ill c.args.b.now c.if-b-lt-BASE_HEAD.false c.if-b-gt-BASE_MOST.false (bytes_of c.args.b.now (λ i. omega (arith, c.shared_slice_known-1.given i))) _ _ c.requires _ c.session_of_base-s.ensures c.write.ensures _ c.read_head-h.ensures.value _ c.well_formed-2.ensures c.if-not-well_formed.true-raw); d_after = second_of_two (base_ill c.args.b.now c.if-b-lt-BASE_HEAD.false c.if-b-gt-BASE_MOST.false (bytes_of c.args.b.now (λ i. omega (arith, c.shared_slice_known-1.given i))) _ _ c.requires _ c.session_of_base-s.ensures c.write.ensures _ c.read_head-h.ensures.value _ c.well_formed-2.ensures c.if-not-well_formed.true-raw) }
+pub returns-in_default : goal.returns-in_default
+returns-in_default c =
+    let bytes = bytes_of c.args.b.now (λ i. omega (arith, c.shared_slice_known-1.given i)) in
+    let f = base_shut c.args.b.now c.if-b-lt-BASE_HEAD.false c.if-b-gt-BASE_MOST.false bytes _ _ c.requires _ c.session_of_base.ensures c.write.ensures c.in_default.ensures in
+    record { value = f.0; d_after = f.1 }
 
 pub holds_base-requires : goal.holds_base-requires
-holds_base-requires c = (base_image_long c.args.b.now c.if-b-lt-BASE_HEAD.false c.if-b-gt-BASE_MOST.false (bytes_of c.args.b.now (λ i. omega (arith, c.shared_slice_known-1.given i))) _ _ c.requires _ c.session_of_base-s.ensures c.write.ensures, c.read_head-h.ensures.value, base_formed c.args.b.now c.if-b-lt-BASE_HEAD.false c.if-b-gt-BASE_MOST.false (bytes_of c.args.b.now (λ i. omega (arith, c.shared_slice_known-1.given i))) _ _ c.requires _ c.session_of_base-s.ensures c.write.ensures _ c.read_head-h.ensures.value _ c.well_formed-2.ensures c.if-not-well_formed.false-raw)
+holds_base-requires c = let o = c.in-Some.ensures in (o.long, o.read, o.formed)
 
 pub returns : goal.returns
-returns c = record { value = first_of_two (base_found c.args.b.now c.if-b-lt-BASE_HEAD.false c.if-b-gt-BASE_MOST.false (bytes_of c.args.b.now (λ i. omega (arith, c.shared_slice_known-1.given i))) _ _ c.requires _ c.session_of_base-s.ensures c.write.ensures _ c.read_head-h.ensures.value _ c.well_formed-2.ensures c.if-not-well_formed.false-raw _ c.holds_base.ensures); d_after = second_of_two (base_found c.args.b.now c.if-b-lt-BASE_HEAD.false c.if-b-gt-BASE_MOST.false (bytes_of c.args.b.now (λ i. omega (arith, c.shared_slice_known-1.given i))) _ _ c.requires _ c.session_of_base-s.ensures c.write.ensures _ c.read_head-h.ensures.value _ c.well_formed-2.ensures c.if-not-well_formed.false-raw _ c.holds_base.ensures) }
+returns c =
+    let bytes = bytes_of c.args.b.now (λ i. omega (arith, c.shared_slice_known-1.given i)) in
+    let f = base_found c.args.b.now c.if-b-lt-BASE_HEAD.false c.if-b-gt-BASE_MOST.false bytes _ _ c.requires _ c.session_of_base.ensures c.write.ensures _ c.in-Some.ensures _ c.holds_base.ensures in
+    record { value = f.0; d_after = f.1 }

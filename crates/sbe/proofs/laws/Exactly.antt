@@ -1,6 +1,6 @@
 -- Document 01, "SBE mailbox", and document 02, h: a request is accepted exactly when it is one of the commands with the flags and values named
 -- for it. Assumes nothing.
-use Rattle.std.specs.Prelude.{ℕ, ◌+◌, ◌%◌, ◌^◌, ◌<◌, Bool, true, false, cond, ◌⊎◌, ◌↔◌, ◌≡◌, List, [], ◌∷◌, ltb, leb, eqb, get_or}
+use Rattle.std.specs.Prelude.{ℕ, ◌+◌, ◌%◌, ◌^◌, ◌<◌, Bool, true, false, cond, ◌⊎◌, ◌↔◌, ◌≡◌, Ok, Err, List, [], ◌∷◌, ltb, leb, eqb, get_or}
 use Rattle.std.proofs.Math.Bool.{not}
 use Rattle.std.proofs.lemmas.Bool.{false≢true}
 use Rattle.std.proofs.Common.{true≢false, subst, ◌∙◌, arith, not-le_of_lt, lit<}
@@ -12,9 +12,11 @@ use Rattle.wire.proofs.laws.Chains.{holds, or_else, or_case, last_case}
 use Rattle.change.specs.declared.Change.{Change}
 use Rattle.change.specs.declared.Change.TheVariants.{SetMask, SetDeadman, SetAreas, SetTimer}
 use Rattle.formed.specs.Formed.{multiple_of128, in_memory}
+use Rattle.sbe.specs.declared.Refusal.{Refusal}
+use Rattle.sbe.specs.declared.Refusal.TheVariants.{ClassNotSupported, CommandNotSupported, InvalidTarget, InvalidChiplet, InvalidParameters}
 use Rattle.sbe.specs.declared.Ruling.{Ruling}
 use Rattle.sbe.specs.declared.Ruling.TheVariants.{Decline, Grant, Done, Read}
-use Rattle.sbe.specs.Mailbox.{flags_of, word_at, register_at, plain_flags, start_or_stop, deadman_of, exit_of, cores_of, target_of, chiplet_of, chiplet_ranges, within, in_ranges, chiplet_known, ring_at, ring_of, timer_of, seeprom_of, area_status, areas_at, areas_of, core_state, ring_class, timer_class, general, request_for, request_ruling}
+use Rattle.sbe.specs.Mailbox.{Tested, if_fine, areas_read, areas_judged, flags_of, word_at, register_at, plain_flags, start_or_stop, deadman_of, exit_of, cores_of, target_of, chiplet_of, chiplet_ranges, within, in_ranges, chiplet_known, ring_at, ring_of, timer_of, seeprom_of, area_status, areas_of, core_state, ring_class, timer_class, general, request_for, request_ruling}
 use Rattle.sbe.specs.Conditions.{grants, Plain, AreaFine, Within, ChipletNamed, Names, ExitAsked, CoresAsked, RingAsked, ReadAsked, AreasAsked, Changes, Plainly, start_asked, stop_asked, timer_start, timer_stop, areas_asked}
 
 -- a ruling grants one change
@@ -75,30 +77,35 @@ known_exactly target chiplet =
 
 -- ---- an area's status
 
-passed : (t : Bool) (m n : ℕ) → (m ≡ 0 → ⊥) → cond t m n ≡ 0 → (t ≡ false) × (n ≡ 0)
-passed true m n h e = absurd (h e)
-passed false m n h e = (refl, e)
+is_fine : Tested → Bool
+is_fine (Err why) = false
+is_fine (Ok x) = true
 
-either_fine : (t : Bool) (n : ℕ) → cond t 0x00 n ≡ 0 → (t ≡ true) ⊎ (n ≡ 0)
+passed : (t : Bool) (why : Refusal) (n : Tested) → cond t (Err why) n ≡ Ok tt → (t ≡ false) × (n ≡ Ok tt)
+unfolding is_fine
+passed true why n e = absurd (false≢true (ap is_fine e))
+passed false why n e = (refl, e)
+
+either_fine : (t : Bool) (n : Tested) → cond t (Ok tt) n ≡ Ok tt → (t ≡ true) ⊎ (n ≡ Ok tt)
 either_fine true n h = inl refl
 either_fine false n h = inr h
 
 module _ (address size : ℕ) where
-  fine_status : AreaFine address size → area_status address size ≡ 0
+  fine_status : AreaFine address size → area_status address size ≡ Ok tt
   unfolding area_status multiple_of128 in_memory
   fine_status (inl z) = sym (if_eq _ _ z refl)
   fine_status (inr h) =
-      cond_elim (λ (n : ℕ). n ≡ 0) (eqb size 0) refl
+      cond_elim (λ (n : Tested). n ≡ Ok tt) (eqb size 0) refl
       (sym (else_ne _ _ h.0 (else_b _ _ (ap not (le-leb (address + size) (2 ^ 64) h.1)) (else_ne _ _ h.2 refl))))
 
-  status_fine : area_status address size ≡ 0 → AreaFine address size
+  status_fine : area_status address size ≡ Ok tt → AreaFine address size
   unfolding area_status multiple_of128 in_memory
   status_fine h =
       ⊎_elim (λ z. inl (eqb-true size 0 z))
       (λ tests.
-      let a = passed (not (multiple_of128 address)) 0x03 _ (λ z. omega arith) tests in
-      let b = passed (not (in_memory address size)) 0x03 _ (λ z. omega arith) a.1 in
-      let d = passed (not (multiple_of128 size)) 0x19 _ (λ z. omega arith) b.1 in
+      let a = passed (not (multiple_of128 address)) _ _ tests in
+      let b = passed (not (in_memory address size)) _ _ a.1 in
+      let d = passed (not (multiple_of128 size)) _ _ b.1 in
       inr (eqb-true (address % 128) 0 (not-false _ a.0), leb-true (address + size) (2 ^ 64) (not-false _ b.0), eqb-true (size % 128) 0 (not-false _ d.0)))
       (either_fine (eqb size 0) _ h)
 
@@ -106,7 +113,7 @@ module _ (address size : ℕ) where
 
 module _ (r : List ℕ) where
   pub data Ruled : Ruling → Type 0 where
-    refused : (primary secondary : ℕ) → Ruled (Decline primary secondary)
+    refused : (why : Refusal) → Ruled (Decline why)
     starts : Names 0xD1 0x01 r → flags_of r < 0x0400 → flags_of r % 0x0100 ≡ 0x01 → Ruled (Grant (SetDeadman (start_asked r)))
     stops : Names 0xD1 0x01 r → flags_of r < 0x0400 → flags_of r % 0x0100 ≡ 0x02 → Ruled (Grant (SetDeadman stop_asked))
     exits : ExitAsked r → Ruled Done
@@ -123,21 +130,21 @@ module _ (r : List ℕ) where
   unfolding start_or_stop
   two_flags start stop f g =
       let asked = flags_of r % 0x0100 in
-      cond_cases Ruled (leb 0x0400 (flags_of r)) (λ t. refused 0x02 0x19)
+      cond_cases Ruled (leb 0x0400 (flags_of r)) (λ t. refused InvalidParameters)
       (λ t. let low = leb-false 0x0400 (flags_of r) t in
       cond_cases Ruled (eqb asked 0x01) (λ a. f low (eqb-true asked 0x01 a))
-      (λ a. cond_cases Ruled (eqb asked 0x02) (λ b. g low (eqb-true asked 0x02 b)) (λ b. refused 0x02 0x19)))
+      (λ a. cond_cases Ruled (eqb asked 0x02) (λ b. g low (eqb-true asked 0x02 b)) (λ b. refused InvalidParameters)))
 
-  no_flags : (v : Ruling) → (Plain (flags_of r) → Ruled v) → Ruled (cond (not (plain_flags (flags_of r))) (Decline 0x02 0x19) v)
+  no_flags : (v : Ruling) → (Plain (flags_of r) → Ruled v) → Ruled (cond (not (plain_flags (flags_of r))) (Decline InvalidParameters) v)
   no_flags v f =
-      cond_cases Ruled (not (plain_flags (flags_of r))) (λ t. refused 0x02 0x19) (λ t. f ((plain_exactly (flags_of r)).0 (not-false _ t)))
+      cond_cases Ruled (not (plain_flags (flags_of r))) (λ t. refused InvalidParameters) (λ t. f ((plain_exactly (flags_of r)).0 (not-false _ t)))
 
   ring_ruled : Names 0xD3 0x01 r → Ruled (ring_of r)
   unfolding ring_of ring_at
   ring_ruled n =
       no_flags _ (λ plain.
-      cond_cases Ruled (ltb 4 (target_of r)) (λ t. refused 0x02 0x04)
-      (λ t. cond_cases Ruled (not (chiplet_known (target_of r) (chiplet_of r))) (λ k. refused 0x02 0x05)
+      cond_cases Ruled (ltb 4 (target_of r)) (λ t. refused InvalidTarget)
+      (λ t. cond_cases Ruled (not (chiplet_known (target_of r) (chiplet_of r))) (λ k. refused InvalidChiplet)
       (λ k. rings (record {
         names = n;
         flags = plain;
@@ -146,19 +153,14 @@ module _ (r : List ℕ) where
       }))))
 
   areas_ruled : Names 0xD7 0x04 r → Ruled (areas_of r)
-  unfolding areas_of areas_at
-  areas_ruled n =
-      let first = area_status (register_at 16 r) (word_at 8 r) in
-      let second = area_status (register_at 24 r) (word_at 12 r) in
-      no_flags _ (λ plain.
-      cond_cases Ruled (not (eqb first 0)) (λ t. refused 0x02 first)
-      (λ t. cond_cases Ruled (not (eqb second 0)) (λ k. refused 0x02 second)
-      (λ k. sets_areas (record {
-        names = n;
-        flags = plain;
-        ffdc = status_fine _ _ (eqb-true first 0 (not-false _ t));
-        pass = status_fine _ _ (eqb-true second 0 (not-false _ k));
-      }))))
+  unfolding areas_of areas_read areas_judged if_fine
+  areas_ruled n = no_flags _ (λ plain. go plain _ refl _ refl)
+    where
+      go : Plain (flags_of r) → (a : Tested) → area_status (register_at 16 r) (word_at 8 r) ≡ a → (b : Tested) → area_status (register_at 24 r) (word_at 12 r) ≡ b
+          → Ruled (areas_judged (if_fine a (if_fine b (Ok (areas_asked r)))))
+      go plain (Err why) p b q = refused why
+      go plain (Ok x) p (Err why) q = refused why
+      go plain (Ok x) p (Ok y) q = sets_areas (record { names = n; flags = plain; ffdc = status_fine _ _ p; pass = status_fine _ _ q })
 
   abbrev class : ℕ
   class = get_or r 6 0
@@ -170,8 +172,8 @@ module _ (r : List ℕ) where
   by_command : (k : ℕ) (v w : Ruling) → (command ≡ k → Ruled v) → Ruled w → Ruled (cond (eqb command k) v w)
   by_command k v w f p = cond_cases Ruled (eqb command k) (λ t. f (eqb-true command k t)) (λ t. p)
 
-  unknown : Ruled (Decline 0x01 0x02)
-  unknown = refused 0x01 0x02
+  unknown : Ruled (Decline CommandNotSupported)
+  unknown = refused CommandNotSupported
 
   core_ruled : class ≡ 0xD1 → Ruled (core_state command r)
   unfolding core_state deadman_of exit_of cores_of
@@ -194,8 +196,8 @@ module _ (r : List ℕ) where
   unfolding request_ruling request_for ring_class
   ruled =
       cond_cases Ruled (eqb class 0xD1) (λ a. core_ruled (eqb-true class 0xD1 a))
-      (λ a. cond_elim Ruled (ltb class 0xD3) (refused 0x01 0x01)
-      (cond_elim Ruled (ltb 0xD7 class) (refused 0x01 0x01)
+      (λ a. cond_elim Ruled (ltb class 0xD3) (refused ClassNotSupported)
+      (cond_elim Ruled (ltb 0xD7 class) (refused ClassNotSupported)
       (cond_cases Ruled (eqb class 0xD3) (λ b. by_command 0x01 _ _ (λ k. ring_ruled (eqb-true class 0xD3 b, k)) unknown)
       (λ b. cond_cases Ruled (eqb class 0xD4) (λ d. timer_ruled (eqb-true class 0xD4 d))
       (λ d. cond_cases Ruled (eqb class 0xD7) (λ f. general_ruled (eqb-true class 0xD7 f)) (λ f. unknown))))))
@@ -203,13 +205,13 @@ module _ (r : List ℕ) where
   -- ---- from the ruling to the conditions
 
   abbrev Shows : Ruling → Type 0
-  Shows (Decline primary secondary) = Unit {0}
+  Shows (Decline why) = Unit {0}
   Shows (Grant change) = Changes r
   Shows Done = Plainly r
   Shows (Read offset size) = ReadAsked r × ((offset ≡ word_at 8 r) × (size ≡ word_at 12 r))
 
   shown : (v : Ruling) → Ruled v → Shows v
-  shown v (refused primary secondary) = tt
+  shown v (refused why) = tt
   shown v (starts n h e) = inl (n, (h, inl e))
   shown v (stops n h e) = inl (n, (h, inr e))
   shown v (exits a) = inl a
@@ -238,7 +240,7 @@ module _ (r : List ℕ) where
     unfolding start_or_stop
     stop_flag e = let other : flags_of r % 0x0100 ≡ 0x01 → ⊥ = λ z. omega (arith, e) in else_le _ _ h (else_eq _ _ other (if_eq _ _ e refl))
 
-  plain_flags_lem : (v : Ruling) → Plain (flags_of r) → v ≡ cond (not (plain_flags (flags_of r))) (Decline 0x02 0x19) v
+  plain_flags_lem : (v : Ruling) → Plain (flags_of r) → v ≡ cond (not (plain_flags (flags_of r))) (Decline InvalidParameters) v
   plain_flags_lem v p = else_b _ _ (ap not ((plain_exactly (flags_of r)).1 p)) refl
 
   pub deadman_start : Names 0xD1 0x01 r → flags_of r < 0x0400 → flags_of r % 0x0100 ≡ 0x01 → request_ruling r ≡ Grant (SetDeadman (start_asked r))
@@ -277,24 +279,24 @@ module _ (r : List ℕ) where
   read_asked a = named a.0 ∙ sym (plain_flags_lem _ a.1)
 
   pub areas_set : AreasAsked r → request_ruling r ≡ Grant (SetAreas (areas_asked r))
-  unfolding request_for general areas_of areas_at
+  unfolding request_for general areas_of areas_read areas_judged if_fine
   areas_set a =
       named a.names
       ∙ sym (plain_flags_lem _ a.flags)
-      ∙ sym (else_ne _ _ (fine_status _ _ a.ffdc) (else_ne _ _ (fine_status _ _ a.pass) refl))
+      ∙ (λ i. areas_judged (if_fine (fine_status _ _ a.ffdc i) (if_fine (fine_status _ _ a.pass i) (Ok (areas_asked r)))))
 
   -- ---- what holds of the changes that the four commands make holds of the change made
 
   module _ (P : Change → Type 0) (start : P (SetDeadman (start_asked r))) (stop : P (SetDeadman stop_asked)) (mask : P (SetMask (word_at 8 r)))
       (start_timer : P (SetTimer (timer_start r))) (stop_timer : P (SetTimer timer_stop)) (areas : AreasAsked r → P (SetAreas (areas_asked r))) where
     abbrev OfChange : Ruling → Type 0
-    OfChange (Decline primary secondary) = Unit {0}
+    OfChange (Decline why) = Unit {0}
     OfChange (Grant change) = P change
     OfChange Done = Unit {0}
     OfChange (Read offset size) = Unit {0}
 
     of_ruled : (v : Ruling) → Ruled v → OfChange v
-    of_ruled v (refused primary secondary) = tt
+    of_ruled v (refused why) = tt
     of_ruled v (starts n h e) = start
     of_ruled v (stops n h e) = stop
     of_ruled v (exits a) = tt
@@ -320,7 +322,7 @@ module _ (r : List ℕ) where
 
   granting : (v : Ruling) → Shows v → grants v ≡ true → Changes r
   unfolding grants
-  granting (Decline primary secondary) s h = absurd (false≢true h)
+  granting (Decline why) s h = absurd (false≢true h)
   granting (Grant change) s h = s
   granting Done s h = absurd (false≢true h)
   granting (Read offset size) s h = absurd (false≢true h)

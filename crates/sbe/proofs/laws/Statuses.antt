@@ -1,6 +1,6 @@
 -- Document 01, "SBE mailbox", and document 02, h: a request gets each status exactly when its row holds and none before it. Assumes nothing.
 use Prim.Native.Nat.{ℕ, ◌+◌, ◌%◌, ◌^◌, ◌<◌, ◌≤◌}
-use Rattle.std.specs.Prelude.{Bool, true, false, cond, not, ◌⊎◌, ◌≡◌, List, ltb, leb, eqb, get_or}
+use Rattle.std.specs.Prelude.{Bool, true, false, cond, not, ◌⊎◌, ◌≡◌, Result, Ok, Err, List, ltb, leb, eqb, get_or}
 use Rattle.std.proofs.Common.{true≢false, sym, ap, ◌∙◌, arith, lit≤}
 use Rattle.std.proofs.Math.Logic.{inl, inr, ⊎_elim}
 use Rattle.std.proofs.Math.Path.{refl}
@@ -11,10 +11,14 @@ use Rattle.wire.proofs.laws.Cases.{cond_cases}
 use Rattle.wire.proofs.laws.Chains.{not_passes}
 use Rattle.wire.proofs.laws.Tables.{lt_holds, fails, ByTable, by_none, by_is, hit, miss, by_rows}
 use Rattle.change.specs.declared.Change.{Change}
+use Rattle.change.specs.declared.Change.TheVariants.{SetAreas}
 use Rattle.formed.specs.Formed.{multiple_of128, in_memory}
+use Rattle.record.specs.declared.Areas.{Areas}
+use Rattle.sbe.specs.declared.Refusal.{Refusal}
+use Rattle.sbe.specs.declared.Refusal.TheVariants.{ClassNotSupported, CommandNotSupported, InvalidAddress, InvalidTarget, InvalidChiplet, InvalidParameters}
 use Rattle.sbe.specs.declared.Ruling.{Ruling}
 use Rattle.sbe.specs.declared.Ruling.TheVariants.{Decline, Grant, Done, Read}
-use Rattle.sbe.specs.Mailbox.{flags_of, word_at, register_at, plain_flags, start_or_stop, deadman_of, exit_of, cores_of, target_of, chiplet_of, ring_at, ring_of, timer_of, seeprom_of, area_status, areas_at, areas_of, core_state, ring_class, timer_class, general, request_for, request_ruling}
+use Rattle.sbe.specs.Mailbox.{numbers_of, Tested, if_fine, areas_read, areas_judged, flags_of, word_at, register_at, plain_flags, start_or_stop, deadman_of, exit_of, cores_of, target_of, chiplet_of, ring_at, ring_of, timer_of, seeprom_of, area_status, areas_of, core_state, ring_class, timer_class, general, request_for, request_ruling}
 use Rattle.sbe.specs.Conditions.{StartOrStop, Names}
 use Rattle.sbe.proofs.laws.Exactly.{plain_exactly, known_exactly}
 use Rattle.sbe.specs.Statuses.{Status, ClassUnknown, CommandKnown, StartsOrStops, RingStatus, AreaStatus, RequestStatus}
@@ -22,27 +26,25 @@ use Rattle.sbe.specs.Statuses.{Status, ClassUnknown, CommandKnown, StartsOrStops
 -- ---- a ruling gives a status if it refuses with it
 
 abbrev pub Refuses : Ruling → Status → Type 0
-Refuses v n = v ≡ Decline n.0 n.1
+Refuses v n = (why : Refusal) × (v ≡ Decline why) × (n ≡ numbers_of why)
 
-same_primary : (p q m n : ℕ) → Decline p q ≡ Decline m n → m ≡ p
-same_primary p q m n e = cc
+same_refusal : (x y : Refusal) → Decline x ≡ Decline y → y ≡ x
+same_refusal x y e = cc
 
-same_secondary : (p q m n : ℕ) → Decline p q ≡ Decline m n → n ≡ q
-same_secondary p q m n e = cc
-
-refuses : (p q : ℕ) → ByTable Refuses (Decline p q) (is (p, q))
-refuses p q = by_is Refuses refl (λ n e. λ i. (same_primary p q n.0 n.1 e i, same_secondary p q n.0 n.1 e i))
+-- one that refuses, with its own numbers alone
+pub refuses : (x : Refusal) → ByTable Refuses (Decline x) (is (numbers_of x))
+refuses x = by_is Refuses (x, refl, refl) (λ n e. e.2 ∙ ap numbers_of (same_refusal x e.0 e.1))
 
 -- any other ruling gives none
 declines : Ruling → Bool
-declines (Decline primary secondary) = true
+declines (Decline why) = true
 declines (Grant change) = false
 declines Done = false
 declines (Read offset size) = false
 
 gives_none : (v : Ruling) → declines v ≡ false → ByTable Refuses v none
 unfolding declines
-gives_none v h = by_none Refuses (λ n e. true≢false (sym (ap declines e) ∙ h))
+gives_none v h = by_none Refuses (λ n e. true≢false (sym (ap declines e.1) ∙ h))
 
 makes : (ch : Change) → ByTable Refuses (Grant ch) none
 unfolding declines
@@ -58,34 +60,33 @@ reads offset size = gives_none (Read offset size) refl
 
 -- ---- an area, and v after it
 
-module _ (v : Ruling) {T : Status → Type 0} (rest : ByTable Refuses v T) (address size : ℕ) where
-  abbrev Told : ℕ → Status → Type 0
-  Told status n = cond (not (eqb status 0)) (Decline 0x02 status) v ≡ Decline n.0 n.1
+module _ (v : Result Areas Refusal) {T : Status → Type 0} (rest : ByTable Refuses (areas_judged v) T) (address size : ℕ) where
+  abbrev Told : Tested → Status → Type 0
+  Told status n = Refuses (areas_judged (if_fine status v)) n
 
-  told_03 : ByTable Told 0x03 (is (0x02, 0x03))
-  told_03 = record { exactly = (refuses 0x02 0x03).exactly }
+  told : (x : Refusal) → ByTable Told (Err x) (is (numbers_of x))
+  unfolding if_fine areas_judged
+  told x = record { exactly = (refuses x).exactly }
 
-  told_19 : ByTable Told 0x19 (is (0x02, 0x19))
-  told_19 = record { exactly = (refuses 0x02 0x19).exactly }
-
-  told_on : ByTable Told 0x00 T
+  told_on : ByTable Told (Ok tt) T
+  unfolding if_fine
   told_on = record { exactly = rest.exactly }
 
   area_rows : ByTable Told (area_status address size) (AreaStatus address size T)
   unfolding area_status multiple_of128 in_memory
   area_rows =
-      let Q : ℕ → Type 0 = λ (x : ℕ). ByTable Told x (AreaStatus address size T) in
+      let Q : Tested → Type 0 = λ (x : Tested). ByTable Told x (AreaStatus address size T) in
       cond_cases Q (eqb size 0)
       (λ z. miss Told (λ h. h.0 (eqb-true size 0 z)) (miss Told (λ h. h.0 (eqb-true size 0 z)) told_on))
-      (λ z. cond_cases Q (not (eqb (address % 128) 0)) (λ a. hit Told (eqb-false size 0 z, inl (eqb-false _ 0 (not-true _ a))) told_03)
-      (λ a. cond_cases Q (not (leb (address + size) (2 ^ 64))) (λ b. hit Told (eqb-false size 0 z, inr (leb-false (address + size) (2 ^ 64) (not-true _ b))) told_03)
+      (λ z. cond_cases Q (not (eqb (address % 128) 0)) (λ a. hit Told (eqb-false size 0 z, inl (eqb-false _ 0 (not-true _ a))) (told InvalidAddress))
+      (λ a. cond_cases Q (not (leb (address + size) (2 ^ 64))) (λ b. hit Told (eqb-false size 0 z, inr (leb-false (address + size) (2 ^ 64) (not-true _ b))) (told InvalidAddress))
       (λ b.
       let fine : ((size ≡ 0 → ⊥) and ((address % 128 ≡ 0 → ⊥) ⊎ (2 ^ 64 < address + size))) → ⊥ =
       λ h. ⊎_elim (λ k. k (eqb-true _ 0 (not-false _ a))) (λ k. not-le_of_lt k (leb-true (address + size) (2 ^ 64) (not-false _ b))) h.1 in
-      cond_cases Q (not (eqb (size % 128) 0)) (λ c. miss Told fine (hit Told (eqb-false size 0 z, eqb-false _ 0 (not-true _ c)) told_19))
+      cond_cases Q (not (eqb (size % 128) 0)) (λ c. miss Told fine (hit Told (eqb-false size 0 z, eqb-false _ 0 (not-true _ c)) (told InvalidParameters)))
       (λ c. miss Told fine (miss Told (λ h. h.1 (eqb-true _ 0 (not-false _ c))) told_on)))))
 
-  area_row : ByTable Refuses (cond (not (eqb (area_status address size) 0)) (Decline 0x02 (area_status address size)) v) (AreaStatus address size T)
+  area_row : ByTable Refuses (areas_judged (if_fine (area_status address size) v)) (AreaStatus address size T)
   area_row = record { exactly = area_rows.exactly }
 
 module _ (r : List ℕ) where
@@ -100,13 +101,13 @@ module _ (r : List ℕ) where
 
   -- ---- an unknown class, and a command of a known class that is none of the seven
 
-  unknown : ClassUnknown r → ToldSo (Decline 0x01 0x01)
+  unknown : ClassUnknown r → ToldSo (Decline ClassNotSupported)
   unfolding RequestStatus
-  unknown h = hit Refuses h (refuses 0x01 0x01)
+  unknown h = hit Refuses h (refuses ClassNotSupported)
 
-  other : (ClassUnknown r → ⊥) → (CommandKnown r → ⊥) → ToldSo (Decline 0x01 0x02)
+  other : (ClassUnknown r → ⊥) → (CommandKnown r → ⊥) → ToldSo (Decline CommandNotSupported)
   unfolding RequestStatus
-  other c k = miss Refuses c (hit Refuses k (refuses 0x01 0x02))
+  other c k = miss Refuses c (hit Refuses k (refuses CommandNotSupported))
 
   -- what a known class isn't
   classed : (c : ℕ) → 0xD3 ≤ c → c ≤ 0xD7 → class ≡ c → ClassUnknown r → ⊥
@@ -135,27 +136,31 @@ module _ (r : List ℕ) where
         let asked = flags_of r % 0x0100 in
         let Q : Ruling → Type 0 = λ (v : Ruling). ByTable Refuses v (row (0x02, 0x19) (StartOrStop (flags_of r) → ⊥) none) in
         miss Refuses known (miss Refuses (λ h. h named) (hit Refuses n
-        (cond_cases Q (leb 0x0400 (flags_of r)) (λ a. hit Refuses (λ h. not-le_of_lt h.0 (leb-true 0x0400 (flags_of r) a)) (refuses 0x02 0x19))
+        (cond_cases Q (leb 0x0400 (flags_of r)) (λ a. hit Refuses (λ h. not-le_of_lt h.0 (leb-true 0x0400 (flags_of r) a)) (refuses InvalidParameters))
         (λ a. let low = leb-false 0x0400 (flags_of r) a in
         cond_cases Q (eqb asked 0x01) (λ b. miss Refuses (λ h. h (low, inl (eqb-true asked 0x01 b))) (makes start))
         (λ b. cond_cases Q (eqb asked 0x02) (λ c. miss Refuses (λ h. h (low, inr (eqb-true asked 0x02 c))) (makes stop))
-        (λ c. hit Refuses (λ h. ⊎_elim (eqb-false asked 0x01 b) (eqb-false asked 0x02 c) h.1) (refuses 0x02 0x19)))))))
+        (λ c. hit Refuses (λ h. ⊎_elim (eqb-false asked 0x01 b) (eqb-false asked 0x02 c) h.1) (refuses InvalidParameters)))))))
 
-    no_flags : (v : Ruling) → (StartsOrStops r → ⊥) → ByTable Refuses v AfterFlags → ToldSo (cond (not (plain_flags (flags_of r))) (Decline 0x02 0x19) v)
+    no_flags : (v : Ruling) → (StartsOrStops r → ⊥) → ByTable Refuses v AfterFlags → ToldSo (cond (not (plain_flags (flags_of r))) (Decline InvalidParameters) v)
     unfolding RequestStatus
     no_flags v n t =
         miss Refuses known (miss Refuses (λ h. h named) (miss Refuses n
-        (by_rows Refuses (fails (not_passes (plain_exactly (flags_of r)))) (refuses 0x02 0x19) t)))
+        (by_rows Refuses (fails (not_passes (plain_exactly (flags_of r)))) (refuses InvalidParameters) t)))
 
   ring_after : ByTable Refuses (ring_at (target_of r) (chiplet_of r)) (RingStatus (target_of r) (chiplet_of r))
   unfolding ring_at
   ring_after =
-      by_rows Refuses (lt_holds 4 (target_of r)) (refuses 0x02 0x04)
-      (by_rows Refuses (fails (not_passes (known_exactly (target_of r) (chiplet_of r)))) (refuses 0x02 0x05) finishes)
+      by_rows Refuses (lt_holds 4 (target_of r)) (refuses InvalidTarget)
+      (by_rows Refuses (fails (not_passes (known_exactly (target_of r) (chiplet_of r)))) (refuses InvalidChiplet) finishes)
 
-  areas_after : ByTable Refuses (areas_at (word_at 8 r) (word_at 12 r) (register_at 16 r) (register_at 24 r)) (AreaStatus (register_at 16 r) (word_at 8 r) (AreaStatus (register_at 24 r) (word_at 12 r) none))
-  unfolding areas_at
-  areas_after = area_row _ (area_row _ (makes _) (register_at 24 r) (word_at 12 r)) (register_at 16 r) (word_at 8 r)
+  made : (areas : Areas) → ByTable Refuses (areas_judged (Ok areas)) none
+  unfolding areas_judged
+  made areas = makes (SetAreas areas)
+
+  areas_after : ByTable Refuses (areas_judged (areas_read r)) (AreaStatus (register_at 16 r) (word_at 8 r) (AreaStatus (register_at 24 r) (word_at 12 r) none))
+  unfolding areas_read
+  areas_after = area_row _ (area_row _ (made _) (register_at 24 r) (word_at 12 r)) (register_at 16 r) (word_at 8 r)
 
   -- ---- class by class
 

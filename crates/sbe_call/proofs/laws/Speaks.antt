@@ -12,7 +12,7 @@ use Rattle.sbe_call.specs.Sbe.{sbe_refusal, ruling_asks, sbe_ruling, by_profile,
 module _ (s : Session) (r d : List ℕ) where
   spoken : (v : Ruling) → Speaks s d (bell_of r) (pasted 0 (response_bytes 0x00 0x00 r) d) (ruling_asks r d v)
   unfolding ruling_asks
-  spoken (Decline primary secondary) = refl
+  spoken (Decline why) = refl
   spoken (Grant change) = (refl, refl)
   spoken Done = refl
   spoken (Read offset size) = refl

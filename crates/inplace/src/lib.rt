@@ -49,24 +49,12 @@ fn stores_ok(lent: &[u8], h: Head) -> bool
 {
     let used = h.used as usize;
     let ahead = h.ahead as usize;
-    if layout::STORE < used + ahead {
-        return false;
-    }
+    let journal = &lent[layout::JOURNAL..layout::AHEAD];
+    let redo = &lent[layout::REDO..layout::REDO_END];
     let marks = &lent[layout::MARKS..layout::TIMER];
-    if !session::store_ok(
-        Way::Before,
-        &lent[layout::JOURNAL..layout::AHEAD],
-        used,
-        marks,
-    ) {
-        return false;
-    }
-    session::store_ok(
-        Way::After,
-        &lent[layout::REDO..layout::REDO_END],
-        ahead,
-        marks,
-    )
+    used + ahead <= layout::STORE
+        && session::store_ok(Way::Before, journal, used, marks)
+        && session::store_ok(Way::After, redo, ahead, marks)
 }
 
 // Full, or watch-only with clears alone in both stores, which read as entries.
@@ -74,34 +62,22 @@ fn profile_ok(lent: &[u8], h: Head) -> bool
     requires { (length lent.now ≡ image_length) × (stores_ok (session_in h lent.now) ≡ true) }
     ensures { result ≡ profile_ok h.profile (entries_in h.used (journal_in lent.now)) (entries_in h.ahead (redo_in lent.now)) }
 {
-    if h.profile == 0 {
-        return true;
-    }
-    if h.profile != 1 {
-        return false;
-    }
     let end = layout::JOURNAL + h.used as usize;
-    if !session::only_clears(&lent[layout::JOURNAL..end]) {
-        return false;
-    }
     let redo_end = layout::REDO + h.ahead as usize;
-    session::only_clears(&lent[layout::REDO..redo_end])
+    h.profile == 0
+        || h.profile == 1
+            && session::only_clears(&lent[layout::JOURNAL..end])
+            && session::only_clears(&lent[layout::REDO..redo_end])
 }
 
 pub fn well_formed(lent: &[u8], h: Head) -> bool
     requires { length lent.now ≡ image_length }
     ensures { result ≡ well_formed (session_in h lent.now) }
 {
-    if !session::held_ok(h.held, h.worked, h.next) {
-        return false;
-    }
-    if !formed::timer_ok(h.timer) {
-        return false;
-    }
-    if !stores_ok(lent, h) {
-        return false;
-    }
-    profile_ok(lent, h)
+    session::held_ok(h.held, h.worked, h.next)
+        && formed::timer_ok(h.timer)
+        && stores_ok(lent, h)
+        && profile_ok(lent, h)
 }
 
 // What each call begins with: the head of the session that is lent, None where the bytes are no image, or one of a session that isn't

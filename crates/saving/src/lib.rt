@@ -30,13 +30,7 @@ fn first_rule(t: &[u8]) -> bool
     requires { 9 ≤ length t.now }
     ensures { result ≡ first_rule t.now }
 {
-    if t[1] < t[0] {
-        return false;
-    }
-    if t[4] < t[3] {
-        return false;
-    }
-    t[6] <= t[7]
+    t[0] <= t[1] && t[3] <= t[4] && t[6] <= t[7]
 }
 
 // An entry's bytes, its kind first: of kind 0C none, of kind 06 by the rule.
@@ -44,13 +38,7 @@ fn entry_holds(e: &[u8]) -> bool
     requires { length e.now ≡ body_len (get_or e.now 0 0) + 1 }
     ensures { result ≡ base_entry (entry_of e.now) }
 {
-    if e[0] == 0x0C {
-        return false;
-    }
-    if e[0] == 0x06 {
-        return first_rule(&e[2..]);
-    }
-    true
+    e[0] != 0x0C && (e[0] != 0x06 || first_rule(&e[2..]))
 }
 
 // Of bytes that read as entries, whether each is one of the base version's.
@@ -74,11 +62,8 @@ fn holds_base(d: &[u8], h: Head) -> bool
     requires { (length d.now ≡ image_length) × (h ≡ head_in d.now) × (well_formed (session_in h d.now) ≡ true) }
     ensures { result ≡ base_holds (session_in h d.now) }
 {
-    if !first_rule(&d[172..181]) {
-        return false;
-    }
     let end = layout::JOURNAL + h.used as usize;
-    entries_hold(&d[layout::JOURNAL..end])
+    first_rule(&d[172..181]) && entries_hold(&d[layout::JOURNAL..end])
 }
 
 // "Moving down is possible only with an empty redo store, the full profile, no kind 0C entry or timer, and no threshold .."
@@ -86,17 +71,7 @@ fn goes_down(d: &[u8], h: Head) -> bool
     requires { (length d.now ≡ image_length) × (h ≡ head_in d.now) × (well_formed (session_in h d.now) ≡ true) }
     ensures { result ≡ goes_down (session_in h d.now) }
 {
-    let timer = h.timer;
-    if h.ahead != 0 {
-        return false;
-    }
-    if h.profile != 0 {
-        return false;
-    }
-    if timer.running != 0 {
-        return false;
-    }
-    holds_base(d, h)
+    h.ahead == 0 && h.profile == 0 && h.timer.running == 0 && holds_base(d, h)
 }
 
 // ---- the new form read
@@ -106,25 +81,13 @@ fn kinds_ok(b: &[u8]) -> bool
     requires { length b.now ≡ saved_length }
     ensures { result ≡ kinds_ok b.now }
 {
-    if b[0] != 0x01 {
-        return false;
-    }
-    if b[231] != 0x02 {
-        return false;
-    }
-    if b[234] != 0x03 {
-        return false;
-    }
-    if b[2283] != 0x04 {
-        return false;
-    }
-    if b[4332] != 0x05 {
-        return false;
-    }
-    if b[4397] != 0x06 {
-        return false;
-    }
-    b[4399] == 0x07
+    b[0] == 0x01
+        && b[231] == 0x02
+        && b[234] == 0x03
+        && b[2283] == 0x04
+        && b[4332] == 0x05
+        && b[4397] == 0x06
+        && b[4399] == 0x07
 }
 
 // How many bytes of a store its entries take: up to what is none.
@@ -160,10 +123,9 @@ fn timer_from(b: &[u8]) -> Timer
     requires { length b.now ≡ saved_length }
     ensures { result ≡ timer_from b.now }
 {
-    let left = wire::be64(b, 4401);
     Timer {
         running: b[4400],
-        left: left,
+        left: wire::be64(b, 4401),
     }
 }
 
@@ -181,15 +143,15 @@ fn session_in(b: &[u8]) -> Session
     let marks = marks_from(b);
     let timer = timer_from(b);
     Session {
-        held: held,
-        worked: worked,
-        next: next,
-        journal: journal,
-        used: used,
-        redo: redo,
-        ahead: ahead,
-        marks: marks,
-        timer: timer,
+        held,
+        worked,
+        next,
+        journal,
+        used,
+        redo,
+        ahead,
+        marks,
+        timer,
         profile: b[4398],
     }
 }
@@ -243,16 +205,16 @@ fn session_of_base(b: &[u8]) -> Session
     let worked = record::work_out(held);
     let next = wire::be16(b, 230);
     let journal = pad(&b[BASE_HEAD..]);
-    let found = forget_call::marks_of(&b[BASE_HEAD..]);
+    let marks = forget_call::marks_of(&b[BASE_HEAD..]);
     Session {
-        held: held,
-        worked: worked,
-        next: next,
-        journal: journal,
+        held,
+        worked,
+        next,
+        journal,
         used: (b.len() - BASE_HEAD) as u16,
         redo: [0; 2048],
         ahead: 0,
-        marks: found,
+        marks,
         timer: Timer {
             running: 0,
             left: 0,

@@ -17,20 +17,17 @@ fn open_over(lent: &mut [u8], h: Head) -> Told
     ensures value { result ≡ (opened_by (session_in h lent.old) opens).told }
     ensures lent_after { lent.new ≡ (opened_by (session_in h lent.old) opens).image }
 {
-    let held = h.held;
-    let timer = h.timer;
-    let worked = record::work_out(held);
     image::write(
         Session {
-            held: held,
-            worked: worked,
+            held: h.held,
+            worked: record::work_out(h.held),
             next: h.next,
             journal: [0; 2048],
             used: 0,
             redo: [0; 2048],
             ahead: 0,
             marks: [0; 64],
-            timer: timer,
+            timer: h.timer,
             profile: 1,
         },
         lent,

@@ -48,6 +48,7 @@ fn bell(t: Timer, n: u64) -> u16
 }
 
 // On a well-formed session.
+#[tactic(auto, using(crate::proofs::Passing::time_passes))]
 fn pass(lent: &mut [u8], h: Head, n: u64) -> Told
     requires { HeadStands h lent.old }
     ensures value { result ≡ (timed_by (session_in h lent.old) (passes n)).told }
@@ -59,6 +60,7 @@ fn pass(lent: &mut [u8], h: Head, n: u64) -> Told
 }
 
 // The public call, on a session that is lent as its image's bytes; the doorbell stands beside the answer.
+#[tactic(auto, using(crate::proofs::Passing::unopened, crate::proofs::Passing::passed_in_lem))]
 pub fn time(lent: &mut [u8], n: u64) -> Told
     ensures { TimeAllows n lent.old result lent.new }
 {

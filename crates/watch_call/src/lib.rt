@@ -12,6 +12,7 @@ use inplace::Told;
 use session::Session;
 
 // On a well-formed session.
+#[tactic(auto, using(crate::proofs::Opening::opened_on))]
 fn open_over(lent: &mut [u8], h: Head) -> Told
     requires { length lent.old ≡ image_length }
     ensures value { result ≡ (opened_by (session_in h lent.old) opens).told }
@@ -36,6 +37,7 @@ fn open_over(lent: &mut [u8], h: Head) -> Told
 }
 
 // The public call, on a session that is lent as its image's bytes.
+#[tactic(auto, using(crate::proofs::Opening::unopened, crate::proofs::Opening::opened_in))]
 pub fn watch(lent: &mut [u8]) -> Told
     ensures { WatchAllows lent.old result lent.new }
 {

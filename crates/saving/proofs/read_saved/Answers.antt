@@ -4,11 +4,5 @@ use Rattle.saving.proofs.Calls.{saved_length_lem, saved_kinds, saved_found}
 use Rattle.wire.proofs.laws.Pairs.{first_of_two, second_of_two}
 use Rattle.saving.proofs.read_saved.Goals as goal
 
-pub returns-then-b-ne-SAVED : goal.returns-then-b-ne-SAVED
-returns-then-b-ne-SAVED c = record { value = first_of_two (saved_length_lem c.args.b.now c.args.d.now c.if-b-ne-SAVED.true); d_after = second_of_two (saved_length_lem c.args.b.now c.args.d.now c.if-b-ne-SAVED.true) }
-
-pub returns-then-not-kinds_ok : goal.returns-then-not-kinds_ok
-returns-then-not-kinds_ok c = record { value = first_of_two (saved_kinds c.args.b.now c.if-b-ne-SAVED.false _ c.kinds_ok.ensures c.args.d.now c.if-not-kinds_ok.true-raw); d_after = second_of_two (saved_kinds c.args.b.now c.if-b-ne-SAVED.false _ c.kinds_ok.ensures c.args.d.now c.if-not-kinds_ok.true-raw) }
-
 pub returns : goal.returns
 returns c = record { value = first_of_two (saved_found c.args.b.now c.if-b-ne-SAVED.false _ c.kinds_ok.ensures (bytes_of c.args.b.now (λ i. omega (arith, c.shared_slice_known-1.given i))) c.if-not-kinds_ok.false-raw _ _ c.requires _ c.session_in-s.ensures c.write.ensures _ c.read_head-h.ensures.value _ c.well_formed-2.ensures); d_after = second_of_two (saved_found c.args.b.now c.if-b-ne-SAVED.false _ c.kinds_ok.ensures (bytes_of c.args.b.now (λ i. omega (arith, c.shared_slice_known-1.given i))) c.if-not-kinds_ok.false-raw _ _ c.requires _ c.session_in-s.ensures c.write.ensures _ c.read_head-h.ensures.value _ c.well_formed-2.ensures) }

@@ -1,6 +1,5 @@
 use native.Mathlib.Omega.{arith}
-use Rattle.inplace.proofs.Standing.{lent_fits, lent_room, appended_in}
-use borrow.Author.Rules.{rules}
+use Rattle.inplace.proofs.Standing.{lent_fits}
 use Rattle.inplace.proofs.append.Goals as goal
 
 pub overflow_add-end : goal.overflow_add-end

@@ -1,6 +1,6 @@
 use native.Mathlib.Omega.{arith}
 use Rattle.inplace.proofs.Carrying.{end_fits}
-use Rattle.inplace.proofs.Standing.{is_marked, full_in, long_more, length_cut, done_in, next_fits}
+use Rattle.inplace.proofs.Standing.{is_marked, done_in}
 use Rattle.inplace.proofs.carry.Goals as goal
 
 pub enter-requires : goal.enter-requires

@@ -1,9 +1,4 @@
-use mathlib.Core.Path.{◌≡◌, ap, ◌∙◌}
-use Prim.Native.Nat.{◌+◌}
 use native.Mathlib.Omega.{arith}
-use Rattle.change.specs.Change.{put_after}
-use Rattle.image.specs.Image.{head_renewed, head_timed}
-use Rattle.inplace.specs.InPlace.{head_after}
 use Rattle.inplace.proofs.Carrying.{made_fits}
 use Rattle.inplace.proofs.head_after.Goals as goal
 

@@ -1,6 +1,6 @@
 use native.Mathlib.Omega.{arith}
 use Rattle.inplace.proofs.laws.Marked.{place_low}
-use Rattle.inplace.proofs.Marking.{parts_long, none_more, unmarked_more, marked_more, next_room}
+use Rattle.inplace.proofs.Marking.{none_more, unmarked_more, marked_more, next_room}
 use Rattle.inplace.proofs.mark_added.Goals as goal
 
 pub overflow_add-start : goal.overflow_add-start

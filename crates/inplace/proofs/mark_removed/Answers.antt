@@ -1,5 +1,4 @@
-use native.Mathlib.Omega.{arith}
-use Rattle.inplace.proofs.Marking.{parts_long, still_less, marked_less}
+use Rattle.inplace.proofs.Marking.{still_less, marked_less}
 use Rattle.inplace.proofs.mark_removed.Goals as goal
 
 pub returns-then-last-at : goal.returns-then-last-at

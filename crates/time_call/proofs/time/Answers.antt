@@ -1,4 +1,4 @@
-use Rattle.time_call.proofs.Passing.{unopened, passed_in_lem}
+use Rattle.time_call.proofs.Passing.{passed_in_lem}
 use Rattle.time_call.proofs.time.Goals as goal
 
 pub returns : goal.returns

@@ -1,4 +1,4 @@
-use Rattle.undo_call.proofs.Taking.{entry_moved, long_moved}
+use Rattle.undo_call.proofs.Taking.{entry_moved}
 use Rattle.journal.specs.Ways.{other}
 use Rattle.undo_call.proofs.move_entry.Goals as goal
 

@@ -1,9 +1,7 @@
 use native.Mathlib.Omega.{arith}
-use Prim.Native.Nat.{◌+◌, ◌-◌}
 use Rattle.image.proofs.laws.Stores.{store_low}
 use Rattle.undo_call.proofs.Taking.{count_fits}
 use Rattle.undo_call.proofs.Finding.{from_low, found_there, never_nothing}
-use Rattle.undo_call.proofs.Marking.{found_bound}
 use Rattle.undo_call.proofs.newest_of.Goals as goal
 
 pub overflow_add-first : goal.overflow_add-first

@@ -1,4 +1,4 @@
-use Rattle.undo_call.proofs.Taking.{put_refused, put_ill, put_done}
+use Rattle.undo_call.proofs.Taking.{put_done}
 use Rattle.undo_call.proofs.take.Goals as goal
 
 pub returns : goal.returns

@@ -1,4 +1,4 @@
-use Rattle.undo_call.proofs.Taking.{unopened, newest_taken}
+use Rattle.undo_call.proofs.Taking.{newest_taken}
 use Rattle.undo_call.proofs.take_from.Goals as goal
 
 pub returns : goal.returns

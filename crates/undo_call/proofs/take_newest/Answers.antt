@@ -4,7 +4,6 @@ use Rattle.image.proofs.laws.Stores.{store_low}
 use Rattle.undo_call.specs.Undo.{NewestFound, none_left}
 use Rattle.undo_call.proofs.Taking.{none_held, sum_fits, count_fits, by_newest, at_low, entry_bad, entry_good, entry_ends}
 use Rattle.undo_call.proofs.Finding.{marks_before}
-use Rattle.undo_call.proofs.Marking.{passed_low}
 use Rattle.undo_call.proofs.take_newest.Goals as goal
 
 pub returns-then-used-eq0 : goal.returns-then-used-eq0

@@ -1,4 +1,4 @@
-use Rattle.watch_call.proofs.Opening.{unopened, opened_in}
+use Rattle.watch_call.proofs.Opening.{opened_in}
 use Rattle.watch_call.proofs.watch.Goals as goal
 
 pub returns : goal.returns

@@ -58,26 +58,27 @@ pub fn store_at(way: Way) -> usize
 
 // ---- writing, a part at a time; the rest of the buffer is kept
 
+#[tactic(auto, using(crate::proofs::Fields::head_put))]
 fn put_head(d: &mut [u8], state: u8, role: u8, caps: Caps)
     requires { journal_at ≤ length d.old }
     ensures { d.new ≡ pasted 0 (joined (head_rows state role caps)) d.old }
 {
-    let bytes = [state, role];
-    wire::copy(&mut *d, 0, &bytes);
+    wire::copy(&mut *d, 0, &[state, role]);
     wire::put_be(&mut *d, 2, 2, caps.min as u64);
     wire::put_be(&mut *d, 4, 2, caps.max as u64);
     wire::put_be(d, 6, 2, caps.over as u64);
 }
 
+#[tactic(auto, using(crate::proofs::Fields::throttles_put))]
 fn put_throttles(d: &mut [u8], throttles: Throttles)
     requires { journal_at ≤ length d.old }
     ensures { d.new ≡ pasted 8 (joined (throttles_rows throttles)) d.old }
 {
-    let sets = throttles.sets;
     wire::put_be(&mut *d, 8, 2, throttles.present as u64);
-    wire::copy(d, 10, &sets);
+    wire::copy(d, 10, &throttles.sets);
 }
 
+#[tactic(auto, using(crate::proofs::Fields::thermal_put))]
 fn put_thermal(d: &mut [u8], user: u16, thermal: [u8; 9])
     requires { journal_at ≤ length d.old }
     ensures { d.new ≡ pasted 170 (joined (thermal_rows user thermal)) d.old }
@@ -86,14 +87,12 @@ fn put_thermal(d: &mut [u8], user: u16, thermal: [u8; 9])
     wire::copy(d, 172, &thermal);
 }
 
+#[tactic(auto, unfolding(wire::specs::Wire::joined, crate::specs::Image::logs_rows))]
 fn put_logs(d: &mut [u8], got: Received, logs: [Log; 4])
     requires { journal_at ≤ length d.old }
     ensures { d.new ≡ pasted 181 (joined (logs_rows got logs)) d.old }
 {
-    let a = logs[0];
-    let b = logs[1];
-    let c = logs[2];
-    let e = logs[3];
+    let [a, b, c, e] = logs;
     let bytes = [
         got.role,
         got.caps,
@@ -111,65 +110,61 @@ fn put_logs(d: &mut [u8], got: Received, logs: [Log; 4])
     wire::copy(d, 181, &bytes);
 }
 
+#[tactic(auto, using(crate::proofs::Fields::mailbox_put))]
 fn put_mailbox(d: &mut [u8], mask: u32, deadman: Deadman, areas: Areas)
     requires { journal_at ≤ length d.old }
     ensures { d.new ≡ pasted 193 (joined (mailbox_rows mask deadman areas)) d.old }
 {
-    let ffdc = areas.ffdc;
-    let pass = areas.pass;
-    let running = [deadman.running];
     wire::put_be(&mut *d, 193, 4, mask as u64);
-    wire::copy(&mut *d, 197, &running);
+    wire::copy(&mut *d, 197, &[deadman.running]);
     wire::put_be(&mut *d, 198, 8, deadman.time);
-    wire::put_be(&mut *d, 206, 8, ffdc.address);
-    wire::put_be(&mut *d, 214, 4, ffdc.size as u64);
-    wire::put_be(&mut *d, 218, 8, pass.address);
-    wire::put_be(d, 226, 4, pass.size as u64);
+    wire::put_be(&mut *d, 206, 8, areas.ffdc.address);
+    wire::put_be(&mut *d, 214, 4, areas.ffdc.size as u64);
+    wire::put_be(&mut *d, 218, 8, areas.pass.address);
+    wire::put_be(d, 226, 4, areas.pass.size as u64);
 }
 
+#[tactic(auto, using(crate::proofs::Fields::worked_put))]
 fn put_worked(d: &mut [u8], worked: Worked, next: u16, used: u16)
     requires { journal_at ≤ length d.old }
     ensures { d.new ≡ pasted 230 (joined (worked_rows worked next used)) d.old }
 {
-    let bytes = [worked.observation, worked.active, worked.wanted];
     wire::put_be(&mut *d, 230, 2, worked.limit as u64);
-    wire::copy(&mut *d, 232, &bytes);
+    wire::copy(
+        &mut *d,
+        232,
+        &[worked.observation, worked.active, worked.wanted],
+    );
     wire::put_be(&mut *d, 235, 2, next as u64);
     wire::put_be(d, 237, 2, used as u64);
 }
 
+#[tactic(auto, using(crate::proofs::Fields::record_put, crate::proofs::Fields::length_record))]
 fn put_record(d: &mut [u8], r: Record)
     requires { journal_at ≤ length d.old }
     ensures d_after { d.new ≡ pasted 0 (joined (record_rows r)) d.old }
     ensures r_len { length (joined (record_rows r)) ≡ 230 }
 {
-    let caps = r.caps;
-    let throttles = r.throttles;
-    let thermal = r.thermal;
-    let received = r.received;
-    let logs = r.logs;
-    let deadman = r.deadman;
-    let areas = r.areas;
-    put_head(&mut *d, r.state, r.role, caps);
-    put_throttles(&mut *d, throttles);
-    put_thermal(&mut *d, r.user, thermal);
-    put_logs(&mut *d, received, logs);
-    put_mailbox(d, r.mask, deadman, areas);
+    put_head(&mut *d, r.state, r.role, r.caps);
+    put_throttles(&mut *d, r.throttles);
+    put_thermal(&mut *d, r.user, r.thermal);
+    put_logs(&mut *d, r.received, r.logs);
+    put_mailbox(d, r.mask, r.deadman, r.areas);
 }
 
 // And the profile, which stands after it.
+#[tactic(auto, using(crate::proofs::Fields::timer_put))]
 fn put_timer(d: &mut [u8], timer: Timer, profile: u8)
     requires { image_length ≤ length d.old }
     ensures { d.new ≡ pasted timer_at (joined (timer_rows timer profile)) d.old }
 {
-    let running = [timer.running];
-    let last = [profile];
-    wire::copy(&mut *d, layout::TIMER, &running);
+    wire::copy(&mut *d, layout::TIMER, &[timer.running]);
     wire::put_be(&mut *d, layout::TIMER + 1, 8, timer.left);
-    wire::copy(d, layout::PROFILE, &last);
+    wire::copy(d, layout::PROFILE, &[profile]);
 }
 
 // The head, around the stores and marks that stand there.
+#[tactic(auto, using(crate::proofs::Standing::head_stands))]
 pub fn write_head(d: &mut [u8], h: Head)
     requires { length d.old ≡ image_length }
     ensures { d.new ≡ image_of (session_in h d.old) }
@@ -196,10 +191,7 @@ pub fn write(s: Session, d: &mut [u8])
     if d.len() != layout::IMAGE {
         return;
     }
-    let journal = s.journal;
-    let redo = s.redo;
-    let marks = s.marks;
-    put_stores(&mut *d, journal, redo, marks);
+    put_stores(&mut *d, s.journal, s.redo, s.marks);
     write_head(
         d,
         Head {
@@ -253,22 +245,20 @@ fn logs_in(b: &[u8]) -> [Log; 4]
     ]
 }
 
+#[tactic(auto, unfolding(crate::specs::Image::record_in, crate::specs::Image::caps_in, crate::specs::Image::throttles_in, crate::specs::Image::deadman_in, crate::specs::Image::areas_in, journal::specs::Read::caps_at, journal::specs::Read::area_at))]
 pub fn record_in(b: &[u8]) -> Record
     requires { journal_at ≤ length b.now }
     ensures { result ≡ record_in b.now }
 {
-    let throttles = journal::throttles_at(b, 8);
-    let thermal = journal::thermal_at(b, 172);
-    let logs = logs_in(b);
     Record {
         state: b[0],
         role: b[1],
         caps: journal::caps_at(b, 2),
-        throttles,
+        throttles: journal::throttles_at(b, 8),
         user: wire::be16(b, 170),
-        thermal,
+        thermal: journal::part_at(b, 172),
         received: received_in(b),
-        logs,
+        logs: logs_in(b),
         mask: wire::be32(b, 193),
         deadman: Deadman {
             running: b[197],
@@ -307,6 +297,7 @@ fn timer_in(b: &[u8]) -> Timer
 
 // The head, by value; the stores stay where they stand. That lent bytes are bytes is said here, once: a call that writes nothing leaves
 // the image of what was read.
+#[tactic(auto, unfolding(crate::specs::Image::head_in), using(wire::proofs::laws::Wire::bytes_of))]
 pub fn read_head(b: &[u8]) -> Head
     requires { image_length ≤ length b.now }
     ensures value { result ≡ head_in b.now }

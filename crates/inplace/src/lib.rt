@@ -106,6 +106,7 @@ pub fn well_formed(lent: &[u8], h: Head) -> bool
 
 // What each call begins with: the head of the session that is lent, None where the bytes are no image, or one of a session that isn't
 // well formed. Answer 1 is due then.
+#[tactic(auto, using(std::proofs::Common::sym, std::proofs::Common::ap, crate::proofs::laws::InPlace::as_read, crate::proofs::laws::InPlace::stands))]
 pub fn open(lent: &[u8]) -> Option<Head>
     ensures { MatchOption result (Unopened lent.now) (Opens lent.now) }
 {
@@ -122,6 +123,7 @@ pub fn open(lent: &[u8]) -> Option<Head>
 // ---- a store changed where it stands
 
 // Its bytes from `at` to the end of the used ones are zeroed.
+#[tactic(auto, using(crate::proofs::Standing::lent_on, crate::proofs::Standing::lent_fits))]
 pub fn cut(lent: &mut [u8], way: Way, at: usize, used: usize)
     requires { length lent.old ≡ image_length }
     ensures { lent.new ≡ with_store (store_at way) (cut_from at used (store_in way lent.old)) lent.old }
@@ -132,6 +134,7 @@ pub fn cut(lent: &mut [u8], way: Way, at: usize, used: usize)
 }
 
 // An entry is put at the end of its used bytes; the room is known.
+#[tactic(auto, using(crate::proofs::Standing::lent_fits, crate::proofs::Standing::lent_room, crate::proofs::Standing::appended_in))]
 pub fn append(lent: &mut [u8], way: Way, used: usize, e: Edit)
     requires { (length lent.old ≡ image_length) × (used + entry_len e ≤ 2048) }
     ensures lent_after { lent.new ≡ with_store (store_at way) (pasted used (entry_bytes e) (store_in way lent.old)) lent.old }
@@ -143,6 +146,7 @@ pub fn append(lent: &mut [u8], way: Way, used: usize, e: Edit)
 }
 
 // Adds an entry to the journal, where there is room.
+#[tactic(auto, using(crate::proofs::Standing::added_in))]
 fn add(lent: &mut [u8], used: usize, e: Edit) -> Option<usize>
     requires { length lent.old ≡ image_length }
     ensures value { result ≡ end_of 2048 used e }
@@ -156,6 +160,7 @@ fn add(lent: &mut [u8], used: usize, e: Edit) -> Option<usize>
 // ---- its marks: no walk over the whole journal
 
 // For an entry more, whatever it is, that begins at the used end: it is marked where 32 stand from the last mark on.
+#[tactic(auto, using(crate::proofs::laws::Marked::place_low, crate::proofs::Marking::parts_long, crate::proofs::Marking::none_more, crate::proofs::Marking::unmarked_more, crate::proofs::Marking::marked_more, crate::proofs::Marking::next_room))]
 pub fn mark_added(lent: &mut [u8], used: usize)
     requires { (length lent.old ≡ image_length) × Marked used lent.old × (used + 2 ≤ 2048) }
     ensures { MarksMore used lent.old lent.new }
@@ -179,6 +184,7 @@ pub fn mark_added(lent: &mut [u8], used: usize)
 }
 
 // For the newest entry less, which begins at `at`: its mark, if it has one, is the last.
+#[tactic(auto, using(crate::proofs::Marking::parts_long, crate::proofs::Marking::still_less, crate::proofs::Marking::marked_less))]
 pub fn mark_removed(lent: &mut [u8], used: usize, at: usize)
     requires { (length lent.old ≡ image_length) × MarkedTo used at lent.old }
     ensures { lent.new ≡ with_part marks_size marks_at (marks_of (entries_in at (journal_in lent.old))) lent.old }
@@ -196,6 +202,7 @@ pub fn mark_removed(lent: &mut [u8], used: usize, at: usize)
 }
 
 // An entry is added to the journal, where there is room, with its mark.
+#[tactic(auto, using(std::proofs::Common::None, std::proofs::Common::rules, crate::proofs::Standing::no_room_lem, crate::proofs::Standing::marked_still, crate::proofs::Standing::has_more))]
 fn enter(lent: &mut [u8], used: usize, e: Edit) -> Option<usize>
     requires { (length lent.old ≡ image_length) × Marked used lent.old }
     ensures value { result ≡ end_of 2048 used e }
@@ -208,6 +215,7 @@ fn enter(lent: &mut [u8], used: usize, e: Edit) -> Option<usize>
 
 // ---- a change carried out
 
+#[tactic(auto, unfolding(crate::specs::InPlace::head_after), using(crate::proofs::Carrying::made_fits))]
 fn head_after(h: Head, e: Edit, used: u16) -> Head
     requires { h.next ≤ 256 }
     ensures { result ≡ head_after h e used }
@@ -220,6 +228,7 @@ fn head_after(h: Head, e: Edit, used: u16) -> Head
 
 // A change carried out: entry, record, worked-out values, next id and timer, in one place, and the redo store is emptied. Nothing else writes a record
 // but undo and redo, by the same road. Where the entry has no room, nothing is written.
+#[tactic(auto, using(crate::proofs::Carrying::end_fits, crate::proofs::Standing::is_marked, crate::proofs::Standing::full_in, crate::proofs::Standing::long_more, crate::proofs::Standing::length_cut, crate::proofs::Standing::done_in, crate::proofs::Standing::next_fits))]
 pub fn carry(lent: &mut [u8], h: Head, e: Edit) -> Result<(), NoRoom>
     requires { (length lent.old ≡ image_length) × (well_formed (session_in h lent.old) ≡ true) }
     ensures value { is_err result ≡ (carried_of (session_in h lent.old) e).full }

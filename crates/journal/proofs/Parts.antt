@@ -1,7 +1,7 @@
 -- What the functions that read, add and cut an entry do to the part that is lent to them. Assumes nothing.
 use native.Mathlib.Nat.{add-sub_cancel_left}
-use Rattle.std.specs.Prelude.{Option, None, Some}
-use Prim.Native.Nat.{ℕ, zero, suc, ◌+◌, ◌-◌, ◌≤◌, ◌<◌}
+use Rattle.std.specs.Prelude.{Option}
+use Prim.Native.Nat.{ℕ, zero, suc, ◌+◌, ◌-◌, ◌≤◌}
 use mathlib.Core.Bool.{Bool, true, false, cond, false≢true}
 use mathlib.Core.Path.{◌≡◌, refl, sym, ap, subst, ◌∙◌}
 use mathlib.Core.List.{List, [], ◌∷◌, ◌++◌, append-nil}
@@ -13,19 +13,15 @@ use lib.ListN.{length, get_or, take, drop, replicate, length-drop, length-replic
 use lib.Seq.{drop-drop, length-take-le}
 use Rattle.wire.specs.Wire.{pasted}
 use Rattle.wire.proofs.laws.Wire.{tail_part}
-use Rattle.record.specs.declared.Log.{Log}
 use Rattle.change.specs.declared.Change.{Change}
 use Rattle.change.specs.declared.Edit.{Edit}
 use Rattle.change.specs.Change.{kind_of}
 use Rattle.entries.specs.Entries.{bytes_of, body_lengths, body_len}
 use Rattle.entries.specs.Entries.{Sized}
 use Rattle.journal.proofs.laws.Bodies.{lengths}
-use Rattle.formed.specs.Formed.{cleared_ok, change_ok}
 use Rattle.journal.specs.declared.Way.{Way}
-use Rattle.journal.specs.declared.Way.TheVariants.{Before, After}
 use Rattle.journal.specs.Bytes.{body_of, entry_for, entry_bytes}
-use Rattle.journal.specs.Read.{cleared_as, reset_as, reset_ok, found_for, tables_in, values_ok, entry_ok, edit_by}
-use Rattle.change.specs.declared.Tables.{Tables}
+use Rattle.journal.specs.Read.{found_for}
 
 -- ---- parts of lent bytes
 
@@ -74,9 +70,6 @@ entry_sized e n m = let l = lengths e.tables e.change n m in (sym l.0, omega (ar
 pub room_for : (k n m : ℕ) → k ≡ n → body_len k ≤ m → body_len n ≤ m
 room_for k n m e h = subst (λ (i : ℕ). body_len i ≤ m) e h
 
-pub found_by : (w : Way) (k n : ℕ) (b : List ℕ) (x : Option Change) → k ≡ n → x ≡ found_for w n b → x ≡ found_for w k b
-found_by w k n b x e p = p ∙ ap (λ (i : ℕ). found_for w i b) (sym e)
-
 pub put_by : (e : Edit) (ch : Change) (d x : List ℕ) → e.change ≡ ch → x ≡ pasted 0 (kind_of ch ∷ body_of e.tables ch) d → x ≡ pasted 0 (entry_bytes e) d
 unfolding entry_bytes entry_for bytes_of
 put_by e ch d x h p = p ∙ sym (ap (λ (c : Change). pasted 0 (kind_of c ∷ body_of e.tables c) d) h)
@@ -86,53 +79,17 @@ put_room e ch n h p = subst (λ (c : Change). body_len (kind_of c) + 1 ≤ n) h 
 
 -- ---- what was got
 
-pub ok_by : (w : Way) (k n : ℕ) (b : List ℕ) (x : Bool) → k ≡ n → x ≡ entry_ok w (record { kind = n; body = b }) → x ≡ entry_ok w (record { kind = k; body = b })
-ok_by w k n b x e p = p ∙ ap (λ (i : ℕ). entry_ok w (record { kind = i; body = b })) (sym e)
-
--- a clear passes alike both ways, a reset by its own rule
-pub cleared_either : (w : Way) (t : Tables) (place : ℕ) (log : Log) → cleared_ok place log ≡ change_ok t (cleared_as w place log)
-unfolding cleared_as change_ok
-cleared_either Before t place log = refl
-cleared_either After t place log = refl
-
-pub reset_either : (w : Way) (t : Tables) (a b : ℕ) → reset_ok w a b ≡ change_ok t (reset_as w a b)
-unfolding reset_ok reset_as change_ok
-reset_either Before t a b = refl
-reset_either After t a b = refl
-
-pub ok_bad : (t : Tables) (f : Option Change) → None ≡ f → false ≡ values_ok t f
-unfolding values_ok
-ok_bad t f e = ap (values_ok t) e
-
 module _ (w : Way) (k : ℕ) (e : List ℕ) (f : Option Change) (found : f ≡ found_for w k (take (length e - 1) (drop 1 e))) where
   found_is : f ≡ found_for w k (drop 1 e)
   found_is = found ∙ ap (found_for w k) (tail_part e 1)
 
-  pub got_none : f ≡ None → None ≡ edit_by (tables_in k (drop 1 e)) (found_for w k (drop 1 e))
-  unfolding edit_by
-  got_none z = ap (edit_by (tables_in k (drop 1 e))) (sym z ∙ found_is)
-
-  pub got_some : (ch : Change) (t : Tables) → f ≡ Some ch → t ≡ tables_in k (take (length e - 1) (drop 1 e))
-      → Some (record { change = ch; tables = t }) ≡ edit_by (tables_in k (drop 1 e)) (found_for w k (drop 1 e))
-  unfolding edit_by
-  got_some ch t some q = λ i. edit_by ((q ∙ ap (tables_in k) (tail_part e 1)) i) ((sym some ∙ found_is) i)
-
 -- ---- room
-
-pub get_room : (e : List ℕ) (k n : ℕ) → length e - 1 ≡ n → n ≡ body_len k → body_len k ≤ length (take (length e - 1) (drop 1 e))
-get_room e k n p q = rw (tail_part e 1, length-drop) (omega (arith, p, q))
 
 pub add_room : (used n m l : ℕ) → n ≡ m → used ≤ l → n ≤ l - used → used + m ≤ l
 add_room used n m l p h k = omega (arith, p)
 
 pub append_room : (j : List ℕ) (used n : ℕ) → used + n ≤ length j → n ≤ length (take (length j - used) (drop used j))
 append_room j used n h = rw (tail_part j used, length-drop) (omega arith)
-
-pub less_than : (a n m : ℕ) → n ≡ m → a < n → a < m
-less_than a n m e h = omega (arith, e)
-
-pub at_most : (a n m : ℕ) → n ≡ m → n ≤ a → m ≤ a
-at_most a n m e h = omega (arith, e)
 
 -- a part copied over a whole array
 pub part_copied : (b d x : List ℕ) (at n : ℕ) → at + n ≤ length b → length d ≡ n → x ≡ pasted 0 (take n (drop at b)) d → x ≡ take n (drop at b)

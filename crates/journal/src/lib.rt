@@ -1,6 +1,6 @@
 // A change as an entry's bytes and back, on any lent bytes: writing one, reading one, judging its values, adding one at the end
 // and cutting it off.
-#![tactic(auto)]
+#![tactic(auto, unfolding(entries::specs::Entries::body_len, formed::specs::Formed::change_ok, crate::specs::Read::entry_ok, crate::specs::Read::values_ok, crate::specs::Read::found_for, crate::specs::Read::tables_in, crate::specs::Read::cleared_as, crate::specs::Read::reset_as, crate::specs::Read::reset_ok, crate::specs::Ways::by_way))]
 
 ghost use Rattle.std.specs.Prelude.{◌≡◌, ◌∷◌, true, ◌≤◌, ◌<◌, ◌+◌, length, take, drop};
 ghost use Rattle.wire.specs.Wire.{pasted, to_be};
@@ -23,9 +23,23 @@ pub enum Way {
     After,
 }
 
+impl Way {
+    // Of two values the one for undo, or the one for redo.
+    #[tactic(auto, unfolding(crate::specs::Ways::by_way))]
+    pub fn pick<T: Copy>(self, undo: T, redo: T) -> T
+        ensures { result ≡ by_way self undo redo }
+    {
+        match self {
+            Way::Before => undo,
+            Way::After => redo,
+        }
+    }
+}
+
 // ---- writing an entry to the front of lent bytes; the rest is kept
 
 // A kind and one number of `n` bytes.
+#[tactic(auto, using(crate::proofs::Fields::number_put, crate::proofs::Fields::number_long))]
 fn put_number(d: &mut [u8], kind: u8, n: usize, v: u64)
     requires { 1 + n ≤ length d.old }
     ensures { d.new ≡ pasted 0 (kind ∷ to_be n v) d.old }
@@ -34,6 +48,7 @@ fn put_number(d: &mut [u8], kind: u8, n: usize, v: u64)
     wire::put_be(d, 1, n, v);
 }
 
+#[tactic(auto, using(crate::proofs::Fields::marked_put))]
 fn put_thermal(d: &mut [u8], got: u8, thermal: [u8; 9])
     requires { 11 ≤ length d.old }
     ensures { d.new ≡ pasted 0 (0x06 ∷ got ∷ thermal) d.old }
@@ -42,20 +57,21 @@ fn put_thermal(d: &mut [u8], got: u8, thermal: [u8; 9])
     wire::copy(d, 2, &thermal);
 }
 
+#[tactic(auto, unfolding(crate::specs::Bytes::throttles_body), using(crate::proofs::Fields::throttles_put))]
 fn put_throttles(d: &mut [u8], got: u8, throttles: Throttles)
     requires { 164 ≤ length d.old }
     ensures { d.new ≡ pasted 0 (0x07 ∷ throttles_body got throttles) d.old }
 {
-    let sets = throttles.sets;
     put_number(
         &mut *d,
         0x07,
         3,
         got as u64 * 65536 + throttles.present as u64,
     );
-    wire::copy(d, 4, &sets);
+    wire::copy(d, 4, &throttles.sets);
 }
 
+#[tactic(auto, unfolding(crate::specs::Bytes::clock_body), using(crate::proofs::Fields::marked_put))]
 fn put_clock(d: &mut [u8], kind: u8, running: u8, time: u64)
     requires { 10 ≤ length d.old }
     ensures { d.new ≡ pasted 0 (kind ∷ clock_body running time) d.old }
@@ -64,29 +80,28 @@ fn put_clock(d: &mut [u8], kind: u8, running: u8, time: u64)
     wire::put_be(d, 2, 8, time);
 }
 
+#[tactic(auto, unfolding(crate::specs::Bytes::area_bytes, crate::specs::Bytes::areas_body), using(crate::proofs::Fields::areas_put))]
 fn put_areas(d: &mut [u8], areas: Areas)
     requires { 25 ≤ length d.old }
     ensures { d.new ≡ pasted 0 (0x0B ∷ areas_body areas) d.old }
 {
-    let ffdc = areas.ffdc;
-    let pass = areas.pass;
-    put_number(&mut *d, 0x0B, 8, ffdc.address);
-    wire::put_be(&mut *d, 9, 4, ffdc.size as u64);
-    wire::put_be(&mut *d, 13, 8, pass.address);
-    wire::put_be(d, 21, 4, pass.size as u64);
+    put_number(&mut *d, 0x0B, 8, areas.ffdc.address);
+    wire::put_be(&mut *d, 9, 4, areas.ffdc.size as u64);
+    wire::put_be(&mut *d, 13, 8, areas.pass.address);
+    wire::put_be(d, 21, 4, areas.pass.size as u64);
 }
 
 // How many bytes a change's entry has: by the types of its tables as many as its kind says.
+#[tactic(auto, using(crate::proofs::Parts::body_short, crate::proofs::Parts::entry_sized))]
 pub fn entry_len(e: Edit) -> usize
     ensures value { result ≡ entry_len e }
     ensures sized { Sized (entry_for e) }
 {
-    let change = e.change;
-    let n = entries::body_len(change::kind(change));
-    n + 1
+    entries::body_len(change::kind(e.change)) + 1
 }
 
 // A body of eight bytes at most, as the number that it spells.
+#[tactic(auto, using(crate::proofs::Spelled::spells_as, crate::proofs::Spelled::clear_spells, crate::proofs::Spelled::unclear_spells, crate::proofs::Spelled::state_spells, crate::proofs::Spelled::role_spells, crate::proofs::Spelled::unreset_spells, crate::proofs::Spelled::reset_spells, crate::proofs::Spelled::caps_spells, crate::proofs::Spelled::user_spells, crate::proofs::Spelled::mask_spells, crate::proofs::Spelled::wide_spells))]
 fn small(change: Change) -> u64
     ensures { Spells result change }
 {
@@ -109,18 +124,16 @@ fn small(change: Change) -> u64
     }
 }
 
+#[tactic(auto, unfolding(crate::specs::Bytes::entry_bytes, crate::specs::Bytes::entry_for, entries::specs::Entries::bytes_of, crate::specs::Bytes::body_of, entries::specs::Entries::body_len, change::specs::Change::kind_of), using(crate::proofs::Parts::put_by, crate::proofs::Parts::put_room, crate::proofs::Spelled::number_room, crate::proofs::Spelled::number_is))]
 fn put(d: &mut [u8], e: Edit)
     requires { body_len (kind_of e.change) + 1 ≤ length d.old }
     ensures { d.new ≡ pasted 0 (entry_bytes e) d.old }
 {
     let change = e.change;
-    let tables = e.tables;
-    let thermal = tables.thermal;
-    let throttles = tables.throttles;
     let kind = change::kind(change);
     match change {
-        Change::SetThermal(got) => put_thermal(d, got, thermal),
-        Change::SetThrottles(got) => put_throttles(d, got, throttles),
+        Change::SetThermal(got) => put_thermal(d, got, e.tables.thermal),
+        Change::SetThrottles(got) => put_throttles(d, got, e.tables.throttles),
         Change::SetDeadman(deadman) => put_clock(d, 0x0A, deadman.running, deadman.time),
         Change::SetAreas(areas) => put_areas(d, areas),
         Change::SetTimer(timer) => put_clock(d, 0x0C, timer.running, timer.left),
@@ -153,24 +166,24 @@ pub fn area_at(b: &[u8], at: usize) -> Area
     }
 }
 
-pub fn thermal_at(b: &[u8], at: usize) -> [u8; 9]
-    requires { at + 9 ≤ length b.now }
-    ensures { result ≡ take 9 (drop at b.now) }
+// The bytes from a place on, as many as the array has.
+pub fn part_at<const N: usize>(b: &[u8], at: usize) -> [u8; N]
+    requires { at + N ≤ length b.now }
+    ensures { result ≡ take N (drop at b.now) }
 {
-    let mut thermal = [0u8; 9];
-    wire::copy(&mut thermal, 0, &b[at..at + 9]);
-    thermal
+    let mut part = [0u8; N];
+    wire::copy(&mut part, 0, &b[at..at + N]);
+    part
 }
 
 pub fn throttles_at(b: &[u8], at: usize) -> Throttles
     requires { at + 162 ≤ length b.now }
     ensures { result ≡ throttles_at at b.now }
 {
-    let present = wire::be16(b, at);
-    let mut sets = [0u8; 160];
-    let start = at + 2;
-    wire::copy(&mut sets, 0, &b[start..start + 160]);
-    Throttles { present, sets }
+    Throttles {
+        present: wire::be16(b, at),
+        sets: part_at(b, at + 2),
+    }
 }
 
 // A clear is taken back, or done again.
@@ -237,37 +250,28 @@ fn tables_in(kind: u8, b: &[u8]) -> Tables
     ensures { result ≡ tables_in kind b.now }
 {
     let none = change::no_tables();
-    let no_thermal = none.thermal;
-    let no_throttles = none.throttles;
-    if kind == 0x06 {
-        let thermal = thermal_at(b, 1);
-        return Tables {
-            thermal: thermal,
-            throttles: no_throttles,
-        };
+    match kind {
+        0x06 => Tables {
+            thermal: part_at(b, 1),
+            ..none
+        },
+        0x07 => Tables {
+            throttles: throttles_at(b, 1),
+            ..none
+        },
+        _ => none,
     }
-    if kind == 0x07 {
-        let throttles = throttles_at(b, 1);
-        return Tables {
-            thermal: no_thermal,
-            throttles: throttles,
-        };
-    }
-    none
 }
 
 // What one whole entry says, if the bytes are exactly one.
+#[tactic(auto, unfolding(crate::specs::Read::got_of, crate::specs::Read::got_for, crate::specs::Read::edit_by))]
 pub fn get(way: Way, e: &[u8]) -> Option<Edit>
     ensures { result ≡ got_of way e.now }
 {
-    if e.len() == 0 {
+    let (&kind, b) = e.split_first()?;
+    if b.len() != entries::body_len(kind) {
         return None;
     }
-    let kind = e[0];
-    if e.len() - 1 != entries::body_len(kind) {
-        return None;
-    }
-    let b = &e[1..];
     let change = found_for(way, kind, b)?;
     let tables = tables_in(kind, b);
     Some(Edit { change, tables })
@@ -301,7 +305,7 @@ fn body_ok(way: Way, kind: u8, b: &[u8]) -> bool
         0x03 => formed::role_ok(b[0], b[1]),
         0x04 => formed::caps_ok(b[0], caps_at(b, 1)),
         0x05 => true,
-        0x06 => formed::thermal_ok(b[0], thermal_at(b, 1)),
+        0x06 => formed::thermal_ok(b[0], part_at(b, 1)),
         0x07 => formed::throttles_ok(b[0], throttles_at(b, 1)),
         0x08 => reset_ok(way, b[0], b[1]),
         0x09 => true,
@@ -322,6 +326,7 @@ fn body_ok(way: Way, kind: u8, b: &[u8]) -> bool
 }
 
 // Document 02, i: only the journal is marked. Most entries aren't, in either store: that is looked at first.
+#[tactic(auto, unfolding(crate::specs::Ways::by_way), using(crate::proofs::Judging::not_marked))]
 fn mark_stands(way: Way, m: &[u8], n: usize, at: usize) -> bool
     requires { (length m.now ≡ 64) × (n < 1024) }
     ensures { result ≡ by_way way (stands_at m.now n at) true }
@@ -381,6 +386,7 @@ pub fn all_ok(way: Way, j: &[u8], m: &[u8]) -> bool
 // ---- the end of the used bytes
 
 // Puts a change's entry there; the room is known.
+#[tactic(auto, using(crate::proofs::Parts::tail_pasted, crate::proofs::Parts::append_room))]
 pub fn append(j: &mut [u8], used: usize, e: Edit)
     requires { used + entry_len e ≤ length j.old }
     ensures { j.new ≡ pasted used (entry_bytes e) j.old }
@@ -389,16 +395,14 @@ pub fn append(j: &mut [u8], used: usize, e: Edit)
 }
 
 // Adds a change's entry at the end of the used bytes, where there is room: they end there then.
+#[tactic(auto, unfolding(crate::specs::Add::end_of, crate::specs::Add::added_to), using(crate::proofs::Parts::add_room))]
 pub fn add(j: &mut [u8], used: usize, e: Edit) -> Option<usize>
     ensures value { result ≡ end_of (length j.old) used e }
     ensures j_after { j.new ≡ added_to used e j.old }
     ensures sized { Sized (entry_for e) }
 {
     let n = entry_len(e);
-    if j.len() < used {
-        return None;
-    }
-    if j.len() - used < n {
+    if j.len() < used || j.len() - used < n {
         return None;
     }
     append(j, used, e);
@@ -406,14 +410,11 @@ pub fn add(j: &mut [u8], used: usize, e: Edit) -> Option<usize>
 }
 
 // Zeroes the bytes from `at` to the end of the used ones.
+#[tactic(auto, unfolding(crate::specs::Add::cut_from), using(crate::proofs::Parts::part_zeroed))]
 pub fn cut(j: &mut [u8], at: usize, used: usize)
     ensures { j.new ≡ cut_from at used j.old }
 {
-    if j.len() < used {
-        return;
+    if at <= used && used <= j.len() {
+        wire::zero_all(&mut j[at..used]);
     }
-    if used < at {
-        return;
-    }
-    wire::zero_all(&mut j[at..used]);
 }

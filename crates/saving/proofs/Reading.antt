@@ -42,14 +42,6 @@ module _ (j : List ℕ) (x : Reading) (e : x ≡ reading_of (scan j)) (fits : Re
   pub used_broken : {broken : Broken} → x ≡ Err broken → (broken.place ≡ used_in j) × (broken.place ≤ length j)
   used_broken f = (used j x _ e f, subst (ReadingFits (length j)) f fits)
 
--- ---- a part copied into an array of its own
-
--- a store's, which begins and ends at two places
-pub store_copied : (at : ℕ) (b x : List ℕ) → at + 2048 ≤ length b → x ≡ pasted 0 (take (at + 2048 - at) (drop at b)) (replicate 2048 0) → x ≡ part_at 2048 at b
-store_copied at b x h p =
-    let m : at + 2048 - at ≡ 2048 = omega arith in
-    part_copied b (replicate 2048 0) x at 2048 h (length-replicate {A = ℕ} 2048 0) (p ∙ ap (λ (n : ℕ). pasted 0 (take n (drop at b)) (replicate 2048 0)) m)
-
 -- ---- a base save's record, and its journal
 
 drop_zeros : (n m : ℕ) → drop n (replicate {A = ℕ} m 0) ≡ replicate (m - n) 0

@@ -26,34 +26,25 @@ pub const BASE_MOST: usize = 2280;
 // ---- what the base version could hold
 
 // Document 01's first rule, on nine thermal bytes.
+#[tactic(auto, unfolding(crate::specs::Moves::first_rule, formed::specs::Formed::in_order_first))]
 fn first_rule(t: &[u8]) -> bool
     requires { 9 ≤ length t.now }
     ensures { result ≡ first_rule t.now }
 {
-    if t[1] < t[0] {
-        return false;
-    }
-    if t[4] < t[3] {
-        return false;
-    }
-    t[6] <= t[7]
+    t[0] <= t[1] && t[3] <= t[4] && t[6] <= t[7]
 }
 
 // An entry's bytes, its kind first: of kind 0C none, of kind 06 by the rule.
+#[tactic(auto, unfolding(crate::specs::Moves::base_entry), using(crate::proofs::Holding::eleven, crate::proofs::Holding::nine, crate::proofs::Holding::thermal_of))]
 fn entry_holds(e: &[u8]) -> bool
     requires { length e.now ≡ body_len (get_or e.now 0 0) + 1 }
     ensures { result ≡ base_entry (entry_of e.now) }
 {
-    if e[0] == 0x0C {
-        return false;
-    }
-    if e[0] == 0x06 {
-        return first_rule(&e[2..]);
-    }
-    true
+    e[0] != 0x0C && (e[0] != 0x06 || first_rule(&e[2..]))
 }
 
 // Of bytes that read as entries, whether each is one of the base version's.
+#[tactic(auto, using(crate::proofs::Holding::none_held, crate::proofs::Holding::all_held, crate::proofs::Holding::ends_in, crate::proofs::Holding::entry_whole, crate::proofs::Holding::next_held, crate::proofs::Holding::other_held))]
 fn entries_hold(j: &[u8]) -> bool
     requires { ReadsWhole j.now }
     ensures { result ≡ base_entries (entries_of (scan j.now)) }
@@ -70,64 +61,43 @@ fn entries_hold(j: &[u8]) -> bool
 }
 
 // Of a well-formed session.
+#[tactic(auto, using(crate::proofs::Holding::used_fits, crate::proofs::Holding::journal_whole, crate::proofs::Holding::holds_not, crate::proofs::Holding::holds_so))]
 fn holds_base(d: &[u8], h: Head) -> bool
     requires { (length d.now ≡ image_length) × (h ≡ head_in d.now) × (well_formed (session_in h d.now) ≡ true) }
     ensures { result ≡ base_holds (session_in h d.now) }
 {
-    if !first_rule(&d[172..181]) {
-        return false;
-    }
     let end = layout::JOURNAL + h.used as usize;
-    entries_hold(&d[layout::JOURNAL..end])
+    first_rule(&d[172..181]) && entries_hold(&d[layout::JOURNAL..end])
 }
 
 // "Moving down is possible only with an empty redo store, the full profile, no kind 0C entry or timer, and no threshold .."
+#[tactic(auto, unfolding(crate::specs::Moves::goes_down, image::specs::Image::session_in))]
 fn goes_down(d: &[u8], h: Head) -> bool
     requires { (length d.now ≡ image_length) × (h ≡ head_in d.now) × (well_formed (session_in h d.now) ≡ true) }
     ensures { result ≡ goes_down (session_in h d.now) }
 {
-    let timer = h.timer;
-    if h.ahead != 0 {
-        return false;
-    }
-    if h.profile != 0 {
-        return false;
-    }
-    if timer.running != 0 {
-        return false;
-    }
-    holds_base(d, h)
+    h.ahead == 0 && h.profile == 0 && h.timer.running == 0 && holds_base(d, h)
 }
 
 // ---- the new form read
 
 // The seven kinds, each where its part begins.
+#[tactic(auto, unfolding(crate::specs::Forms::kinds_ok))]
 fn kinds_ok(b: &[u8]) -> bool
     requires { length b.now ≡ saved_length }
     ensures { result ≡ kinds_ok b.now }
 {
-    if b[0] != 0x01 {
-        return false;
-    }
-    if b[231] != 0x02 {
-        return false;
-    }
-    if b[234] != 0x03 {
-        return false;
-    }
-    if b[2283] != 0x04 {
-        return false;
-    }
-    if b[4332] != 0x05 {
-        return false;
-    }
-    if b[4397] != 0x06 {
-        return false;
-    }
-    b[4399] == 0x07
+    b[0] == 0x01
+        && b[231] == 0x02
+        && b[234] == 0x03
+        && b[2283] == 0x04
+        && b[4332] == 0x05
+        && b[4397] == 0x06
+        && b[4399] == 0x07
 }
 
 // How many bytes of a store its entries take: up to what is none.
+#[tactic(auto, using(crate::proofs::Reading::used, crate::proofs::Reading::used_broken))]
 fn used_in(j: &[u8]) -> usize
     ensures { (result ≡ used_in j.now) × (result ≤ length j.now) }
 {
@@ -137,36 +107,18 @@ fn used_in(j: &[u8]) -> usize
     }
 }
 
-fn store_from(b: &[u8], at: usize) -> [u8; 2048]
-    requires { at + 2048 ≤ length b.now }
-    ensures { result ≡ part_at 2048 at b.now }
-{
-    let end = at + layout::STORE;
-    let mut store = [0u8; 2048];
-    wire::copy(&mut store, 0, &b[at..end]);
-    store
-}
-
-fn marks_from(b: &[u8]) -> [u8; 64]
-    requires { length b.now ≡ saved_length }
-    ensures { result ≡ part_at 64 4333 b.now }
-{
-    let mut marks = [0u8; 64];
-    wire::copy(&mut marks, 0, &b[4333..4397]);
-    marks
-}
-
+#[tactic(auto, unfolding(crate::specs::Forms::timer_from))]
 fn timer_from(b: &[u8]) -> Timer
     requires { length b.now ≡ saved_length }
     ensures { result ≡ timer_from b.now }
 {
-    let left = wire::be64(b, 4401);
     Timer {
         running: b[4400],
-        left: left,
+        left: wire::be64(b, 4401),
     }
 }
 
+#[tactic(auto, using(crate::proofs::Reading::session_read))]
 fn session_in(b: &[u8]) -> Session
     requires { length b.now ≡ saved_length }
     ensures { result ≡ session_of_saved b.now }
@@ -176,25 +128,26 @@ fn session_in(b: &[u8]) -> Session
     let next = wire::be16(b, 232);
     let used = used_in(&b[235..2283]) as u16;
     let ahead = used_in(&b[2284..4332]) as u16;
-    let journal = store_from(b, 235);
-    let redo = store_from(b, 2284);
-    let marks = marks_from(b);
+    let journal = journal::part_at(b, 235);
+    let redo = journal::part_at(b, 2284);
+    let marks = journal::part_at(b, 4333);
     let timer = timer_from(b);
     Session {
-        held: held,
-        worked: worked,
-        next: next,
-        journal: journal,
-        used: used,
-        redo: redo,
-        ahead: ahead,
-        marks: marks,
-        timer: timer,
+        held,
+        worked,
+        next,
+        journal,
+        used,
+        redo,
+        ahead,
+        marks,
+        timer,
         profile: b[4398],
     }
 }
 
 // Whether a new form reads; d is the image of its session then.
+#[tactic(auto, using(wire::proofs::laws::Wire::bytes_of, crate::proofs::Calls::saved_length_lem, crate::proofs::Calls::saved_kinds, crate::proofs::Calls::saved_found))]
 fn read_saved(b: &[u8], d: &mut [u8]) -> bool
     requires { length d.old ≡ image_length }
     ensures value { result ≡ saved_reads b.now }
@@ -213,6 +166,7 @@ fn read_saved(b: &[u8], d: &mut [u8]) -> bool
 // ---- the base form read
 
 // Its record: `image::record_in` asks for 239 bytes, and a save may have 232.
+#[tactic(auto, using(crate::proofs::Reading::front_read, crate::proofs::Reading::front_fits))]
 fn base_record(b: &[u8]) -> Record
     requires { base_head ≤ length b.now }
     ensures { result ≡ record_in b.now }
@@ -223,6 +177,7 @@ fn base_record(b: &[u8]) -> Record
 }
 
 // "The journal padded to 2,048".
+#[tactic(auto, using(crate::proofs::Reading::padded_is))]
 fn pad(j: &[u8]) -> [u8; 2048]
     requires { length j.now ≤ 2048 }
     ensures { result ≡ padded j.now }
@@ -233,6 +188,7 @@ fn pad(j: &[u8]) -> [u8; 2048]
 }
 
 // "Moving up leaves redo empty, profile full and timer off, and works the marks out."
+#[tactic(auto, using(crate::proofs::Reading::base_read, crate::proofs::Reading::journal_reads))]
 fn session_of_base(b: &[u8]) -> Session
     requires { (base_head ≤ length b.now) × (length b.now ≤ base_most) × ReadsWhole (drop base_head b.now) }
     ensures { result ≡ session_of_base b.now }
@@ -241,16 +197,16 @@ fn session_of_base(b: &[u8]) -> Session
     let worked = record::work_out(held);
     let next = wire::be16(b, 230);
     let journal = pad(&b[BASE_HEAD..]);
-    let found = forget_call::marks_of(&b[BASE_HEAD..]);
+    let marks = forget_call::marks_of(&b[BASE_HEAD..]);
     Session {
-        held: held,
-        worked: worked,
-        next: next,
-        journal: journal,
+        held,
+        worked,
+        next,
+        journal,
         used: (b.len() - BASE_HEAD) as u16,
         redo: [0; 2048],
         ahead: 0,
-        marks: found,
+        marks,
         timer: Timer {
             running: 0,
             left: 0,
@@ -260,6 +216,7 @@ fn session_of_base(b: &[u8]) -> Session
 }
 
 // Whether a base save reads: the image of its session stands in d then.
+#[tactic(auto, using(wire::proofs::laws::Wire::bytes_of, crate::proofs::Calls::base_short, crate::proofs::Calls::base_over, crate::proofs::Calls::base_broken, crate::proofs::Calls::base_whole, crate::proofs::Calls::base_image_long, crate::proofs::Calls::base_ill, crate::proofs::Calls::base_formed, crate::proofs::Calls::base_found))]
 fn read_base(b: &[u8], d: &mut [u8]) -> bool
     requires { length d.old ≡ image_length }
     ensures value { result ≡ base_reads b.now }
@@ -284,16 +241,17 @@ fn read_base(b: &[u8], d: &mut [u8]) -> bool
 // ---- writing, from a session's image
 
 // A part: its kind and its body.
+#[tactic(auto, using(crate::proofs::Writing::part_put))]
 fn put_part(out: &mut [u8], at: usize, kind: u8, body: &[u8])
     requires { at + (length body.now + 1) ≤ length out.old }
     ensures { out.new ≡ pasted at (kind ∷ body.now) out.old }
 {
-    let first = [kind];
-    wire::copy(&mut *out, at, &first);
+    wire::copy(&mut *out, at, &[kind]);
     wire::copy(out, at + 1, body);
 }
 
 // The new form: the image's parts but for what is worked out and the used lengths.
+#[tactic(auto, using(wire::proofs::laws::Wire::bytes_of, crate::proofs::Writing::part_long, crate::proofs::Writing::saved_put))]
 fn put_saved(b: &[u8], out: &mut [u8])
     requires { (length b.now ≡ image_length) × (saved_length ≤ length out.old) }
     ensures out_after { out.new ≡ pasted 0 (saved_of (session_of b.now)) out.old }
@@ -309,6 +267,7 @@ fn put_saved(b: &[u8], out: &mut [u8])
 }
 
 // "13 output buffer too short" is known before a byte is written.
+#[tactic(auto, using(wire::proofs::laws::Wire::bytes_of, crate::proofs::Writing::saved_long, crate::proofs::Writing::put_short, crate::proofs::Writing::put_done))]
 fn put_new(b: &[u8], out: &mut [u8]) -> Told
     requires { length b.now ≡ image_length }
     ensures { Allows (put_into (saved_of (session_of b.now)) out.old) result out.new }
@@ -321,6 +280,7 @@ fn put_new(b: &[u8], out: &mut [u8]) -> Told
 }
 
 // The base form: the record, the next id and the used journal.
+#[tactic(auto, using(wire::proofs::laws::Wire::bytes_of, crate::proofs::Writing::base_put))]
 fn put_base(b: &[u8], used: usize, out: &mut [u8])
     requires { (length b.now ≡ image_length) × (used ≡ (session_of b.now).used) × (used ≤ 2048) × (base_head + used ≤ length out.old) }
     ensures out_after { out.new ≡ pasted 0 (base_of (session_of b.now)) out.old }
@@ -332,6 +292,7 @@ fn put_base(b: &[u8], used: usize, out: &mut [u8])
     wire::copy(out, BASE_HEAD, &b[layout::JOURNAL..end]);
 }
 
+#[tactic(auto, using(wire::proofs::laws::Wire::bytes_of, crate::proofs::Writing::base_long, crate::proofs::Writing::put_short, crate::proofs::Writing::put_done))]
 fn put_old(b: &[u8], used: usize, out: &mut [u8]) -> Told
     requires { (length b.now ≡ image_length) × (used ≡ (session_of b.now).used) × (used ≤ 2048) }
     ensures { Allows (put_into (base_of (session_of b.now)) out.old) result out.new }
@@ -353,6 +314,7 @@ fn blank() -> [u8; 4411]
 }
 
 // The new form of a well-formed session, which is lent as its image's bytes.
+#[tactic(auto, using(crate::proofs::Calls::save_unopened, crate::proofs::Calls::save_put))]
 pub fn save(session: &[u8], out: &mut [u8]) -> Told
     ensures { Allows (save_to session.now out.old) result out.new }
 {
@@ -363,6 +325,7 @@ pub fn save(session: &[u8], out: &mut [u8]) -> Told
 }
 
 // The session of a new form, as its image's bytes, whatever session was there.
+#[tactic(auto, using(crate::proofs::Calls::restore_length, crate::proofs::Calls::restore_ill, crate::proofs::Calls::restore_done))]
 pub fn restore(session: &mut [u8], saved: &[u8]) -> Told
     ensures { Allows (restore_to saved.now session.old) result session.new }
 {
@@ -378,6 +341,7 @@ pub fn restore(session: &mut [u8], saved: &[u8]) -> Told
 }
 
 // A base save as the new form.
+#[tactic(auto, using(wire::proofs::laws::Wire::bytes_of, crate::proofs::Calls::up_ill, crate::proofs::Calls::up_put))]
 pub fn move_up(saved: &[u8], out: &mut [u8]) -> Told
     ensures { Allows (move_up_to saved.now out.old) result out.new }
 {
@@ -389,6 +353,7 @@ pub fn move_up(saved: &[u8], out: &mut [u8]) -> Told
 }
 
 // A new form as a base save.
+#[tactic(auto, using(wire::proofs::laws::Wire::bytes_of, crate::proofs::Holding::used_fits, crate::proofs::Calls::down_ill, crate::proofs::Calls::down_formed, crate::proofs::Calls::down_used, crate::proofs::Calls::down_not, crate::proofs::Calls::down_put))]
 pub fn move_down(saved: &[u8], out: &mut [u8]) -> Told
     ensures { Allows (move_down_to saved.now out.old) result out.new }
 {

@@ -56,20 +56,16 @@ pub fn held_ok(held: Record, worked: Worked, next: u16) -> bool
 }
 
 // The used bytes of a store read as entries with good values, and the unused part is zero; the journal's marks m are those of its entries. It is read once.
+#[tactic(auto, unfolding(crate::specs::Session::store_ok, crate::specs::Session::entries_in, journal::specs::Read::read_ok), using(wire::proofs::laws::Wire::tail_part, crate::proofs::Tests::tests_are))]
 pub fn store_ok(way: Way, j: &[u8], used: usize, m: &[u8]) -> bool
     requires { (length m.now ≡ 64) × (length j.now ≡ 2048) }
     ensures { result ≡ cond (store_ok way j.now used) (marks_ok way m.now (entries_in used j.now)) false }
 {
-    if j.len() < used {
-        return false;
-    }
-    if !journal::all_ok(way, &j[..used], m) {
-        return false;
-    }
-    wire::all_zero(&j[used..])
+    used <= j.len() && journal::all_ok(way, &j[..used], m) && wire::all_zero(&j[used..])
 }
 
 // Of bytes that read as entries, whether each is of kind 01: those have 4 bytes.
+#[tactic(auto, using(crate::proofs::Clears::none_cleared, crate::proofs::Clears::all_clears, crate::proofs::Clears::clear_fits, crate::proofs::Clears::next_cleared))]
 pub fn only_clears(b: &[u8]) -> bool
     requires { ReadsWhole b.now }
     ensures { result ≡ only_clears (entries_of (scan b.now)) }

@@ -1,15 +1,10 @@
 -- What the steps of the call give back, from what they call. Assumes nothing.
-use Prim.Native.Nat.{ℕ, ◌≤◌}
-use mathlib.Core.Bool.{Bool, false}
-use mathlib.Core.Path.{◌≡◌, refl, sym, ap, ◌∙◌}
+use Prim.Native.Nat.{ℕ}
+use mathlib.Core.Path.{◌≡◌, ap, ◌∙◌}
 use mathlib.Core.List.{List}
-use native.Mathlib.Omega.{arith}
-use borrow.Author.Tests.{leb-false}
-use lib.Dec.{leb}
-use Rattle.wire.proofs.laws.Cases.{else_eq}
 use Rattle.record.specs.declared.Timer.{Timer}
 use Rattle.session.specs.Session.{with_timer}
-use Rattle.session.specs.Road.{passes, expires, ticked, timer_bell, time_passed, done, settled}
+use Rattle.session.specs.Road.{passes, ticked, timer_bell, time_passed, done, settled}
 use Rattle.session.specs.declared.Session.{Session}
 use Rattle.image.specs.declared.Head.{Head}
 use Rattle.image.specs.Image.{image_of, head_timed, session_in}
@@ -17,11 +12,6 @@ use Rattle.inplace.specs.declared.Told.{Told}
 use Rattle.inplace.specs.InPlace.{Opens, Unopened, rung_left, HeadStands}
 use Rattle.inplace.proofs.laws.Silent as silent
 use Rattle.time_call.specs.Time.{time_asks, time_call, timed_by, time_on}
-
--- one that runs has more left than is taken off
-pub enough_left : (n : ℕ) (t : Timer) (x : Bool) → x ≡ expires n t → x ≡ false → (t.running ≡ 0 → ⊥) → n ≤ t.left
-unfolding expires
-enough_left n t x e f on = let over = leb-false t.left n (else_eq false (leb t.left n) on refl ∙ sym e ∙ f) in omega (arith, over)
 
 -- ---- on the head h that stands in the lent bytes b
 

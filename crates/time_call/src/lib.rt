@@ -1,5 +1,5 @@
 // The call `time`: the bench reports that so many microseconds have passed. The timer alone moves; no entry is made, and the redo store stays.
-#![tactic(auto)]
+#![tactic(auto, unfolding(session::specs::Road::timer_bell, session::specs::Road::expires, session::specs::Road::ticked))]
 
 ghost use Rattle.std.specs.Prelude.{◌≡◌};
 ghost use Rattle.session.specs.Road.{expires, ticked, timer_bell, passes};
@@ -15,10 +15,7 @@ use record::Timer;
 fn expires(t: Timer, n: u64) -> bool
     ensures { result ≡ expires n t }
 {
-    if t.running == 0 {
-        return false;
-    }
-    t.left <= n
+    t.running != 0 && t.left <= n
 }
 
 // Fewer are taken off; as many or more stop the timer.
@@ -35,8 +32,8 @@ fn ticked(t: Timer, n: u64) -> Timer
         return t;
     }
     Timer {
-        running: t.running,
         left: t.left - n,
+        ..t
     }
 }
 
@@ -51,18 +48,19 @@ fn bell(t: Timer, n: u64) -> u16
 }
 
 // On a well-formed session.
+#[tactic(auto, using(crate::proofs::Passing::time_passes))]
 fn pass(lent: &mut [u8], h: Head, n: u64) -> Told
     requires { HeadStands h lent.old }
     ensures value { result ≡ (timed_by (session_in h lent.old) (passes n)).told }
     ensures lent_after { lent.new ≡ (timed_by (session_in h lent.old) (passes n)).image }
 {
-    let now = h.timer;
-    let head = image::with_timer(h, ticked(now, n));
+    let head = image::with_timer(h, ticked(h.timer, n));
     image::write_head(lent, head);
-    inplace::answer_with(0, bell(now, n))
+    inplace::answer_with(0, bell(h.timer, n))
 }
 
 // The public call, on a session that is lent as its image's bytes; the doorbell stands beside the answer.
+#[tactic(auto, using(crate::proofs::Passing::unopened, crate::proofs::Passing::passed_in_lem))]
 pub fn time(lent: &mut [u8], n: u64) -> Told
     ensures { TimeAllows n lent.old result lent.new }
 {

@@ -20,40 +20,10 @@ use journal::Way;
 use marks::Newest;
 use record::{Record, Timer};
 
-// ---- by the way
-
-fn other(way: Way) -> Way
-    ensures { result ≡ other way }
-{
-    match way {
-        Way::Before => Way::After,
-        Way::After => Way::Before,
-    }
-}
-
-fn by_way(way: Way, undo: usize, redo: usize) -> usize
-    requires { (undo ≤ 65535) × (redo ≤ 65535) }
-    ensures value { result ≡ by_way way undo redo }
-    ensures upper_bound { result ≤ 65535 }
-{
-    match way {
-        Way::Before => undo,
-        Way::After => redo,
-    }
-}
-
-fn none_left(way: Way) -> u8
-    ensures { result ≡ none_left way }
-{
-    match way {
-        Way::Before => 6,
-        Way::After => 8,
-    }
-}
-
 // ---- the marks
 
 // Where to begin looking for the newest entry of a store: undo at the last mark.
+#[tactic(auto, using(inplace::proofs::Marking::parts_long, crate::proofs::Marking::looks_before, crate::proofs::Marking::looks_after))]
 fn look_from(lent: &[u8], way: Way) -> usize
     requires { length lent.now ≡ image_length }
     ensures { LooksFrom way lent.now result }
@@ -68,6 +38,7 @@ fn look_from(lent: &[u8], way: Way) -> usize
 }
 
 // The marks for the newest entry less, which begins at `at`, or for one more at the used end.
+#[tactic(auto, using(crate::proofs::Marking::again_before, crate::proofs::Marking::again_after))]
 fn mark_again(lent: &mut [u8], way: Way, used: usize, at: usize)
     requires { (length lent.old ≡ image_length) × MarksBefore way used at lent.old × (way ≡ After → used + 2 ≤ 2048) }
     ensures { MarksAfter way used at lent.old lent.new }
@@ -81,25 +52,28 @@ fn mark_again(lent: &mut [u8], way: Way, used: usize, at: usize)
 // ---- the change `e`, whose entry starts at `at` of its store
 
 // The entry is zeroed, and what takes the change back put at the end of the other store.
+#[tactic(auto, using(crate::proofs::Taking::entry_moved, crate::proofs::Taking::long_moved))]
 fn move_entry(lent: &mut [u8], way: Way, at: usize, from: usize, to: usize, back: Edit)
     requires { (length lent.old ≡ image_length) × (to + entry_len back ≤ 2048) }
     ensures { Moved way at from to back lent.old lent.new }
 {
     inplace::cut(&mut *lent, way, at, from);
-    inplace::append(lent, other(way), to, back);
+    inplace::append(lent, way.pick(Way::After, Way::Before), to, back);
 }
 
 // The head with the timer and the record after it; its entry's store ends at `at` then, the other one at `end`.
+#[tactic(auto, unfolding(crate::specs::Undo::head_moved))]
 fn head_moved(h: Head, way: Way, timer: Timer, after: Record, at: usize, end: usize) -> Head
     requires { (at ≤ 2048) × (end ≤ 2048) }
     ensures { result ≡ head_moved h way timer after at end }
 {
-    let used = by_way(way, at, end);
-    let ahead = by_way(way, end, at);
+    let used = way.pick(at as u16, end as u16);
+    let ahead = way.pick(end as u16, at as u16);
     let timed = image::with_timer(h, timer);
-    image::renewed(timed, after, h.next, used as u16, ahead as u16)
+    image::renewed(timed, after, h.next, used, ahead)
 }
 
+#[tactic(auto, using(crate::proofs::Taking::room, crate::proofs::Taking::at_fits, crate::proofs::Taking::session_moved_lem, crate::proofs::Marking::marked_again, crate::proofs::Marking::two_more))]
 fn carry_on(lent: &mut [u8], h: Head, way: Way, at: usize, e: Edit, after: Record)
     requires { (length lent.old ≡ image_length) × (at + entry_len e ≡ by_way way h.used h.ahead) × (h.used + h.ahead ≤ 2048) × MarksBefore way h.used at lent.old }
     ensures { lent.new ≡ image_of (session_moved way (session_in h lent.old) at e after) }
@@ -107,8 +81,8 @@ fn carry_on(lent: &mut [u8], h: Head, way: Way, at: usize, e: Edit, after: Recor
     let back = change::takes_back(h.held, h.timer, e);
     let timer = change::timer_after(h.timer, e.change);
     let n = journal::entry_len(back);
-    let from = by_way(way, h.used as usize, h.ahead as usize);
-    let to = by_way(way, h.ahead as usize, h.used as usize);
+    let from = way.pick(h.used, h.ahead) as usize;
+    let to = way.pick(h.ahead, h.used) as usize;
     mark_again(&mut *lent, way, h.used as usize, at);
     move_entry(&mut *lent, way, at, from, to, back);
     let head = head_moved(h, way, timer, after, at, to + n);
@@ -116,6 +90,7 @@ fn carry_on(lent: &mut [u8], h: Head, way: Way, at: usize, e: Edit, after: Recor
 }
 
 // It is put into the record, or refused. So many entries were passed to find it.
+#[tactic(auto, using(crate::proofs::Taking::put_refused, crate::proofs::Taking::put_ill, crate::proofs::Taking::put_done))]
 fn take(lent: &mut [u8], h: Head, way: Way, at: usize, e: Edit, passed: u8) -> Told
     requires { HeadStands h lent.old × (at + entry_len e ≡ by_way way h.used h.ahead) × (h.used + h.ahead ≤ 2048) × MarksBefore way h.used at lent.old × (passed ≡ passed_by way (session_in h lent.old)) }
     ensures value { result ≡ (moved_by way (session_in h lent.old) (edit_asks way (session_in h lent.old) at e)).told }
@@ -136,6 +111,7 @@ fn take(lent: &mut [u8], h: Head, way: Way, at: usize, e: Edit, passed: u8) -> T
 }
 
 // The newest entry of a store that has one: where it begins, and how many entries undo passed, from the last mark on, to find it.
+#[tactic(auto, using(image::proofs::laws::Stores::store_low, crate::proofs::Taking::count_fits, crate::proofs::Finding::from_low, crate::proofs::Finding::found_there, crate::proofs::Finding::never_nothing, crate::proofs::Marking::found_bound))]
 fn newest_of(lent: &[u8], h: Head, way: Way, used: usize) -> Option<Newest>
     requires { HeadStands h lent.now × (well_formed (session_in h lent.now) ≡ true) × (used ≡ by_way way h.used h.ahead) × (used ≡ 0 → ⊥) }
     ensures { NewestFound way (session_in h lent.now) result }
@@ -145,7 +121,7 @@ fn newest_of(lent: &[u8], h: Head, way: Way, used: usize) -> Option<Newest>
     let first = store + from;
     let end = store + used;
     let found = marks::find_newest(&lent[first..end])?;
-    let passed = by_way(way, found.passed, 0);
+    let passed = way.pick(found.passed, 0);
     Some(Newest {
         place: from + found.place,
         passed,
@@ -153,14 +129,15 @@ fn newest_of(lent: &[u8], h: Head, way: Way, used: usize) -> Option<Newest>
 }
 
 // A well-formed session reads as entries with good values; what the two `else` answer can't come.
+#[tactic(auto, using(image::proofs::laws::Stores::store_low, crate::proofs::Taking::none_held, crate::proofs::Taking::sum_fits, crate::proofs::Taking::count_fits, crate::proofs::Taking::by_newest, crate::proofs::Taking::at_low, crate::proofs::Taking::entry_bad, crate::proofs::Taking::entry_good, crate::proofs::Taking::entry_ends, crate::proofs::Finding::marks_before, crate::proofs::Marking::passed_low))]
 fn take_newest(lent: &mut [u8], h: Head, way: Way) -> Told
     requires { HeadStands h lent.old × (well_formed (session_in h lent.old) ≡ true) }
     ensures value { result ≡ (moved_by way (session_in h lent.old) (newest_asks way (session_in h lent.old))).told }
     ensures lent_after { lent.new ≡ (moved_by way (session_in h lent.old) (newest_asks way (session_in h lent.old))).image }
 {
-    let used = by_way(way, h.used as usize, h.ahead as usize);
+    let used = way.pick(h.used, h.ahead) as usize;
     if used == 0 {
-        return inplace::answer_with(none_left(way), 0);
+        return inplace::answer_with(way.pick(6, 8), 0);
     }
     let Some(newest) = newest_of(&*lent, h, way, used) else {
         return inplace::answer_with(1, 0);
@@ -177,6 +154,7 @@ fn take_newest(lent: &mut [u8], h: Head, way: Way) -> Told
 
 // ---- the calls, on a session that is lent as its image's bytes; kind and number passed stand beside the answer
 
+#[tactic(auto, using(crate::proofs::Taking::unopened, crate::proofs::Taking::newest_taken))]
 fn take_from(lent: &mut [u8], way: Way) -> Told
     ensures { MoveAllows way lent.old result lent.new }
 {

@@ -12,25 +12,23 @@ use inplace::Told;
 use session::Session;
 
 // On a well-formed session.
+#[tactic(auto, using(crate::proofs::Opening::opened_on))]
 fn open_over(lent: &mut [u8], h: Head) -> Told
     requires { length lent.old ≡ image_length }
     ensures value { result ≡ (opened_by (session_in h lent.old) opens).told }
     ensures lent_after { lent.new ≡ (opened_by (session_in h lent.old) opens).image }
 {
-    let held = h.held;
-    let timer = h.timer;
-    let worked = record::work_out(held);
     image::write(
         Session {
-            held: held,
-            worked: worked,
+            held: h.held,
+            worked: record::work_out(h.held),
             next: h.next,
             journal: [0; 2048],
             used: 0,
             redo: [0; 2048],
             ahead: 0,
             marks: [0; 64],
-            timer: timer,
+            timer: h.timer,
             profile: 1,
         },
         lent,
@@ -39,6 +37,7 @@ fn open_over(lent: &mut [u8], h: Head) -> Told
 }
 
 // The public call, on a session that is lent as its image's bytes.
+#[tactic(auto, using(crate::proofs::Opening::unopened, crate::proofs::Opening::opened_in))]
 pub fn watch(lent: &mut [u8]) -> Told
     ensures { WatchAllows lent.old result lent.new }
 {

@@ -3,20 +3,8 @@ use native.Mathlib.Omega.{arith}
 use Rattle.forget_call.proofs.Freeing.{long_c, left_fits, left_whole, long_d, session_freed_lem}
 use Rattle.forget_call.proofs.free.Goals as goal
 
-pub overflow_sub-left : goal.overflow_sub-left
-overflow_sub-left c = c.requires.1
-
-pub move_journal-requires : goal.move_journal-requires
-move_journal-requires c = (c.requires.0, omega (arith, c.requires.1, c.requires.2))
-
 pub mark_all-requires : goal.mark_all-requires
 mark_all-requires c = (long_c c.args.h c.args.lent.now c.requires.0 _ c.requires.1 c.requires.2 _ c.move_journal.ensures, left_fits c.args.h c.args.lent.now c.requires.0 _ c.requires.1 c.requires.2 _ c.move_journal.ensures _ refl, left_whole c.args.h c.args.lent.now c.requires.0 _ c.requires.1 c.requires.2 _ c.move_journal.ensures _ refl c.requires.3)
-
-pub overflow_cast-left-2 : goal.overflow_cast-left-2
-overflow_cast-left-2 c = omega (arith, c.requires.2)
-
-pub write_head-requires : goal.write_head-requires
-write_head-requires c = long_d c.args.h c.args.lent.now c.requires.0 _ c.requires.1 c.requires.2 _ c.move_journal.ensures _ refl _ c.mark_all.ensures
 
 pub returns : goal.returns
 returns c = session_freed_lem c.args.h c.args.lent.now c.requires.0 _ c.requires.1 c.requires.2 _ c.move_journal.ensures _ refl _ c.mark_all.ensures _ _ c.renewed-head.ensures c.write_head.ensures

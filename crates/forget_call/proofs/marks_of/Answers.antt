@@ -6,9 +6,6 @@ use Rattle.forget_call.proofs.marks_of.Goals as goal
 pub loop-at-init : goal.loop-at-init
 loop-at-init c = none_walked c.args.j.now
 
-pub slice_bounds-mark-end : goal.slice_bounds-mark-end
-slice_bounds-mark-end c = sym (marks_wide _ c.requires.0 _ _ _ c.loop-at.invariant)
-
 pub mark-requires : goal.mark-requires
 mark-requires c = (marks_wide _ c.requires.0 _ _ _ c.loop-at.invariant, few _ c.requires.0 _ _ c.loop-at.invariant.came c.loop-at-test.true c.requires.1)
 
@@ -20,9 +17,6 @@ overflow_add-at-in-loop-at c = omega (arith, c.requires.1, stays_in _ c.requires
 
 pub overflow_add-count : goal.overflow_add-count
 overflow_add-count c = omega (arith, few _ c.requires.0 _ _ c.loop-at.invariant.came c.loop-at-test.true c.requires.1)
-
-pub loop-at-smaller : goal.loop-at-smaller
-loop-at-smaller c = omega (arith, c.loop-at-test.true)
 
 pub loop-at-preserved : goal.loop-at-preserved
 loop-at-preserved c = walked_next _ c.requires.0 _ _ _ c.loop-at.invariant c.loop-at-test.true c.requires.1 _ c.body_len.ensures _ c.mark.ensures

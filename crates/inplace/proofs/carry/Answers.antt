@@ -1,30 +1,13 @@
 use native.Mathlib.Omega.{arith}
 use Rattle.inplace.proofs.Carrying.{end_fits}
-use Rattle.inplace.proofs.Standing.{is_marked, full_in, long_more, length_cut, done_in, next_fits}
+use Rattle.inplace.proofs.Standing.{is_marked, done_in}
 use Rattle.inplace.proofs.carry.Goals as goal
 
 pub enter-requires : goal.enter-requires
 enter-requires c = is_marked _ c.args.lent.now c.requires.0 c.requires.1
 
-pub returns-in_default : goal.returns-in_default
-returns-in_default c =
-    let a = full_in c.args.lent.now c.requires.0 c.args.h c.args.e _ _ _ c.takes_back-back.ensures c.enter.ensures.value c.enter.ensures.entered c.in_default.is in
-    record { value = a.0; lent_after = a.1 }
-
-pub cut-requires : goal.cut-requires
-cut-requires c = long_more c.args.lent.now c.requires.0 _ _ _ _ _ c.takes_back-back.ensures c.enter.ensures.value c.enter.ensures.entered c.requires.1 _ c.in-Some.is
-
 pub overflow_cast-used : goal.overflow_cast-used
 overflow_cast-used c = omega (arith, end_fits 2048 _ _ _ _ c.enter.ensures.value c.in-Some.is)
-
-pub head_after-after-requires : goal.head_after-after-requires
-head_after-after-requires c = next_fits _ c.args.lent.now c.requires.1
-
-pub write_head-requires : goal.write_head-requires
-write_head-requires c = length_cut c.args.lent.now c.requires.0 _ _ _ _ _ c.takes_back-back.ensures c.enter.ensures.value c.enter.ensures.entered c.requires.1 _ c.in-Some.is _ c.cut.ensures
-
-pub shape_of-lent : goal.shape_of-lent
-shape_of-lent c = omega (arith, c.lent-3-1.given, c.lent-2-1.given, c.lent-1.given)
 
 pub returns : goal.returns
 returns c =

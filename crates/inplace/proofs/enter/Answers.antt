@@ -3,9 +3,6 @@ use mathlib.Core.Path.{sym, ◌∙◌}
 use Rattle.inplace.proofs.Standing.{no_room_lem, marked_still, has_more}
 use Rattle.inplace.proofs.enter.Goals as goal
 
-pub add-requires : goal.add-requires
-add-requires c = c.requires.0
-
 pub returns-in_err-to : goal.returns-in_err-to
 returns-in_err-to c =
     let z : c.from_residual.result ≡ None = search rules in

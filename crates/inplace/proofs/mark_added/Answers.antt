@@ -1,19 +1,10 @@
 use native.Mathlib.Omega.{arith}
 use Rattle.inplace.proofs.laws.Marked.{place_low}
-use Rattle.inplace.proofs.Marking.{parts_long, none_more, unmarked_more, marked_more, next_room}
+use Rattle.inplace.proofs.Marking.{none_more, unmarked_more, marked_more, next_room}
 use Rattle.inplace.proofs.mark_added.Goals as goal
-
-pub slice_bounds-last-end : goal.slice_bounds-last-end
-slice_bounds-last-end c = omega (arith, c.requires.0)
-
-pub last-last-requires : goal.last-last-requires
-last-last-requires c = (parts_long c.args.lent.now c.requires.0).0
 
 pub overflow_add-start : goal.overflow_add-start
 overflow_add-start c = omega (arith, c.requires, place_low c.args.lent.now c.requires.0 _ c.requires.1 _ c.last-last.ensures)
-
-pub overflow_add-end : goal.overflow_add-end
-overflow_add-end c = omega (arith, c.requires)
 
 pub slice_bounds-find_newest-count : goal.slice_bounds-find_newest-count
 slice_bounds-find_newest-count c = omega (arith, place_low c.args.lent.now c.requires.0 _ c.requires.1 _ c.last-last.ensures)
@@ -21,23 +12,11 @@ slice_bounds-find_newest-count c = omega (arith, place_low c.args.lent.now c.req
 pub slice_bounds-find_newest-start : goal.slice_bounds-find_newest-start
 slice_bounds-find_newest-start c = omega (arith, place_low c.args.lent.now c.requires.0 _ c.requires.1 _ c.last-last.ensures)
 
-pub slice_bounds-find_newest-end : goal.slice_bounds-find_newest-end
-slice_bounds-find_newest-end c = omega (arith, c.requires)
-
 pub returns-in_default : goal.returns-in_default
 returns-in_default c = none_more c.args.lent.now c.requires.0 _ c.requires.1 c.requires.2 _ c.last-last.ensures _ c.find_newest.ensures.value c.in_default.is
 
 pub returns-then-newest-ne31 : goal.returns-then-newest-ne31
 returns-then-newest-ne31 c = unmarked_more c.args.lent.now c.requires.0 _ c.requires.1 c.requires.2 _ c.last-last.ensures _ c.find_newest.ensures.value _ c.in-Some.is c.if-newest-ne31.true
-
-pub overflow_add-next : goal.overflow_add-next
-overflow_add-next c = omega (arith, c.last-last.ensures.low)
-
-pub overflow_mul-next : goal.overflow_mul-next
-overflow_mul-next c = omega (arith, c.last-last.ensures.low)
-
-pub slice_bounds-put_be-end : goal.slice_bounds-put_be-end
-slice_bounds-put_be-end c = omega (arith, c.requires.0)
 
 pub put_be-requires : goal.put_be-requires
 put_be-requires c = next_room c.args.lent.now c.requires.0 _ c.requires.1 c.requires.2 _ c.last-last.ensures _ c.find_newest.ensures.value _ c.in-Some.is c.if-newest-ne31.false

@@ -6,9 +6,3 @@ use Rattle.saving.proofs.base_record.Goals as goal
 
 pub slice_bounds-copy-end-2 : goal.slice_bounds-copy-end-2
 slice_bounds-copy-end-2 c = sym (length-take-le 230 c.args.b.now (omega (arith, c.requires)))
-
-pub copy-requires : goal.copy-requires
-copy-requires c = front_fits c.args.b.now c.requires
-
-pub returns : goal.returns
-returns c = c.record_in.ensures ∙ front_read c.args.b.now _ c.requires c.copy.ensures

@@ -5,15 +5,6 @@ use Rattle.saving.proofs.Calls.{down_ill, down_formed, down_used, down_not, down
 use borrow.Author.Rules.{rules}
 use Rattle.saving.proofs.move_down.Goals as goal
 
-pub returns-then-not-read_saved : goal.returns-then-not-read_saved
-returns-then-not-read_saved c = down_ill c.args.saved.now c.args.out.now _ _ _ (c.read_saved.ensures.value, c.read_saved.ensures.d_after) c.if-not-read_saved.true-raw c.answer_with.ensures
-
-pub goes_down-requires : goal.goes_down-requires
-goes_down-requires c = (search rules, c.read_head-h.ensures.value, down_formed c.args.saved.now c.args.out.now (record { answer = 0; small = 0; beside = 0 }) _ _ (c.read_saved.ensures.value, c.read_saved.ensures.d_after) (bytes_of c.args.saved.now (λ i. omega (arith, c.shared_slice_known-1.given i))) c.if-not-read_saved.false-raw _ c.read_head-h.ensures.value)
-
-pub returns-then-not-goes_down : goal.returns-then-not-goes_down
-returns-then-not-goes_down c = down_not c.args.saved.now c.args.out.now _ _ _ (c.read_saved.ensures.value, c.read_saved.ensures.d_after) (bytes_of c.args.saved.now (λ i. omega (arith, c.shared_slice_known-1.given i))) c.if-not-read_saved.false-raw _ c.read_head-h.ensures.value _ c.goes_down.ensures c.if-not-goes_down.true-raw c.answer_with-then-not-goes_down.ensures
-
 pub put_old-requires : goal.put_old-requires
 put_old-requires c = (search rules, down_used c.args.saved.now c.args.out.now (record { answer = 0; small = 0; beside = 0 }) _ _ (c.read_saved.ensures.value, c.read_saved.ensures.d_after) (bytes_of c.args.saved.now (λ i. omega (arith, c.shared_slice_known-1.given i))) c.if-not-read_saved.false-raw _ c.read_head-h.ensures.value, used_fits _ _ c.read_head-h.ensures.value (down_formed c.args.saved.now c.args.out.now (record { answer = 0; small = 0; beside = 0 }) _ _ (c.read_saved.ensures.value, c.read_saved.ensures.d_after) (bytes_of c.args.saved.now (λ i. omega (arith, c.shared_slice_known-1.given i))) c.if-not-read_saved.false-raw _ c.read_head-h.ensures.value))
 

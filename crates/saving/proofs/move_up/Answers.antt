@@ -3,8 +3,5 @@ use Rattle.wire.proofs.laws.Wire.{bytes_of}
 use Rattle.saving.proofs.Calls.{up_ill, up_put}
 use Rattle.saving.proofs.move_up.Goals as goal
 
-pub returns-then-not-read_base : goal.returns-then-not-read_base
-returns-then-not-read_base c = up_ill c.args.saved.now c.args.out.now _ _ _ (c.read_base.ensures.value, c.read_base.ensures.d_after) c.if-not-read_base.true-raw c.answer_with.ensures
-
 pub returns : goal.returns
 returns c = up_put c.args.saved.now c.args.out.now _ _ _ (c.read_base.ensures.value, c.read_base.ensures.d_after) (bytes_of c.args.saved.now (λ i. omega (arith, c.shared_slice_known-1.given i))) c.if-not-read_base.false-raw _ c.put_new.ensures

@@ -13,14 +13,5 @@ slice_bounds-put_part-end c = sym (length-take-le 230 c.args.b.now (omega (arith
 pub put_part-requires : goal.put_part-requires
 put_part-requires c = omega (arith, length-take-le 230 c.args.b.now (omega (arith, c.requires.0)), c.requires.1)
 
-pub slice_bounds-put_part-end-7 : goal.slice_bounds-put_part-end-7
-slice_bounds-put_part-end-7 c = omega (arith, c.requires.0)
-
-pub put_part-requires-7 : goal.put_part-requires-7
-put_part-requires-7 c = omega (arith, c.requires.1, c.out-6-1.given, c.out-5-1.given, c.out-4-1.given, c.out-3-1.given, c.out-2-1.given, c.out-1.given, part_long c.args.b.now (bytes_of c.args.b.now (λ i. omega (arith, c.shared_slice_known-1.given i))) c.requires.0 9 4401 (lit< tt))
-
-pub shape_of-out : goal.shape_of-out
-shape_of-out c = omega (arith, c.out-7-1.given, c.out-6-1.given, c.out-5-1.given, c.out-4-1.given, c.out-3-1.given, c.out-2-1.given, c.out-1.given)
-
 pub returns : goal.returns
 returns c = record { out_after = first_of_two (saved_put c.args.b.now (bytes_of c.args.b.now (λ i. omega (arith, c.shared_slice_known-1.given i))) c.requires.0 c.args.out.now _ _ _ _ _ _ _ c.put_part.ensures c.put_part-2.ensures c.put_part-3.ensures c.put_part-4.ensures c.put_part-5.ensures c.put_part-6.ensures c.put_part-7.ensures); b_len = second_of_two (saved_put c.args.b.now (bytes_of c.args.b.now (λ i. omega (arith, c.shared_slice_known-1.given i))) c.requires.0 c.args.out.now _ _ _ _ _ _ _ c.put_part.ensures c.put_part-2.ensures c.put_part-3.ensures c.put_part-4.ensures c.put_part-5.ensures c.put_part-6.ensures c.put_part-7.ensures) }

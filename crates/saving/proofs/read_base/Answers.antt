@@ -3,13 +3,6 @@ use Rattle.wire.proofs.laws.Wire.{bytes_of}
 use Rattle.saving.proofs.Calls.{base_short, base_over, base_broken, base_whole, base_shut, base_found}
 use Rattle.saving.proofs.read_base.Goals as goal
 
-pub returns-then-b-lt-BASE_HEAD : goal.returns-then-b-lt-BASE_HEAD
-returns-then-b-lt-BASE_HEAD c = let f = base_short c.args.b.now c.args.d.now c.if-b-lt-BASE_HEAD.true in record { value = f.0; d_after = f.1 }
-
-pub returns-then-b-gt-BASE_MOST : goal.returns-then-b-gt-BASE_MOST
-returns-then-b-gt-BASE_MOST c =
-    let f = base_over c.args.b.now c.args.d.now c.if-b-lt-BASE_HEAD.false c.if-b-gt-BASE_MOST.true in record { value = f.0; d_after = f.1 }
-
 pub returns-then-used_in-b : goal.returns-then-used_in-b
 returns-then-used_in-b c =
     let f = base_broken c.args.b.now c.if-b-lt-BASE_HEAD.false c.if-b-gt-BASE_MOST.false _ c.used_in.ensures.0 c.args.d.now c.if-used_in-b.true in

@@ -4,6 +4,3 @@ use Rattle.saving.proofs.used_in.Goals as goal
 
 pub returns-in-Ok : goal.returns-in-Ok
 returns-in-Ok c = (used c.args.j.now _ _ c.read.ensures.value c.in-Ok.is, omega arith)
-
-pub returns-in-Err : goal.returns-in-Err
-returns-in-Err c = used_broken c.args.j.now _ c.read.ensures.value c.read.ensures.reading_fits c.in-Err.is

@@ -1,13 +1,8 @@
 use native.Mathlib.Omega.{arith}
-use Prim.Native.Nat.{◌+◌, ◌-◌}
 use Rattle.image.proofs.laws.Stores.{store_low}
 use Rattle.undo_call.proofs.Taking.{count_fits}
 use Rattle.undo_call.proofs.Finding.{from_low, found_there, never_nothing}
-use Rattle.undo_call.proofs.Marking.{found_bound}
 use Rattle.undo_call.proofs.newest_of.Goals as goal
-
-pub look_from-from-requires : goal.look_from-from-requires
-look_from-from-requires c = c.requires.0.long
 
 pub overflow_add-first : goal.overflow_add-first
 overflow_add-first c = omega (arith, from_low _ c.args.lent.now c.requires.0 c.requires.1 c.args.way _ c.requires.2 _ c.look_from-from.ensures, count_fits c.args.way _ c.args.lent.now c.requires.0 c.requires.1 _ c.requires.2, c.store_at-store.ensures, store_low c.args.way)
@@ -27,11 +22,5 @@ slice_bounds-find_newest-end c = omega (arith, count_fits c.args.way _ c.args.le
 pub returns-in_err-found : goal.returns-in_err-found
 returns-in_err-found c = absurd (never_nothing _ c.args.lent.now c.requires.0 c.requires.1 _ _ _ _ c.find_newest.ensures.value c.args.way c.store_at-store.ensures c.requires.2 c.requires.3 c.look_from-from.ensures c.in_err-found.was)
 
-pub by_way-passed-requires : goal.by_way-passed-requires
-by_way-passed-requires c = (omega (arith, count_fits c.args.way _ c.args.lent.now c.requires.0 c.requires.1 _ c.requires.2, (found_bound (c.store_at-store.result + c.args.used - (c.store_at-store.result + c.look_from-from.result)) _ _ _ c.find_newest.ensures.newest_fits c.in_ok-found.was).1, from_low _ c.args.lent.now c.requires.0 c.requires.1 c.args.way _ c.requires.2 _ c.look_from-from.ensures), omega arith)
-
-pub overflow_add-result : goal.overflow_add-result
-overflow_add-result c = omega (arith, count_fits c.args.way _ c.args.lent.now c.requires.0 c.requires.1 _ c.requires.2, from_low _ c.args.lent.now c.requires.0 c.requires.1 c.args.way _ c.requires.2 _ c.look_from-from.ensures, (found_bound (c.store_at-store.result + c.args.used - (c.store_at-store.result + c.look_from-from.result)) _ _ _ c.find_newest.ensures.newest_fits c.in_ok-found.was).0)
-
 pub returns : goal.returns
-returns c = found_there _ c.args.lent.now c.requires.0 c.requires.1 _ _ _ _ c.find_newest.ensures.value c.args.way c.store_at-store.ensures c.requires.2 c.look_from-from.ensures _ _ c.in_ok-found.was c.by_way-passed.ensures.value
+returns c = found_there _ c.args.lent.now c.requires.0 c.requires.1 _ _ _ _ c.find_newest.ensures.value c.args.way c.store_at-store.ensures c.requires.2 c.look_from-from.ensures _ _ c.in_ok-found.was c.pick-passed.ensures

@@ -1,18 +1,15 @@
-use native.Mathlib.Omega.{arith}
-use Rattle.session.proofs.Clears.{none_cleared, all_clears, clear_fits, next_cleared, other_kind}
+use Rattle.std.proofs.Common.{rules}
+use Rattle.session.proofs.Clears.{none_cleared, all_clears, next_cleared, other_kind}
 use Rattle.session.proofs.only_clears.Goals as goal
 
-pub loop-at-init : goal.loop-at-init
-loop-at-init c = none_cleared c.args.b.now
+pub loop-kind-init : goal.loop-kind-init
+loop-kind-init c = none_cleared (search rules)
 
-pub returns-then-b-at-ne1 : goal.returns-then-b-at-ne1
-returns-then-b-at-ne1 c = other_kind _ c.requires _ c.loop-at.invariant c.loop-at-test.true c.if-b-at-ne1.true
+pub returns-then-kind-ne1 : goal.returns-then-kind-ne1
+returns-then-kind-ne1 c = other_kind c.loop-kind.invariant _ _ c.in-Some.ensures.steps c.if-kind-ne1.true
 
-pub overflow_add-at : goal.overflow_add-at
-overflow_add-at c = omega (arith, clear_fits _ c.requires _ c.loop-at.invariant c.loop-at-test.true c.if-b-at-ne1.false)
-
-pub loop-at-preserved : goal.loop-at-preserved
-loop-at-preserved c = next_cleared _ c.requires _ c.loop-at.invariant c.loop-at-test.true c.if-b-at-ne1.false
+pub loop-kind-preserved : goal.loop-kind-preserved
+loop-kind-preserved c = next_cleared c.loop-kind.invariant _ _ c.in-Some.ensures.steps c.if-kind-ne1.false
 
 pub returns : goal.returns
-returns c = all_clears _ c.requires _ c.loop-at.invariant c.loop-at-test.false
+returns c = all_clears c.loop-kind.invariant c.in-None.ensures.steps.0

@@ -231,9 +231,6 @@ module _ (b out : List ℕ) (t : Told) (r : Bool) (d : List ℕ) (found : FoundB
     up_image : d ≡ image_of (session_of_base b)
     up_image = found.1 (not-false r good)
 
-    pub up_long : length d ≡ image_length
-    up_long = ap length up_image ∙ length_image (session_of_base b) typed.session
-
     pub up_put : (y : List ℕ) → Allows (put_into (saved_of (session_of d)) out) t y → Allows (move_up_to b out) t y
     unfolding move_up_to
     up_put y =

@@ -2,15 +2,16 @@
 // its own, before a byte of the caller's buffer is written.
 #![tactic(auto)]
 
-ghost use Rattle.std.specs.Prelude.{true, ◌∷◌, ◌≡◌, ◌≤◌, ◌+◌, length, get_or, drop};
+ghost use Rattle.std.specs.Prelude.{true, ◌∷◌, ◌≡◌, ◌≤◌, ◌+◌, length, drop};
 ghost use Rattle.wire.specs.Wire.{pasted};
-ghost use Rattle.entries.specs.Entries.{body_len, scan, entries_of, entry_of, ReadsWhole};
+ghost use Rattle.entries.specs.Entries.{body_len, scan, entries_of, ReadsWhole};
 ghost use Rattle.session.specs.Session.{well_formed};
 ghost use Rattle.image.specs.Image.{image_of, part_at, record_in, head_in, session_in, session_of};
 ghost use Rattle.layout.specs.Layout.{image_length};
 ghost use Rattle.saving.specs.Forms.{base_head, base_most, base_of, padded, session_of_base, saved_length, saved_of, kinds_ok, used_in, timer_from, session_of_saved};
 ghost use Rattle.saving.specs.Moves.{first_rule, base_entry, base_entries, base_holds, goes_down, base_reads, saved_reads, Allows, put_into, save_to, restore_to, move_up_to, move_down_to};
 
+use entries::Entries;
 use image::Head;
 use inplace::Told;
 use record::{Record, Timer};
@@ -39,32 +40,27 @@ fn first_rule(t: &[u8]) -> bool
     t[6] <= t[7]
 }
 
-// An entry's bytes, its kind first: of kind 0C none, of kind 06 by the rule.
-fn entry_holds(e: &[u8]) -> bool
-    requires { length e.now ≡ body_len (get_or e.now 0 0) + 1 }
-    ensures { result ≡ base_entry (entry_of e.now) }
+// Of kind 0C none, of kind 06 by the rule.
+#[tactic(auto, unfolding(crate::specs::Moves::base_entry, entries::specs::Entries::body_len))]
+fn entry_holds(kind: u8, body: &[u8]) -> bool
+    requires { length body.now ≡ body_len kind }
+    ensures { result ≡ base_entry (record { kind = kind; body = body.now }) }
 {
-    if e[0] == 0x0C {
-        return false;
+    match kind {
+        0x0C => false,
+        0x06 => first_rule(&body[1..]),
+        _ => true,
     }
-    if e[0] == 0x06 {
-        return first_rule(&e[2..]);
-    }
-    true
 }
 
-// Of bytes that read as entries, whether each is one of the base version's.
+// Whether each entry is one of the base version's.
 fn entries_hold(j: &[u8]) -> bool
-    requires { ReadsWhole j.now }
     ensures { result ≡ base_entries (entries_of (scan j.now)) }
 {
-    let mut at = 0;
-    while at < j.len() {
-        let end = at + (entries::body_len(j[at]) + 1);
-        if !entry_holds(&j[at..end]) {
+    for (kind, body) in Entries::new(j) {
+        if !entry_holds(kind, body) {
             return false;
         }
-        at = end;
     }
     true
 }

@@ -1,5 +1,5 @@
 use native.Mathlib.Omega.{arith}
-use Rattle.saving.proofs.Holding.{used_fits, journal_whole, holds_not, holds_so}
+use Rattle.saving.proofs.Holding.{used_fits, holds_not, holds_so}
 use Rattle.saving.proofs.holds_base.Goals as goal
 
 pub returns-then-not-first_rule : goal.returns-then-not-first_rule
@@ -7,9 +7,6 @@ returns-then-not-first_rule c = holds_not c.args.h c.args.d.now c.requires.1 c.r
 
 pub slice_bounds-entries_hold-end : goal.slice_bounds-entries_hold-end
 slice_bounds-entries_hold-end c = omega (arith, c.requires.0, used_fits c.args.h c.args.d.now c.requires.1 c.requires.2)
-
-pub entries_hold-requires : goal.entries_hold-requires
-entries_hold-requires c = journal_whole c.args.h c.args.d.now c.requires.1 c.requires.2
 
 pub returns : goal.returns
 returns c = holds_so c.args.h c.args.d.now c.requires.1 c.requires.2 _ c.first_rule.ensures c.if-not-first_rule.false-raw _ c.entries_hold.ensures

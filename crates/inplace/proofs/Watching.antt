@@ -9,7 +9,7 @@ use lib.ListN.{take, drop}
 use lib.Seq.{take-take}
 use Rattle.entries.specs.Entries.{entries_of, scan, ReadsWhole}
 use Rattle.journal.specs.declared.Way.{Way}
-use Rattle.journal.specs.declared.Way.TheVariants.{Before, After}
+use Rattle.journal.specs.declared.Way.TheVariants.{Before}
 use Rattle.session.specs.Session.{stores_ok, entries_in, only_clears}
 use Rattle.session.proofs.laws.Session.{Store, Stores, stores}
 use Rattle.session.proofs.laws.Reads.{reads}

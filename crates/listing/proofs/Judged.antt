@@ -1,17 +1,16 @@
 -- What `list` puts is the listing, by what it judged. Assumes nothing.
 use Prim.Native.Nat.{ℕ, ◌≤◌, ◌<◌}
 use mathlib.Core.Path.{◌≡◌, refl, sym, ap, ◌∙◌}
-use mathlib.Core.List.{List, [], ◌∷◌}
+use mathlib.Core.List.{List}
 use native.Mathlib.Omega.{arith}
 use lib.ListN.{length}
 use Rattle.wire.proofs.laws.Cases.{if_lt, else_lt}
-use Rattle.entries.specs.declared.Whole.{Whole}
 use Rattle.std.specs.Prelude.{Ok, Err}
 use Rattle.entries.specs.Entries.{Entry, Scan, between, within, unknown, scan, entries_of, Reading, reading_of}
 use Rattle.io.specs.Counts.{IsPrefixLen}
 use Rattle.text.specs.Text.{sheet, put_all}
 use Rattle.text.proofs.laws.Pieces.{fitting}
-use Rattle.listing.specs.Listing.{too_long, whole, damaged_at, listing_of, pieces_of, listing, longest, listed, listed_length}
+use Rattle.listing.specs.Listing.{whole, damaged_at, listing_of, pieces_of, listing, longest, listed, listed_length}
 use Rattle.listing.proofs.laws.Lengths.{length_listing}
 
 -- ---- what a reading says of the bytes

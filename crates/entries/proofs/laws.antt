@@ -3,3 +3,4 @@ pub mod Placed
 pub mod Next
 pub mod Entries
 pub mod Places
+pub mod Ahead

@@ -2,6 +2,8 @@
 #![tactic(auto)]
 
 ghost use Rattle.std.specs.Prelude.{◌≡◌, length};
+ghost use Rattle.std.specs.Iterator.{YieldsLastBy, item_count};
+ghost use Rattle.entries.specs.Iterating.{entries_left, entry_given};
 ghost use Rattle.entries.specs.Entries.{body_len, scan, reading_of, ReadingFits, next_for};
 
 // Whole entries: how many, and where the newest starts, 0 where there is none.
@@ -106,4 +108,40 @@ pub fn read(j: &[u8]) -> Result<Whole, Broken>
         at += n + 1;
     }
     Ok(Whole { count, newest })
+}
+
+// The journal's entries one after the other, the oldest first: each its kind and its body. They end
+// where the bytes end or break.
+#[derive(Clone, Copy)]
+pub struct Entries<'a> {
+    rest: &'a [u8],
+}
+
+impl<'a> Entries<'a> {
+    pub fn new(j: &'a [u8]) -> Entries<'a>
+        ensures { result.rest.now ≡ j.now }
+    {
+        Entries { rest: j }
+    }
+}
+
+impl<'a> Iterator for Entries<'a> {
+    type Item = (u8, &'a [u8]);
+
+    ghost next_gives = { YieldsLastBy entry_given entries_left };
+
+    ghost remaining = { item_count entries_left };
+
+    fn next(&mut self) -> Option<(u8, &'a [u8])> {
+        let Some((kind, after)) = self.rest.split_first() else {
+            return None;
+        };
+        let n = body_len(*kind);
+        if n == 0 || after.len() < n {
+            return None;
+        }
+        let (body, rest) = after.split_at(n);
+        self.rest = rest;
+        Some((*kind, body))
+    }
 }

@@ -9,7 +9,7 @@ use lib.ListN.{take, drop}
 use lib.Seq.{take-take}
 use Rattle.entries.specs.Entries.{entries_of, scan, ReadsWhole}
 use Rattle.journal.specs.declared.Way.{Way}
-use Rattle.journal.specs.declared.Way.TheVariants.{Before, After}
+use Rattle.journal.specs.declared.Way.TheVariants.{Before}
 use Rattle.session.specs.Session.{stores_ok, entries_in, only_clears}
 use Rattle.session.proofs.laws.Session.{Store, Stores, stores}
 use Rattle.session.proofs.laws.Reads.{reads}
@@ -40,10 +40,6 @@ module _ (h : Head) (b : List ℕ) (ok : stores_ok (session_in h b) ≡ true) wh
   pub journal_whole : ReadsWhole (take (journal_at + h.used - journal_at) (drop journal_at b))
   unfolding session_in
   journal_whole = reads_whole Before journal_at h.used b both_low.0 there.journal
-
-  pub redo_whole : ReadsWhole (take (redo_at + h.ahead - redo_at) (drop redo_at b))
-  unfolding session_in
-  redo_whole = reads_whole After redo_at h.ahead b both_low.1 there.redo
 
   pub journal_clears : (x : Bool) → x ≡ only_clears (entries_of (scan (take (journal_at + h.used - journal_at) (drop journal_at b)))) → x ≡ only_clears (entries_in h.used (journal_in b))
   journal_clears = clears_in journal_at h.used b both_low.0

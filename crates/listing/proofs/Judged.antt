@@ -1,26 +1,19 @@
 -- What `list` puts is the listing, by what it judged. Assumes nothing.
 use Prim.Native.Nat.{ℕ, ◌≤◌, ◌<◌}
 use mathlib.Core.Path.{◌≡◌, refl, sym, ap, ◌∙◌}
-use mathlib.Core.List.{List, [], ◌∷◌}
+use mathlib.Core.List.{List}
 use native.Mathlib.Omega.{arith}
 use lib.ListN.{length}
 use Rattle.wire.proofs.laws.Cases.{if_lt, else_lt}
-use Rattle.entries.specs.declared.Whole.{Whole}
 use Rattle.std.specs.Prelude.{Ok, Err}
 use Rattle.entries.specs.Entries.{Entry, Scan, between, within, unknown, scan, entries_of, Reading, reading_of}
 use Rattle.io.specs.Counts.{IsPrefixLen}
 use Rattle.text.specs.Text.{sheet, put_all}
 use Rattle.text.proofs.laws.Pieces.{fitting}
-use Rattle.listing.specs.Listing.{too_long, whole, damaged_at, listing_of, pieces_of, listing, longest, listed, listed_length}
+use Rattle.listing.specs.Listing.{whole, damaged_at, listing_of, pieces_of, listing, longest, listed, listed_length}
 use Rattle.listing.proofs.laws.Lengths.{length_listing}
 
 -- ---- what a reading says of the bytes
-
-whole_scan : (s : Scan) {w : Whole} → reading_of s ≡ Ok w → s ≡ between (entries_of s)
-unfolding reading_of entries_of
-whole_scan (between es) e = refl
-whole_scan (within es k b n) e = cc
-whole_scan (unknown es) e = cc
 
 -- the listing by the reading
 abbrev by_reading : Reading → List Entry → List (List ℕ)
@@ -37,18 +30,7 @@ by_scan (unknown es) = refl
 pub listing_as : (j : List ℕ) {r c : Reading} → r ≡ c → r ≡ reading_of (scan j) → by_reading c (entries_of (scan j)) ≡ listing_of (scan j)
 listing_as j is e = ap (λ (x : Reading). by_reading x (entries_of (scan j))) (sym is ∙ e) ∙ by_scan (scan j)
 
-pub whole_between : (j : List ℕ) {r : Reading} {w : Whole} → r ≡ Ok w → r ≡ reading_of (scan j) → scan j ≡ between (entries_of (scan j))
-whole_between j is e = whole_scan (scan j) (sym e ∙ is)
-
 -- ---- the order of the judgements
-
-pub pieces_long : (j : List ℕ) → 2048 < length j → too_long ∷ [] ≡ pieces_of j
-unfolding pieces_of
-pieces_long j h = if_lt _ _ h refl
-
-pub pieces_read : (j : List ℕ) {ps : List (List ℕ)} → length j ≤ 2048 → ps ≡ listing_of (scan j) → ps ≡ pieces_of j
-unfolding pieces_of
-pieces_read j h e = else_lt _ _ h e
 
 module _ (j d : List ℕ) where
   pub listed_none : length d < longest → (0 ≡ listed_length j d) × ((d ≡ listed j d) × IsPrefixLen 0 d)

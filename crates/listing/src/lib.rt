@@ -3,10 +3,11 @@
 
 ghost use Rattle.std.specs.Prelude.{◌≡◌};
 ghost use Rattle.io.specs.Counts.{IsPrefixLen};
-ghost use Rattle.entries.specs.Entries.{between, scan, entries_of};
+ghost use Rattle.entries.specs.Entries.{scan, entries_of};
 ghost use Rattle.text.specs.Pages.{Puts};
 ghost use Rattle.listing.specs.Listing.{line, lines_of, whole, damaged_at, pieces_of, listed, listed_length};
 
+use entries::Entries;
 use text::Page;
 
 // The longest listing is 6,157 bytes: 13 of `journal N`, and at most 3 for each of 2,048 bytes.
@@ -22,24 +23,17 @@ fn put_line(page: &mut Page, kind: u8, body: &[u8])
     page.put(b"\n");
 }
 
-// The lines of bytes that read as whole entries.
+// The lines of the entries.
 fn put_lines(page: &mut Page, j: &[u8])
-    requires { scan j.now ≡ between (entries_of (scan j.now)) }
     ensures { Puts page.old page.new (lines_of (entries_of (scan j.now))) }
 {
-    let mut i = 0;
-    while i < j.len() {
-        let kind = j[i];
-        let start = i + 1;
-        let next = start + entries::body_len(kind);
-        put_line(page, kind, &j[start..next]);
-        i = next;
+    for (kind, body) in Entries::new(j) {
+        put_line(page, kind, body);
     }
 }
 
 // `journal N` and the entries' lines.
 fn put_whole(page: &mut Page, j: &[u8], count: usize)
-    requires { scan j.now ≡ between (entries_of (scan j.now)) }
     ensures { Puts page.old page.new (whole count (entries_of (scan j.now))) }
 {
     page.put(b"journal ");

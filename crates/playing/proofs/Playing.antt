@@ -19,7 +19,7 @@ use Rattle.text.specs.Text.{Sheet, sheet, put_all}
 use Rattle.text.specs.Pages.{sheet_of, Puts}
 use Rattle.text.specs.declared.Page.{Page}
 use Rattle.text.proofs.laws.Pieces.{pieces, fitting}
-use Rattle.std.specs.Prelude.{None, Some, Ok, Err}
+use Rattle.std.specs.Prelude.{None, Some, Result, Ok, Err}
 use Rattle.entries.specs.Entries.{Entry, entry_of, entries_of, reading_of, next_by, Next, Reading}
 use Rattle.entries.proofs.laws.ByTable.{count_written}
 use Rattle.entries.proofs.laws.Placed.{first_place, place_written}
@@ -31,7 +31,8 @@ use Rattle.session.specs.declared.Session.{Session}
 use Rattle.image.specs.Image.{image_of, written_to}
 use Rattle.layout.specs.Layout.{image_length}
 use Rattle.playing.specs.declared.Played.{Played}
-use Rattle.playing.specs.declared.Played.TheVariants.{NoImage, NoRoom, Lines}
+use Rattle.playing.specs.declared.NotPlayed.{NotPlayed}
+use Rattle.playing.specs.declared.NotPlayed.TheVariants.{NoImage, NoRoom}
 use Rattle.playing.specs.Playing.{Heard, heard, line, line_room, Plays, image_after, lines_of, stop_line, pieces_of, text_of, whole_entry, Stepped, stepped, room_for, Replayed, replayed}
 use Rattle.entries.specs.declared.Fault.{Fault}
 
@@ -166,17 +167,9 @@ module _ {t : List ℕ} {p₀ p : Sheet} {at number : ℕ} {b : List ℕ} (l : P
             ));
       }
 
--- ---- room
-
-pub room_none : (len count : ℕ) → len < 37 → false ≡ leb (room_for count) len
-room_none len count h = sym (lt-leb (room_for count) len (omega arith))
-
-pub room_some : (len count : ℕ) → 37 ≤ len → leb count ((len - 37) / 34) ≡ leb (room_for count) len
-room_some len count h = same_le count ((len - 37) / 34) (room_for count) len (λ e. omega arith) (λ e. omega arith)
-
 -- ---- `play`
 
-abbrev PlayedAs : Played → List ℕ → List ℕ → Replayed → Type 0
+abbrev PlayedAs : Result Played NotPlayed → List ℕ → List ℕ → Replayed → Type 0
 PlayedAs r b' d' x = (r ≡ x.result) and (b' ≡ x.image) and (d' ≡ x.out)
 
 pub fresh_written : (b b' : List ℕ) (s : Session) → length b ≡ image_length → s ≡ fresh_session → b' ≡ written_to b s → b' ≡ image_of fresh_session
@@ -184,19 +177,19 @@ unfolding written_to
 fresh_written b b' s long e w = w ∙ sym (else_ne _ _ long refl) ∙ ap image_of e
 
 module _ (b t d : List ℕ) where
-  pub play_no_image : (length b ≡ image_length → ⊥) → PlayedAs NoImage b d (replayed b t d)
+  pub play_no_image : (length b ≡ image_length → ⊥) → PlayedAs (Err NoImage) b d (replayed b t d)
   unfolding replayed
-  play_no_image h = subst (PlayedAs NoImage b d) (if_ne _ _ h refl) (refl, (refl, refl))
+  play_no_image h = subst (PlayedAs (Err NoImage) b d) (if_ne _ _ h refl) (refl, (refl, refl))
 
   module _ (long : length b ≡ image_length) {count : ℕ} (counted : count ≡ length (entries_of (trace_scan t))) {x : Bool} (judged : x ≡ leb (room_for count) (length d)) where
-    pub play_no_room : not x ≡ true → PlayedAs NoRoom b d (replayed b t d)
+    pub play_no_room : not x ≡ true → PlayedAs (Err NoRoom) b d (replayed b t d)
     unfolding replayed
     play_no_room h =
         let short : length d < room_for (length (entries_of (trace_scan t))) = omega (arith, leb-false (room_for count) (length d) (sym judged ∙ not-true x h)) in
-        subst (PlayedAs NoRoom b d) (else_ne _ _ long (if_lt _ _ short refl)) (refl, (refl, refl))
+        subst (PlayedAs (Err NoRoom) b d) (else_ne _ _ long (if_lt _ _ short refl)) (refl, (refl, refl))
 
     pub play_lines : {b' d'' : List ℕ} {q : Sheet} {past : ℕ} {reading : Reading} → not x ≡ false → Done (entries_of (trace_scan t)) (sheet d 0) q b' → reading ≡ reading_of (trace_scan t)
-        → sheet d'' past ≡ put_all q (stop_line reading) → length (joined (stop_line reading)) ≤ 37 → PlayedAs (Lines past reading) b' d'' (replayed b t d)
+        → sheet d'' past ≡ put_all q (stop_line reading) → length (joined (stop_line reading)) ≤ 37 → PlayedAs (Ok (record { length = past; reading = reading })) b' d'' (replayed b t d)
     unfolding replayed text_of pieces_of
     play_lines {b'} {d''} {past = past} {reading = reading} h done e stop fits =
         let es : List Entry = entries_of (trace_scan t) in
@@ -206,7 +199,7 @@ module _ (b t d : List ℕ) where
         omega (arith, ap length (joined_append (lines_of es) (stop_line reading)), length-append (joined (lines_of es)) (joined (stop_line reading)), done.1.1) in
         let text = fitting (lines_of es ++ stop_line reading) d long_enough all in
         let same : lines_of es ++ stop_line reading ≡ lines_of es ++ stop_line (reading_of (trace_scan t)) = ap (λ (r : Reading). lines_of es ++ stop_line r) e in
-        subst (PlayedAs (Lines past reading) b' d'') (else_ne _ _ long (else_lt _ _ room refl)) (
-          ap₂ Lines (text.0 ∙ ap (λ (ps : List (List ℕ)). length (joined ps)) same) e,
+        subst (PlayedAs (Ok (record { length = past; reading = reading })) b' d'') (else_ne _ _ long (else_lt _ _ room refl)) (
+          ap₂ (λ (n : ℕ) (r : Reading). Ok (record { length = n; reading = r })) (text.0 ∙ ap (λ (ps : List (List ℕ)). length (joined ps)) same) e,
           (done.0, text.1.0 ∙ ap (λ (ps : List (List ℕ)). pasted 0 (joined ps) d) same),
         )

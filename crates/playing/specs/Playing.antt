@@ -1,5 +1,5 @@
 -- Document 02, a: a trace played from a fresh session. What each entry asks for, its line, and how the whole ends; a session is lent as its image.
-use Rattle.std.specs.Prelude.{ℕ, suc, ◌+◌, ◌*◌, ◌≤◌, Bool, false, cond, not, ◌≡◌, List, [], ◌∷◌, ◌++◌, ltb, eqb, length, get_or, take, drop, replicate, Ok, Err}
+use Rattle.std.specs.Prelude.{ℕ, suc, ◌+◌, ◌*◌, ◌≤◌, Bool, false, cond, not, ◌≡◌, List, [], ◌∷◌, ◌++◌, ltb, eqb, length, get_or, take, drop, replicate, Result, Ok, Err}
 use Rattle.wire.specs.Wire.{pasted, joined}
 use Rattle.wire.specs.Conditions.{◌and◌}
 use Rattle.io.specs.Counts.{IsPrefixLen}
@@ -18,7 +18,8 @@ use Rattle.occ_call.specs.Occ.{occ_on}
 use Rattle.sbe_call.specs.Sbe.{sbe_on}
 use Rattle.undo_call.specs.Undo.{undo_on}
 use Rattle.playing.specs.declared.Played.{Played}
-use Rattle.playing.specs.declared.Played.TheVariants.{NoImage, NoRoom, Lines}
+use Rattle.playing.specs.declared.NotPlayed.{NotPlayed}
+use Rattle.playing.specs.declared.NotPlayed.TheVariants.{NoImage, NoRoom}
 
 -- ---- an entry is a call
 
@@ -141,21 +142,21 @@ room_for count = line_room * count + 37
 
 -- what is answered, and the session and the buffer as they are left
 pub record Replayed : Type 0 where
-  pub result : Played
+  pub result : Result Played NotPlayed
   pub image : List ℕ
   pub out : List ℕ
 
 -- bytes that are no image, or a buffer that may have no room: both are kept
 unfoldable pub replayed : List ℕ → List ℕ → List ℕ → Replayed
 replayed b t d =
-    cond (not (eqb (length b) image_length)) (record { result = NoImage; image = b; out = d })
-    (cond (ltb (length d) (room_for (length (entries_of (trace_scan t))))) (record { result = NoRoom; image = b; out = d })
+    cond (not (eqb (length b) image_length)) (record { result = Err NoImage; image = b; out = d })
+    (cond (ltb (length d) (room_for (length (entries_of (trace_scan t))))) (record { result = Err NoRoom; image = b; out = d })
     (record {
-      result = Lines (length (text_of t)) (reading_of (trace_scan t));
+      result = Ok (record { length = length (text_of t); reading = reading_of (trace_scan t) });
       image = image_after (entries_of (trace_scan t));
       out = pasted 0 (text_of t) d;
     }))
 
 -- what the contract allows
-abbrev pub PlayAllows : List ℕ → List ℕ → List ℕ → Played → List ℕ → List ℕ → Type 0
+abbrev pub PlayAllows : List ℕ → List ℕ → List ℕ → Result Played NotPlayed → List ℕ → List ℕ → Type 0
 PlayAllows b t d result image out = (result ≡ (replayed b t d).result) and (image ≡ (replayed b t d).image) and (out ≡ (replayed b t d).out)

@@ -1,5 +1,5 @@
 // A recorded trace played: each entry is a call on a lent session, and gives a line.
-#![tactic(auto, unfolding(text::specs::Text::put_all, crate::specs::Playing::status_text, crate::specs::Playing::if_written, crate::specs::Playing::line_with, crate::specs::Playing::place_text, crate::specs::Playing::stop_line, crate::specs::Playing::fault_text), using(text::proofs::laws::Pieces::put_all_append))]
+#![tactic(auto, unfolding(text::specs::Text::put_all, crate::specs::Playing::status_text, crate::specs::Playing::if_written, crate::specs::Playing::line_with, crate::specs::Playing::place_text, crate::specs::Playing::stop_line, crate::specs::Playing::fault_text, crate::specs::Playing::whole_entry, wire::specs::Wire::joined), using(text::proofs::laws::Pieces::put_all_append))]
 
 ghost use Rattle.std.specs.Prelude.{true, ◌≡◌, ◌≤◌, ◌+◌, ◌*◌, leb, [], length, replicate};
 ghost use Rattle.wire.specs.Wire.{joined};
@@ -124,12 +124,18 @@ pub fn step(lent: &mut [u8], number: u64, entry: &[u8], out: &mut [u8]) -> usize
 
 // ---- a whole trace
 
-// How a trace was played: the lent session is no image; the lines may have no room; or so many bytes of lines, and how the trace reads.
-#[derive(Clone, Copy)]
-pub enum Played {
+// Why a trace isn't played: the lent session is no image, or the lines may have no room.
+#[derive(Clone, Copy, PartialEq, Eq)]
+pub enum NotPlayed {
     NoImage,
     NoRoom,
-    Lines(usize, Result<Whole, Broken>),
+}
+
+// A trace that was played: so many bytes of lines, and how it reads.
+#[derive(Clone, Copy)]
+pub struct Played {
+    pub length: usize,
+    pub reading: Result<Whole, Broken>,
 }
 
 // Whether `len` bytes take the lines of `count` entries and a stop line.
@@ -201,20 +207,23 @@ pub fn stop(out: &mut [u8], reading: Result<Whole, Broken>) -> usize
 
 // Plays a lent trace from a fresh session, which the lent bytes become: a line for each whole entry at the front of `out`, and the stop line where it breaks.
 // A buffer of 34 bytes for each entry and 37 more has always room.
-pub fn play(lent: &mut [u8], t: &[u8], out: &mut [u8]) -> Played
+pub fn play(lent: &mut [u8], t: &[u8], out: &mut [u8]) -> Result<Played, NotPlayed>
     ensures { PlayAllows lent.old t.now out.old result lent.new out.new }
 {
     if lent.len() != layout::IMAGE {
-        return Played::NoImage;
+        return Err(NotPlayed::NoImage);
     }
     let count = trace::count(t);
     if !has_room(out.len(), count) {
-        return Played::NoRoom;
+        return Err(NotPlayed::NoRoom);
     }
     image::write(session::fresh(), &mut *lent);
     let mut page = Page::new(out);
     play_entries(lent, t, &mut page);
     let reading = trace::read(t);
     put_stop(&mut page, reading);
-    Played::Lines(page.past, reading)
+    Ok(Played {
+        length: page.past,
+        reading,
+    })
 }

@@ -20,7 +20,7 @@ use Rattle.session.specs.declared.Session.{Session}
 use Rattle.inplace.specs.declared.Told.{Told}
 use Rattle.places.specs.Faults.{CommandFaults, NotAfter}
 use Rattle.places.specs.declared.Fault.{Fault}
-use Rattle.std.specs.Prelude.{Some}
+use Rattle.std.specs.Prelude.{Some, Result}
 use Rattle.session.specs.Road.{used_of, watch_only, Said, done}
 use Rattle.session.proofs.laws.Watch.{watch_formed}
 use Rattle.inplace.specs.InPlace.{no_image}
@@ -43,6 +43,7 @@ use Rattle.parting.specs.Parting.{Longest, shared_part, refusal_of, PlayersRefus
 use Rattle.parting.proofs.laws.Refusals.{refusal_is_the_players, refused_shares_nothing}
 use Rattle.parting.proofs.laws.Parting.{part_longest, part_number, longest_is_one, equal_share_all, first_empty, second_empty}
 use Rattle.playing.specs.declared.Played.{Played}
+use Rattle.playing.specs.declared.NotPlayed.{NotPlayed}
 use Rattle.playing.specs.Playing.{StepAllows, PlayAllows, line_room, room_for, image_after, lines_of, stop_line, pieces_of, replayed}
 use Rattle.playing.specs.Steps.{oldest_first, steps_from}
 use Rattle.playing.proofs.laws.Steps.{steps_whole}
@@ -329,7 +330,7 @@ one_outcome_of_move_down_for_c saved out = one_pair _ _
 pub one_outcome_of_step : (b : List ℕ) (number : ℕ) (e d : List ℕ) → OneOutcome (λ (o : ℕ × List ℕ × List ℕ). StepAllows b number e d o.0 o.1 o.2)
 one_outcome_of_step b number e d = one_triple _ _ _
 
-pub one_outcome_of_play : (b t d : List ℕ) → OneOutcome (λ (o : Played × List ℕ × List ℕ). PlayAllows b t d o.0 o.1 o.2)
+pub one_outcome_of_play : (b t d : List ℕ) → OneOutcome (λ (o : Result Played NotPlayed × List ℕ × List ℕ). PlayAllows b t d o.0 o.1 o.2)
 one_outcome_of_play b t d = one_triple _ _ _
 
 pub one_outcome_of_stop : (d : List ℕ) (reading : Reading) → OneOutcome (λ (o : Sheet). o ≡ put_all (sheet d 0) (stop_line reading))

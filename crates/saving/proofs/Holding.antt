@@ -1,18 +1,16 @@
--- A walk over bytes that read as entries, as long as they are ones of the base version. Assumes nothing.
-use Prim.Native.Nat.{ℕ, suc, ◌+◌, ◌-◌, ◌<◌, ◌≤◌}
+-- A walk over entries, as long as they are ones of the base version. Assumes nothing.
+use Prim.Native.Nat.{ℕ, ◌+◌, ◌-◌, ◌≤◌}
 use mathlib.Core.Bool.{Bool, true, false, cond, not}
-use mathlib.Core.Path.{◌≡◌, refl, sym, ap, ◌∙◌}
+use mathlib.Core.Path.{◌≡◌, refl, sym, ap, subst, ◌∙◌}
 use mathlib.Core.List.{List, [], ◌∷◌, ◌++◌}
-use native.Mathlib.Omega.{arith}
 use borrow.Author.Tests.{not-true, not-false}
-use lib.ListN.{length, get_or, take, drop, length-drop}
-use lib.Seq.{drop-cons, drop-drop, length-take-le}
-use Rattle.wire.proofs.laws.Wire.{tail_part}
+use lib.ListN.{length, take, drop}
 use Rattle.wire.proofs.laws.Cases.{if_b, if_not, else_not}
 use Rattle.formed.proofs.laws.Formed.{hold_both}
-use Rattle.entries.specs.Entries.{Entry, Scan, body_len, scan, entries_of, entry_of, ReadsWhole}
-use Rattle.entries.proofs.laws.Places.{entry_at, first_place, place_entries, scan_end, whole_fits, next_place}
-use Rattle.entries.specs.Places.{Place}
+use Rattle.entries.specs.Entries.{Entry, Sized, body_len, journal_table, scan, entries_of}
+use Rattle.entries.proofs.laws.Entries.{Proper, scan_proper}
+use Rattle.entries.proofs.laws.ByTable.{whole_reads}
+use Rattle.entries.proofs.laws.Ahead.{Walked, walked_none, walked_all, walked_here, walked_next}
 use Rattle.session.specs.Session.{entries_in, well_formed}
 use Rattle.image.specs.declared.Head.{Head}
 use Rattle.image.specs.Image.{part_at, record_in, head_in, journal_in, session_in}
@@ -33,66 +31,32 @@ not_base (n ∷ ns) e es h = go (base_entry n) (not_base ns e es h)
 
 -- ---- the walk
 
-pub record Held (j : List ℕ) (at : ℕ) : Type 0 where
-  pub entries : List Entry
-  pub place : Place j at entries
-  pub good : base_entries entries ≡ true
+abbrev pub Good : List Entry → Type 0
+Good es = base_entries es ≡ true
 
-pub none_held : (j : List ℕ) → Held j 0
+pub none_held : {i j : List ℕ} → i ≡ j → Walked j Good (entries_of (scan i))
 unfolding base_entries
-none_held j = record { entries = []; place = first_place j; good = refl }
+none_held e = walked_none Good e refl
 
-module _ (j : List ℕ) (whole : ReadsWhole j) (at : ℕ) (c : Held j at) where
-  pub all_held : length j ≤ at → true ≡ base_entries (entries_of (scan j))
-  unfolding entries_of
-  all_held h = sym (ap (λ (s : Scan). base_entries (entries_of s)) (scan_end c.place h) ∙ c.good)
+sized_in : (ns : List Entry) (e : Entry) (es : List Entry) → Proper (ns ++ (e ∷ es)) → Sized e
+sized_in [] e es h = h.0
+sized_in (n ∷ ns) e es h = sized_in ns e es h.1
 
-  module _ (more : at < length j) (n : ℕ) (size : n ≡ body_len (get_or j at 0)) where
-    pub ends_in : at + (n + 1) ≤ length j
-    ends_in = omega (arith, more, whole_fits c.place size more whole.reads)
+module _ {j : List ℕ} {left : List Entry} (w : Walked j Good left) where
+  pub all_held : left ≡ [] → true ≡ base_entries (entries_of (scan j))
+  all_held h = sym (walked_all w h)
 
-    there : Place j (at + (n + 1)) (entry_at j at n ∷ c.entries)
-    there = let f = whole_fits c.place size more whole.reads in next_place c.place size more (λ z. omega (arith, f.0, z)) f.1
+  module _ (e : Entry) (next : List Entry) (step : left ≡ next ++ (e ∷ [])) where
+    pub entry_whole : length e.body ≡ body_len e.kind
+    entry_whole = sym (sized_in next e w.given (subst Proper (walked_here w e next step) (scan_proper _ _ (whole_reads journal_table j)))).0
 
-    -- its bytes
-    bytes_are : take (at + (n + 1) - at) (drop at j) ≡ get_or j at 0 ∷ take n (drop (suc at) j)
-    bytes_are =
-        let m : at + (n + 1) - at ≡ suc n = omega arith in
-        ap (λ (k : ℕ). take k (drop at j)) m ∙ ap (take (suc n)) (drop-cons j at 0 more)
-
-    entry_is : entry_of (take (at + (n + 1) - at) (drop at j)) ≡ entry_at j at n
-    entry_is = ap entry_of bytes_are
-
-    pub entry_whole : length (take (at + (n + 1) - at) (drop at j)) ≡ body_len (get_or (take (at + (n + 1) - at) (drop at j)) 0 0) + 1
-    entry_whole =
-        let one : at + (n + 1) - at ≡ n + 1 = omega arith in
-        let m : length (take (at + (n + 1) - at) (drop at j)) ≡ n + 1 =
-        ap (λ (k : ℕ). length (take k (drop at j))) one ∙ length-take-le (n + 1) (drop at j) (omega (arith, ends_in, length-drop at j)) in
-        m ∙ ap (λ (k : ℕ). k + 1) (size ∙ ap (λ (l : List ℕ). body_len (get_or l 0 0)) (sym bytes_are))
-
-    module _ (r : Bool) (is : r ≡ base_entry (entry_of (take (at + (n + 1) - at) (drop at j)))) where
-      judged : r ≡ base_entry (entry_at j at n)
-      judged = is ∙ ap base_entry entry_is
-
-      pub next_held : not r ≡ false → Held j (at + (n + 1))
+    module _ {r : Bool} (is : r ≡ base_entry e) where
+      pub next_held : not r ≡ false → Walked j Good next
       unfolding base_entries
-      next_held h = record { entries = entry_at j at n ∷ c.entries; place = there; good = hold_both (sym judged ∙ not-false r h) c.good }
+      next_held h = walked_next w e next step (hold_both (sym is ∙ not-false r h) w.holds)
 
       pub other_held : not r ≡ true → false ≡ base_entries (entries_of (scan j))
-      other_held h =
-          sym (ap base_entries (place_entries there) ∙ not_base (entries_of (scan (drop (at + (n + 1)) j))) (entry_at j at n) c.entries (sym judged ∙ not-true r h))
-
--- ---- an entry of kind 06: received, and the nine bytes
-
-pub eleven : (e : List ℕ) → length e ≡ body_len (get_or e 0 0) + 1 → get_or e 0 0 ≡ 6 → length e ≡ 11
-unfolding body_len
-eleven e h k = omega (arith, h, ap body_len k)
-
-pub nine : (e : List ℕ) → length e ≡ body_len (get_or e 0 0) + 1 → get_or e 0 0 ≡ 6 → 9 ≤ length (take (length e - 2) (drop 2 e))
-nine e h k = omega (arith, eleven e h k, ap length (tail_part e 2), length-drop 2 e)
-
-pub thermal_of : (e : List ℕ) (r : Bool) → r ≡ first_rule (take (length e - 2) (drop 2 e)) → r ≡ first_rule (drop 1 (drop 1 e))
-thermal_of e r h = h ∙ ap first_rule (tail_part e 2 ∙ sym (drop-drop 1 1 e))
+      other_held h = sym (ap base_entries (walked_here w e next step) ∙ not_base next e w.given (sym is ∙ not-true r h))
 
 -- ---- a well-formed session in an image's bytes
 
@@ -102,9 +66,6 @@ module _ (h : Head) (d : List ℕ) (read : h ≡ head_in d) (whole : well_formed
 
   journal_is : take (journal_at + h.used - journal_at) (drop journal_at d) ≡ take h.used (journal_in d)
   journal_is = used_part journal_at h.used d used_fits
-
-  pub journal_whole : ReadsWhole (take (journal_at + h.used - journal_at) (drop journal_at d))
-  journal_whole = let m = formed_marked h d whole in record { entries = m.entries; reads = ap scan journal_is ∙ m.reads }
 
   thermal_is : part_at 9 172 d ≡ (session_in h d).held.thermal
   unfolding session_in head_in record_in

@@ -2,15 +2,16 @@
 // its own, before a byte of the caller's buffer is written.
 #![tactic(auto)]
 
-ghost use Rattle.std.specs.Prelude.{true, ◌∷◌, ◌≡◌, ◌≤◌, ◌+◌, length, get_or, drop};
+ghost use Rattle.std.specs.Prelude.{true, ◌∷◌, ◌≡◌, ◌≤◌, ◌+◌, length, drop};
 ghost use Rattle.wire.specs.Wire.{pasted};
-ghost use Rattle.entries.specs.Entries.{body_len, scan, entries_of, entry_of, ReadsWhole};
+ghost use Rattle.entries.specs.Entries.{body_len, scan, entries_of, ReadsWhole};
 ghost use Rattle.session.specs.Session.{well_formed};
 ghost use Rattle.image.specs.Image.{image_of, part_at, record_in, head_in, session_in, session_of};
 ghost use Rattle.layout.specs.Layout.{image_length};
 ghost use Rattle.saving.specs.Forms.{base_head, base_most, base_of, padded, session_of_base, saved_length, saved_of, kinds_ok, used_in, timer_from, session_of_saved};
 ghost use Rattle.saving.specs.Moves.{first_rule, base_entry, base_entries, base_holds, goes_down, base_reads, saved_reads, Allows, put_into, save_to, restore_to, move_up_to, move_down_to};
 
+use entries::Entries;
 use image::Head;
 use inplace::Told;
 use record::{Record, Timer};
@@ -34,34 +35,33 @@ fn first_rule(t: &[u8]) -> bool
     t[0] <= t[1] && t[3] <= t[4] && t[6] <= t[7]
 }
 
-// An entry's bytes, its kind first: of kind 0C none, of kind 06 by the rule.
-#[tactic(auto, unfolding(crate::specs::Moves::base_entry), using(crate::proofs::Holding::eleven, crate::proofs::Holding::nine, crate::proofs::Holding::thermal_of))]
-fn entry_holds(e: &[u8]) -> bool
-    requires { length e.now ≡ body_len (get_or e.now 0 0) + 1 }
-    ensures { result ≡ base_entry (entry_of e.now) }
+// Of kind 0C none, of kind 06 by the rule.
+#[tactic(auto, unfolding(crate::specs::Moves::base_entry, entries::specs::Entries::body_len))]
+fn entry_holds(kind: u8, body: &[u8]) -> bool
+    requires { length body.now ≡ body_len kind }
+    ensures { result ≡ base_entry (record { kind = kind; body = body.now }) }
 {
-    e[0] != 0x0C && (e[0] != 0x06 || first_rule(&e[2..]))
+    match kind {
+        0x0C => false,
+        0x06 => first_rule(&body[1..]),
+        _ => true,
+    }
 }
 
-// Of bytes that read as entries, whether each is one of the base version's.
-#[tactic(auto, using(crate::proofs::Holding::none_held, crate::proofs::Holding::all_held, crate::proofs::Holding::ends_in, crate::proofs::Holding::entry_whole, crate::proofs::Holding::next_held, crate::proofs::Holding::other_held))]
+// Whether each entry is one of the base version's.
 fn entries_hold(j: &[u8]) -> bool
-    requires { ReadsWhole j.now }
     ensures { result ≡ base_entries (entries_of (scan j.now)) }
 {
-    let mut at = 0;
-    while at < j.len() {
-        let end = at + (entries::body_len(j[at]) + 1);
-        if !entry_holds(&j[at..end]) {
+    for (kind, body) in Entries::new(j) {
+        if !entry_holds(kind, body) {
             return false;
         }
-        at = end;
     }
     true
 }
 
 // Of a well-formed session.
-#[tactic(auto, using(crate::proofs::Holding::used_fits, crate::proofs::Holding::journal_whole, crate::proofs::Holding::holds_not, crate::proofs::Holding::holds_so))]
+#[tactic(auto, using(crate::proofs::Holding::used_fits, crate::proofs::Holding::holds_not, crate::proofs::Holding::holds_so))]
 fn holds_base(d: &[u8], h: Head) -> bool
     requires { (length d.now ≡ image_length) × (h ≡ head_in d.now) × (well_formed (session_in h d.now) ≡ true) }
     ensures { result ≡ base_holds (session_in h d.now) }
@@ -216,7 +216,7 @@ fn session_of_base(b: &[u8]) -> Session
 }
 
 // Whether a base save reads: the image of its session stands in d then.
-#[tactic(auto, using(wire::proofs::laws::Wire::bytes_of, crate::proofs::Calls::base_short, crate::proofs::Calls::base_over, crate::proofs::Calls::base_broken, crate::proofs::Calls::base_whole, crate::proofs::Calls::base_image_long, crate::proofs::Calls::base_ill, crate::proofs::Calls::base_formed, crate::proofs::Calls::base_found))]
+#[tactic(auto, using(wire::proofs::laws::Wire::bytes_of, crate::proofs::Calls::base_short, crate::proofs::Calls::base_over, crate::proofs::Calls::base_broken, crate::proofs::Calls::base_whole, crate::proofs::Calls::base_shut, crate::proofs::Calls::base_found))]
 fn read_base(b: &[u8], d: &mut [u8]) -> bool
     requires { length d.old ≡ image_length }
     ensures value { result ≡ base_reads b.now }

@@ -3,10 +3,11 @@
 
 ghost use Rattle.std.specs.Prelude.{◌≡◌, false, cond, length};
 ghost use Rattle.session.specs.Session.{fresh_session, held_ok, store_ok, entries_in, only_clears, made_of};
-ghost use Rattle.entries.specs.Entries.{entries_of, scan, ReadsWhole};
+ghost use Rattle.entries.specs.Entries.{entries_of, scan};
 ghost use Rattle.journal.specs.Read.{marks_ok};
 
 use change::Change;
+use entries::Entries;
 use journal::Way;
 use record::{Record, Timer, Worked};
 
@@ -64,18 +65,14 @@ pub fn store_ok(way: Way, j: &[u8], used: usize, m: &[u8]) -> bool
     used <= j.len() && journal::all_ok(way, &j[..used], m) && wire::all_zero(&j[used..])
 }
 
-// Of bytes that read as entries, whether each is of kind 01: those have 4 bytes.
-#[tactic(auto, using(crate::proofs::Clears::none_cleared, crate::proofs::Clears::all_clears, crate::proofs::Clears::clear_fits, crate::proofs::Clears::next_cleared))]
+// Whether each entry is of kind 01.
 pub fn only_clears(b: &[u8]) -> bool
-    requires { ReadsWhole b.now }
     ensures { result ≡ only_clears (entries_of (scan b.now)) }
 {
-    let mut at = 0;
-    while at < b.len() {
-        if b[at] != 0x01 {
+    for (kind, _) in Entries::new(b) {
+        if kind != 0x01 {
             return false;
         }
-        at += 4;
     }
     true
 }

@@ -1,5 +1,5 @@
 // A trace as entries: kinds and lengths, on any lent bytes. What the entries say is played elsewhere.
-#![tactic(auto)]
+#![tactic(auto, unfolding(entries::specs::Entries::next_by, entries::specs::Entries::some_next))]
 
 ghost use Rattle.std.specs.Prelude.{◌≡◌, ◌≤◌, length};
 ghost use Rattle.entries.specs.Entries.{entries_of, reading_of, ReadingFits, next_by};

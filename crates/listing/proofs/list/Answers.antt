@@ -1,4 +1,4 @@
-use Rattle.std.proofs.Common.{rules, refl, sym, ◌∙◌}
+use Rattle.std.proofs.Common.{rules, refl}
 use Rattle.listing.proofs.Judged.{listed_none, listed_put}
 use Rattle.listing.proofs.list.Goals as goal
 

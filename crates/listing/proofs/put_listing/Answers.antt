@@ -1,10 +1,7 @@
 use Rattle.std.proofs.Common.{rules}
 use Rattle.listing.specs.Listing.{pieces_of}
-use Rattle.listing.proofs.Judged.{whole_between, listing_as}
+use Rattle.listing.proofs.Judged.{listing_as}
 use Rattle.listing.proofs.put_listing.Goals as goal
-
-pub put_whole-requires : goal.put_whole-requires
-put_whole-requires c = whole_between _ c.in-Ok.is c.read.ensures.value
 
 pub returns-in-Ok : goal.returns-in-Ok
 unfolding pieces_of

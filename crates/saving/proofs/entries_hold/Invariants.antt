@@ -1,10 +1,7 @@
-use Prim.Native.Nat.{◌-◌}
-use lib.ListN.{length}
-use Rattle.saving.proofs.Holding.{Held}
+use Rattle.entries.specs.Iterating.{entries_left}
+use Rattle.entries.proofs.laws.Ahead.{Walked}
+use Rattle.saving.proofs.Holding.{Good}
 use Rattle.saving.proofs.entries_hold.Given as goal
 
-abbrev pub invariant-loop-at : goal.invariant-loop-at
-invariant-loop-at l = Held l.j l.at
-
-abbrev pub decreases-loop-at : goal.decreases-loop-at
-decreases-loop-at l = length l.j - l.at
+abbrev pub invariant-loop-kind : goal.invariant-loop-kind
+invariant-loop-kind l = Walked l.j Good (entries_left l.kind-iterator)

@@ -1,10 +1,7 @@
-use Prim.Native.Nat.{◌-◌}
-use lib.ListN.{length}
-use Rattle.session.proofs.Clears.{Cleared}
+use Rattle.entries.specs.Iterating.{entries_left}
+use Rattle.entries.proofs.laws.Ahead.{Walked}
+use Rattle.session.proofs.Clears.{Clear}
 use Rattle.session.proofs.only_clears.Given as goal
 
-abbrev pub invariant-loop-at : goal.invariant-loop-at
-invariant-loop-at l = Cleared l.b l.at
-
-abbrev pub decreases-loop-at : goal.decreases-loop-at
-decreases-loop-at l = length l.b - l.at
+abbrev pub invariant-loop-kind : goal.invariant-loop-kind
+invariant-loop-kind l = Walked l.b Clear (entries_left l.kind-iterator)

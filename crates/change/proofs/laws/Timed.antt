@@ -1,10 +1,13 @@
 -- Document 02, h: a timer change against all others. Assumes nothing.
-use Rattle.std.specs.Prelude.{ℕ, ◌≡◌, refl}
+use Rattle.std.specs.Prelude.{ℕ, ◌≡◌, refl, List, [], ◌∷◌}
+use types.Run.{OneOf, miss}
+use denote.Enum.Declared.{tag_of}
 use Rattle.std.proofs.Math.Path.{sym, ap, subst}
 use Rattle.std.proofs.Common.{◌∙◌, arith}
 use Rattle.wire.proofs.laws.Cases.{else_eq}
 use Rattle.record.specs.declared.Record.{Record}
 use Rattle.record.specs.declared.Timer.{Timer}
+use Rattle.change.specs.contracts.Change.{the_type}
 use Rattle.change.specs.declared.Change.{Change}
 use Rattle.change.specs.declared.Change.TheVariants.{Clear, Unclear, SetState, SetRole, SetCaps, SetUser, SetThermal, SetThrottles, Reset, Unreset, SetMask, SetDeadman, SetAreas, SetTimer}
 use Rattle.change.specs.declared.Edit.{Edit}
@@ -47,6 +50,17 @@ timer_kept t (SetMask mask) n = refl
 timer_kept t (SetDeadman deadman) n = refl
 timer_kept t (SetAreas areas) n = refl
 timer_kept t (SetTimer timer) n = absurd (n refl)
+
+-- that is, one whose tag is among the other thirteen
+abbrev others : List ℕ
+others = 0 ∷ 1 ∷ 2 ∷ 3 ∷ 4 ∷ 5 ∷ 6 ∷ 7 ∷ 8 ∷ 9 ∷ 10 ∷ 11 ∷ 12 ∷ []
+
+pub timer_stays : (t : Timer) (ch : Change) → OneOf others (tag_of the_type ch) → t ≡ timer_after t ch
+timer_stays t =
+    by_timer
+    (λ (ch : Change). OneOf others (tag_of the_type ch) → t ≡ timer_after t ch)
+    (λ x h. absurd (miss others 13 tt h))
+    (λ ch n h. sym (timer_kept t ch n))
 
 -- a change and what takes it back are of one kind
 pub kind_of_back : (r : Record) (ch : Change) → kind_of (back_of r ch) ≡ kind_of ch

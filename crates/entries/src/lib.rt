@@ -2,9 +2,9 @@
 #![tactic(auto)]
 
 ghost use Rattle.std.specs.Prelude.{◌≡◌, length};
-ghost use Rattle.std.specs.Iterator.{YieldsLastBy, item_count};
-ghost use Rattle.entries.specs.Iterating.{entries_left, entry_given};
 ghost use Rattle.entries.specs.Entries.{body_len, scan, reading_of, ReadingFits, next_for};
+
+mod iterating;
 
 // Whole entries: how many, and where the newest starts, 0 where there is none.
 #[derive(Clone, Copy, PartialEq, Eq)]
@@ -115,33 +115,21 @@ pub fn read(j: &[u8]) -> Result<Whole, Broken>
 #[derive(Clone, Copy)]
 pub struct Entries<'a> {
     rest: &'a [u8],
+    // The kind of the entry before, and how many bytes its body has: for `next_len`.
+    last: u8,
+    len: usize,
+    ghost len_of_last: { len ≡ body_len last },
 }
 
 impl<'a> Entries<'a> {
+    #[tactic(auto, unfolding(crate::specs::Entries::body_len))]
     pub fn new(j: &'a [u8]) -> Entries<'a>
         ensures { result.rest.now ≡ j.now }
     {
-        Entries { rest: j }
-    }
-}
-
-impl<'a> Iterator for Entries<'a> {
-    type Item = (u8, &'a [u8]);
-
-    ghost next_gives = { YieldsLastBy entry_given entries_left };
-
-    ghost remaining = { item_count entries_left };
-
-    fn next(&mut self) -> Option<(u8, &'a [u8])> {
-        let Some((kind, after)) = self.rest.split_first() else {
-            return None;
-        };
-        let n = body_len(*kind);
-        if n == 0 || after.len() < n {
-            return None;
+        Entries {
+            rest: j,
+            last: 0,
+            len: 0,
         }
-        let (body, rest) = after.split_at(n);
-        self.rest = rest;
-        Some((*kind, body))
     }
 }

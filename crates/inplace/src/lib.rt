@@ -4,6 +4,7 @@
 
 ghost use Rattle.std.specs.Prelude.{◌≡◌, true, is_err, ◌≤◌, ◌+◌, length, MatchOption};
 ghost use Rattle.wire.specs.Wire.{pasted};
+ghost use Rattle.change.specs.Change.{takes_back};
 ghost use Rattle.entries.specs.Entries.{Sized};
 ghost use Rattle.marks.specs.Marks.{marks_of};
 ghost use Rattle.journal.specs.Bytes.{entry_for, entry_bytes};
@@ -216,14 +217,29 @@ fn enter(lent: &mut [u8], used: usize, e: Edit) -> Option<usize>
 // ---- a change carried out
 
 #[tactic(auto, unfolding(crate::specs::InPlace::head_after), using(crate::proofs::Carrying::made_fits))]
+#[inline(never)]
 fn head_after(h: Head, e: Edit, used: u16) -> Head
     requires { h.next ≤ 256 }
     ensures { result ≡ head_after h e used }
 {
-    let after = change::put(h.held, e).unwrap_or(h.held);
     let next = h.next + session::made(e.change);
     let timed = image::with_timer(h, change::timer_after(h.timer, e.change));
-    image::renewed(timed, after, next, used, 0)
+    match change::put(h.held, e) {
+        Some(after) => image::renewed(timed, after, next, used, 0),
+        None => image::renewed(timed, h.held, next, used, 0),
+    }
+}
+
+// What takes a change back, as an entry. It and the head after the change aren't inlined: the
+// stack that one takes isn't added to the other's.
+#[inline(never)]
+fn enter_back(lent: &mut [u8], h: Head, e: Edit) -> Option<usize>
+    requires { (length lent.old ≡ image_length) × Marked h.used lent.old }
+    ensures value { result ≡ end_of 2048 h.used (takes_back h.held h.timer e) }
+    ensures entered { Entered h.used (takes_back h.held h.timer e) lent.old lent.new result }
+{
+    let back = change::takes_back(h.held, h.timer, e);
+    enter(lent, h.used as usize, back)
 }
 
 // A change carried out: entry, record, worked-out values, next id and timer, in one place, and the redo store is emptied. Nothing else writes a record
@@ -234,8 +250,7 @@ pub fn carry(lent: &mut [u8], h: Head, e: Edit) -> Result<(), NoRoom>
     ensures value { is_err result ≡ (carried_of (session_in h lent.old) e).full }
     ensures lent_after { lent.new ≡ carried_in lent.old (carried_of (session_in h lent.old) e) }
 {
-    let back = change::takes_back(h.held, h.timer, e);
-    let Some(used) = enter(&mut *lent, h.used as usize, back) else {
+    let Some(used) = enter_back(&mut *lent, h, e) else {
         return Err(NoRoom);
     };
     cut(&mut *lent, Way::After, 0, h.ahead as usize);

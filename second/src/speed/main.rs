@@ -434,6 +434,11 @@ fn stacks() {
         ("undo", capped, Call::Undo),
         ("redo", undone, Call::Redo),
         ("plan: a bring-up of five, turned round", Session::fresh(), Call::Plan(bring_up_packets())),
+        (
+            "plan_ok: the same, proposed",
+            Session::fresh(),
+            Call::PlanOk(bring_up_packets(), vec![5, 3, 4, 2, 1]),
+        ),
         ("save", full.clone(), Call::Save),
         ("restore", full.clone(), Call::Restore(save::write_new(&full))),
         ("move_up", full.clone(), Call::MoveUp(save::write_base(&full))),

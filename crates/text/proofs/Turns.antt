@@ -1,25 +1,25 @@
 -- What each turn of a loop does. Assumes nothing.
-use Prim.Native.Nat.{ℕ, suc, ◌+◌, ◌-◌, ◌*◌, ◌/◌, ◌%◌, ◌<◌, ◌≤◌}
+use Prim.Native.Nat.{ℕ, suc, ◌+◌, ◌-◌, ◌*◌, ◌<◌, ◌≤◌}
 use mathlib.Core.Bool.{Bool, true, false, cond, not}
 use mathlib.Core.Path.{◌≡◌, refl, sym, ap, subst, ◌∙◌}
 use mathlib.Core.List.{List, [], ◌∷◌, ◌++◌}
 use native.Mathlib.Numerals.{add-one}
-use native.Mathlib.Nat.{add-zero, zero-add, sub-zero}
+use native.Mathlib.Nat.{add-zero, zero-add, sub-zero, mul-suc, add_comm}
 use native.Mathlib.Omega.{arith}
 use lib.Dec.{ltb, eqb}
-use lib.ListN.{length, get_or, drop, set, drop_of_length-le}
+use lib.ListN.{length, get_or, drop, set, drop_of_length-le, length-append}
 use lib.Seq.{drop-cons}
 use borrow.Author.Tests.{ltb-true, ltb-false}
 use Rattle.std.specs.Prelude.{nat_eq, ◌&&◌, Option, Some, None}
 use Rattle.std.specs.List.{prefix_len}
 use Rattle.std.specs.Cmp.Lexicographic.{pointwise}
-use Rattle.wire.specs.Wire.{pasted}
-use Rattle.wire.proofs.laws.Cases.{if_b, else_b, if_lt, else_lt, if_le, else_le, if_ne, else_ne, cond_elim}
+use Rattle.wire.specs.Wire.{pasted, joined}
+use Rattle.wire.proofs.laws.Cases.{if_b, else_b, if_lt, else_lt, if_le, else_le}
 use Rattle.wire.proofs.Loops.{store_first, paste_none}
 use Rattle.text.specs.declared.Fault.{Fault}
 use Rattle.text.specs.declared.Fault.TheVariants.{Digit, Over}
-use Rattle.text.specs.Text.{blank, digit_of, digit_at, HexRun, stopped, onto, high, low, hex_from, hex_run, Takes, same_text, Sheet, put_all, hex_digit, hex_of}
-use Rattle.text.proofs.laws.Pieces.{put_all_append}
+use Rattle.text.specs.Text.{blank, digit_of, digit_at, HexRun, stopped, onto, high, low, hex_from, hex_run, Takes, same_text, Sheet, put_all}
+use Rattle.text.proofs.laws.Pieces.{put_all_append, paste_then}
 
 -- ---- tests of a call's answer: t is the answer, b what the contract says of it
 
@@ -192,3 +192,29 @@ module _ (g : List ℕ → List (List ℕ)) (f : ℕ → List (List ℕ)) (none 
   pub each_end : length s ≤ i → p ≡ put_all p (g (drop i s))
   unfolding put_all
   each_end h = rw (drop_of_length-le s h, none)
+
+-- ---- pieces that have room, w bytes for each number: those that are left, put behind the ones before
+
+module _ (pieces : List ℕ → List (List ℕ)) (one : ℕ → List ℕ) (w : ℕ) (wide : (b : ℕ) → length (one b) ≡ w)
+    (none : joined (pieces []) ≡ []) (more : (b : ℕ) (bs : List ℕ) → joined (pieces (b ∷ bs)) ≡ one b ++ joined (pieces bs)) where
+  pub room_for_all : (s : List ℕ) → length (joined (pieces s)) ≡ w * length s
+  room_for_all [] = ap length none ∙ omega arith
+  room_for_all (b ∷ bs) =
+      ap length (more b bs) ∙ length-append (one b) (joined (pieces bs)) ∙ ap (λ (n : ℕ). n + length (joined (pieces bs))) (wide b)
+      ∙ ap (λ (n : ℕ). w + n) (room_for_all bs) ∙ add_comm w (w * length bs) ∙ sym (mul-suc w (length bs))
+
+  module _ (s d : List ℕ) (i end : ℕ) where
+    pub spelt_next : {d' : List ℕ} → i < length s → end + w ≤ length d → d' ≡ pasted end (one (get_or s i 0)) d
+        → pasted (end + w) (joined (pieces (drop (i + 1) s))) d' ≡ pasted end (joined (pieces (drop i s))) d
+    spelt_next {d'} h fits e =
+        let b = get_or s i 0 in
+        let rest = joined (pieces (drop (suc i) s)) in
+        let whole : joined (pieces (drop i s)) ≡ one b ++ rest = ap (λ (l : List ℕ). joined (pieces l)) (drop-cons s i 0 h) ∙ more b (drop (suc i) s) in
+        ap (λ (x : List ℕ). pasted (end + w) (joined (pieces (drop (i + 1) s))) x) e
+        ∙ ap (λ (k : ℕ). pasted (end + w) (joined (pieces (drop k s))) (pasted end (one b) d)) (add-one i)
+        ∙ ap (λ (n : ℕ). pasted (end + n) rest (pasted end (one b) d)) (sym (wide b))
+        ∙ paste_then end (one b) rest d (omega (arith, wide b))
+        ∙ ap (λ (x : List ℕ). pasted end x d) (sym whole)
+
+    pub spelt_all : length s ≤ i → pasted end (joined (pieces (drop i s))) d ≡ d
+    spelt_all h = ap (λ (l : List ℕ). pasted end (joined (pieces l)) d) (drop_of_length-le s h) ∙ ap (λ (x : List ℕ). pasted end x d) none ∙ paste_none end d

@@ -5,6 +5,7 @@
 ghost use Rattle.std.specs.Prelude.{◌≡◌, ◌∷◌, [], ◌+◌, ◌*◌, ◌≤◌, ◌<◌, leb, length, take};
 ghost use Rattle.std.specs.List.{prefix_len};
 ghost use Rattle.io.specs.Counts.{IsPrefixLen};
+ghost use Rattle.wire.specs.Wire.{pasted, joined};
 ghost use Rattle.text.specs.Text.{blank, in_word, other, past_blanks, digit_of, digit_at, hex_run, Takes, same_text, sheet, hex_digit, hex_of, hexes, spaced, decimal, number, numbers};
 ghost use Rattle.text.specs.Pages.{sheet_of, Puts};
 ghost use Rattle.text.specs.Numbers.{digits_at, number_at};
@@ -18,23 +19,18 @@ pub fn is_blank(c: u8) -> bool
     c == b' ' || c == b'\t'
 }
 
-fn blanks_len(s: &[u8]) -> usize
-    ensures value { result ≡ prefix_len blank s.now }
-    ensures within { result ≤ length s.now }
-{
-    s.iter().take_while(|c| is_blank(**c)).count()
-}
-
 // The first place from `from` on that holds no blank, or the end.
 #[tactic(auto, unfolding(crate::specs::Text::past_blanks))]
 pub fn past_blanks(s: &[u8], from: usize) -> usize
     ensures value { result ≡ past_blanks s.now from }
     ensures upper_bound { result ≤ length s.now }
 {
-    if s.len() < from {
-        return s.len();
+    for i in from..s.len() {
+        if !is_blank(s[i]) {
+            return i;
+        }
     }
-    from + blanks_len(&s[from..])
+    s.len()
 }
 
 // How many bytes stand before the first blank.
@@ -226,6 +222,30 @@ fn glyph(d: u8) -> u8
     if d < 10 { b'0' + d } else { b'A' + (d - 10) }
 }
 
+// Bytes in hex where all of them have room.
+fn spell(out: &mut [u8], at: usize, s: &[u8])
+    requires { at + 2 * length s.now ≤ length out.old }
+    ensures { out.new ≡ pasted at (joined (hexes s.now)) out.old }
+{
+    let mut end = at;
+    for b in s {
+        wire::copy(out, end, &[glyph(*b / 16), glyph(*b % 16)]);
+        end += 2;
+    }
+}
+
+// The same, each byte after a blank.
+fn spell_apart(out: &mut [u8], at: usize, s: &[u8])
+    requires { at + 3 * length s.now ≤ length out.old }
+    ensures { out.new ≡ pasted at (joined (spaced s.now)) out.old }
+{
+    let mut end = at;
+    for b in s {
+        wire::copy(out, end, &[b' ', glyph(*b / 16), glyph(*b % 16)]);
+        end += 3;
+    }
+}
+
 impl<'a> Page<'a> {
     pub fn new(out: &'a mut [u8]) -> Page<'a>
         ensures same_buffer { result.out.ghost_name ≡ out.entry.ghost_name }
@@ -256,6 +276,12 @@ impl<'a> Page<'a> {
     pub fn put_hexes(&mut self, s: &[u8])
         ensures { Puts self.old self.new (hexes s.now) }
     {
+        let at = self.past;
+        if at <= self.out.len() && s.len() <= (self.out.len() - at) / 2 {
+            spell(self.out, at, s);
+            self.past = at + 2 * s.len();
+            return;
+        }
         for b in s {
             self.put_hex(*b);
         }
@@ -265,6 +291,12 @@ impl<'a> Page<'a> {
     pub fn put_bytes(&mut self, s: &[u8])
         ensures { Puts self.old self.new (spaced s.now) }
     {
+        let at = self.past;
+        if at <= self.out.len() && s.len() <= (self.out.len() - at) / 3 {
+            spell_apart(self.out, at, s);
+            self.past = at + 3 * s.len();
+            return;
+        }
         for b in s {
             self.put(b" ");
             self.put_hex(*b);

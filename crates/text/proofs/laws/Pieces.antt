@@ -60,7 +60,7 @@ pasted_is : (at : ℕ) (bs d : List ℕ) → pasted at bs d ≡ take at d ++ (bs
 unfolding pasted
 pasted_is at bs d = refl
 
-paste_then : (at : ℕ) (xs ys d : List ℕ) → at + length xs ≤ length d → pasted (at + length xs) ys (pasted at xs d) ≡ pasted at (xs ++ ys) d
+pub paste_then : (at : ℕ) (xs ys d : List ℕ) → at + length xs ≤ length d → pasted (at + length xs) ys (pasted at xs d) ≡ pasted at (xs ++ ys) d
 paste_then at xs ys d h =
     let past : at + length xs + length ys ≡ at + length (xs ++ ys) = omega (arith, length-append xs ys) in
     let kept : drop (at + length xs + length ys) (pasted at xs d) ≡ drop (at + length (xs ++ ys)) d =

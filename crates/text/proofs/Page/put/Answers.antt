@@ -1,5 +1,5 @@
 -- The tests are those of the definition, in its order.
-use Rattle.std.proofs.Common.{refl, arith}
+use Rattle.std.proofs.Common.{refl}
 use Rattle.wire.proofs.laws.Cases.{if_lt, else_lt}
 use Rattle.text.specs.Text.{put_on, put_all}
 use Rattle.text.proofs.laws.Pieces.{put_fits}

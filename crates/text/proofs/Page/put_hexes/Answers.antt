@@ -1,6 +1,8 @@
-use Rattle.std.proofs.Common.{ℕ, refl, rules, ◌∙◌, ◌∷◌, []}
-use Rattle.text.specs.Text.{hexes, hex_of}
-use Rattle.text.proofs.Turns.{each_more, each_end}
+use Rattle.std.proofs.Common.{ℕ, ◌+◌, ◌≤◌, length, refl, sym, ap, ap₂, rules, ◌∙◌, ◌∷◌, [], arith}
+use Rattle.wire.specs.Wire.{joined}
+use Rattle.text.specs.Text.{hexes, hex_of, sheet}
+use Rattle.text.proofs.Turns.{each_more, each_end, room_for_all}
+use Rattle.text.proofs.laws.Pieces.{all_fit}
 use Rattle.text.proofs.Page.put_hexes.Goals as goal
 
 pub loop-b-preserved : goal.loop-b-preserved
@@ -10,3 +12,12 @@ loop-b-preserved c = (search rules, each_more hexes (λ (b : ℕ). hex_of b ∷ 
 pub returns : goal.returns
 unfolding hexes
 returns c = (c.loop-b.invariant.0, each_end hexes (λ (b : ℕ). hex_of b ∷ []) refl (λ b bs. refl) _ c.loop-b.b-index _ c.loop-b-test.false ∙ c.loop-b.invariant.1)
+
+pub returns-then-s-self : goal.returns-then-s-self
+unfolding hexes hex_of joined
+returns-then-s-self c =
+    let long = room_for_all hexes hex_of 2 (λ b. refl) refl (λ b bs. refl) c.args.s.now in
+    let fits : c.args.self.now.past + length (joined (hexes c.args.s.now)) ≤ length c.args.self.now.out.now = omega (arith, long, c.if-at-self.true, c.if-s-self.true) in (
+      refl,
+      ap₂ sheet c.spell.ensures (ap (λ (n : ℕ). c.args.self.now.past + n) (sym long)) ∙ sym (all_fit c.args.self.now.past (hexes c.args.s.now) c.args.self.now.out.now fits),
+    )

@@ -1,4 +1,4 @@
-use Rattle.std.proofs.Common.{ℕ, refl, rules, ◌∙◌, ◌∷◌, []}
+use Rattle.std.proofs.Common.{ℕ, refl, rules, ◌∙◌}
 use Rattle.text.specs.Text.{put_all, numbers, number}
 use Rattle.text.proofs.Turns.{each_more, each_end}
 use Rattle.text.proofs.Page.put_numbers.Goals as goal

@@ -1,15 +1,16 @@
 -- What each test of an answer chooses to say. Assumes nothing.
-use Prim.Native.Nat.{ℕ, ◌+◌, ◌<◌, ◌≤◌}
+use Prim.Native.Nat.{ℕ, ◌+◌, ◌-◌, ◌<◌, ◌≤◌}
 use mathlib.Core.Path.{◌≡◌, refl, sym, ap, ap₂, ◌∙◌}
-use mathlib.Core.List.{List, [], ◌∷◌, ◌++◌}
+use mathlib.Core.List.{List, [], ◌∷◌, ◌++◌, append-nil}
 use native.Mathlib.Nat.{zero-add}
 use native.Mathlib.Omega.{arith}
-use lib.ListN.{length, take, drop}
-use lib.Seq.{take_all}
+use lib.ListN.{length, take, drop, length-drop, drop_of_length-le}
+use lib.Seq.{take_all, drop-drop}
 use Rattle.wire.specs.Wire.{pasted, be_nat}
-use Rattle.wire.proofs.laws.Wire.{take_pasted}
+use Rattle.wire.proofs.laws.Wire.{take_pasted, tail_part}
 use Rattle.wire.proofs.laws.Cases.{if_lt, else_lt, if_ne, else_ne}
-use Rattle.text.specs.Text.{line_end, decimal}
+use Rattle.text.specs.Text.{line_end, decimal, sheet, put_on}
+use Rattle.text.proofs.laws.Pieces.{put_fits}
 use Rattle.listing.specs.Listing.{too_long, listing, longest, listed, listed_length}
 use Rattle.listing.proofs.laws.Lengths.{length_listing}
 use Rattle.answers.specs.Answers.{line_text, call_text, whole_reply, reply_length, data_text, bytes_read, read_for, read_text, saved_text, list_text}
@@ -105,15 +106,34 @@ module _ (j : List ℕ) (used room : ℕ) where
     unfolding list_text
     list_short h = else_lt _ _ fits (if_lt _ _ h refl)
 
-    -- d is a buffer of its own for the longest listing
-    pub list_used : (d : List ℕ) {d' : List ℕ} {n : ℕ} → longest ≤ room → length d ≡ longest → n ≡ listed_length (take used j) d
-        → d' ≡ listed (take used j) d → take n d' ∷ [] ≡ list_text room j used
-    unfolding list_text listed listed_length
-    list_used d {d'} {n} h long p q =
-        let text = listing (take used j) in
-        let put : longest ≤ length d = omega (arith, long) in
-        let count : n ≡ length text = p ∙ sym (else_lt _ _ put refl) in
-        let bytes : d' ≡ pasted 0 text d = q ∙ sym (else_lt _ _ put refl) in
-        let fitting : 0 + length text ≤ length d = omega (arith, length_listing (take used j)) in
-        let same : take n d' ≡ text = rw (count, bytes, ← zero-add (length text)) (take_pasted 0 text d fitting) in
-        else_lt _ _ fits (else_lt _ _ h (ap (λ (l : List ℕ). l ∷ []) same))
+    pub list_used : longest ≤ room → listing (take used j) ∷ [] ≡ list_text room j used
+    unfolding list_text
+    list_used h = else_lt _ _ fits (else_lt _ _ h refl)
+
+-- ---- a listing in a buffer that takes the longest
+
+module _ (j d : List ℕ) (room : longest ≤ length d) {d' : List ℕ} {n : ℕ} (p : n ≡ listed_length j d) (q : d' ≡ listed j d) where
+  listed_count : n ≡ length (listing j)
+  unfolding listed_length
+  listed_count = p ∙ sym (else_lt _ _ room refl)
+
+  listed_bytes : d' ≡ pasted 0 (listing j) d
+  unfolding listed
+  listed_bytes = q ∙ sym (else_lt _ _ room refl)
+
+  pub listed_apart : take n d' ≡ listing j
+  listed_apart = rw (listed_count, listed_bytes, ← zero-add (length (listing j))) (take_pasted 0 (listing j) d (omega (arith, length_listing j)))
+
+-- the buffer is what stands of another one from a place on
+pub listed_there : (j d : List ℕ) (at : ℕ) {x : List ℕ} {n : ℕ} → at ≤ length d → longest ≤ length d - at
+    → n ≡ listed_length j (take (length d - at) (drop at d)) → x ≡ listed j (take (length d - at) (drop at d))
+    → sheet (take at d ++ (x ++ drop (length d - at) (drop at d))) (at + n) ≡ put_on (sheet d at) (listing j)
+unfolding pasted
+listed_there j d at {x} {n} h k p q =
+    let part = take (length d - at) (drop at d) in
+    let room : longest ≤ length part = omega (arith, ap length (tail_part d at), length-drop at d) in
+    let bytes = listed_bytes j part room p q in
+    let none : drop (length d - at) (drop at d) ≡ [] = drop_of_length-le (drop at d) {i = length d - at} (simp length-drop (omega arith)) in
+    let text : take at d ++ (x ++ drop (length d - at) (drop at d)) ≡ pasted at (listing j) d = rw (bytes, none, append-nil, tail_part, zero-add, drop-drop) in
+    let end : at + n ≡ at + length (listing j) = ap (λ (m : ℕ). at + m) (listed_count j part room p q) in
+    ap₂ sheet text end ∙ put_fits at (listing j) d h (omega (arith, length_listing j)) refl

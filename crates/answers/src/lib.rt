@@ -6,6 +6,7 @@ ghost use Rattle.io.specs.Counts.{IsPrefixLen};
 ghost use Rattle.text.specs.Text.{ascii};
 ghost use Rattle.text.specs.Pages.{Puts};
 ghost use Rattle.places.specs.Reasons.{words_for};
+ghost use Rattle.listing.specs.Listing.{listing};
 ghost use Rattle.answers.specs.Answers.{line_text, column_text, image_complaint, complaint_text, reply_length, reply_text, bell_text, data_text, bytes_read, read_text, rung_text, timed_text, kind_text, passed_text, plan_text, planned_text, saved_text, why_text, image_text, list_text, journal_text, help_text};
 
 use orders::Wrong;
@@ -260,6 +261,27 @@ pub fn image(page: &mut Page, bytes: &[u8])
     page.put(b"\n");
 }
 
+// A listing, by a buffer of its own.
+fn put_apart(page: &mut Page, j: &[u8])
+    ensures { Puts page.old page.new (listing j.now ∷ []) }
+{
+    let mut text = [0; listing::LONGEST];
+    let n = listing::list(j, &mut text);
+    page.put(&text[..n]);
+}
+
+// A listing, straight onto the page where the longest has room.
+fn put_used(page: &mut Page, j: &[u8])
+    ensures { Puts page.old page.new (listing j.now ∷ []) }
+{
+    let past = page.past;
+    if page.out.len() < past || page.out.len() - past < listing::LONGEST {
+        put_apart(page, j);
+        return;
+    }
+    page.past += listing::list(j, &mut page.out[past..]);
+}
+
 // The listing of the journal's first `used` bytes. A page too short for the longest gets none.
 fn put_list(page: &mut Page, j: &[u8], used: usize)
     ensures { Puts page.old page.new (list_text (length page.old.out.now) j.now used) }
@@ -271,9 +293,7 @@ fn put_list(page: &mut Page, j: &[u8], used: usize)
     if page.out.len() < listing::LONGEST {
         return;
     }
-    let mut text = [0; listing::LONGEST];
-    let n = listing::list(&j[..used], &mut text);
-    page.put(&text[..n]);
+    put_used(page, &j[..used]);
 }
 
 // That listing, and the line that ends it.

@@ -12,7 +12,4 @@ unfolding put_all
 returns-then-page-lt-LONGEST c = (refl, same_pieces _ (list_short _ _ _ c.if-j-used.false c.if-page-lt-LONGEST.true) refl)
 
 pub returns : goal.returns
-returns c = (
-  c.put-2.ensures.0,
-  same_pieces _ (list_used _ _ _ c.if-j-used.false _ c.if-page-lt-LONGEST.false refl c.list-n.ensures.value c.list-n.ensures.out_after) c.put-2.ensures.1,
-)
+returns c = (c.put_used.ensures.0, same_pieces _ (list_used _ _ _ c.if-j-used.false c.if-page-lt-LONGEST.false) c.put_used.ensures.1)

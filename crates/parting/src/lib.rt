@@ -35,7 +35,13 @@ pub struct Parting {
 fn agree(first: &[u8], second: &[u8]) -> usize
     ensures { result ≡ length (take_while (λ p. p.0 == p.1) (zip first.now second.now)) }
 {
-    first.iter().zip(second).take_while(|(a, b)| a == b).count()
+    let n = first.len().min(second.len());
+    for i in 0..n {
+        if first[i] != second[i] {
+            return i;
+        }
+    }
+    n
 }
 
 // How many bytes the whole entries of a trace have.
@@ -49,13 +55,21 @@ fn whole_len(t: &[u8]) -> usize
     }
 }
 
-// The longest run of whole entries that both begin with, as that part of the first.
+// The longest run of whole entries that both begin with, of which so many bytes are the same, as that
+// part of the first.
+fn part_shared<'a, 'b>(first: &'a [u8], second: &'b [u8], same: usize) -> &'a [u8]
+    requires { same ≡ length (take_while (λ p. p.0 == p.1) (zip first.now second.now)) }
+    ensures { result.now ≡ shared_part first.now second.now }
+{
+    let end = whole_len(&first[..same]);
+    &first[..end]
+}
+
+// The same, of any two traces.
 pub fn shared<'a, 'b>(first: &'a [u8], second: &'b [u8]) -> &'a [u8]
     ensures { result.now ≡ shared_part first.now second.now }
 {
-    let same = agree(first, second);
-    let end = whole_len(&first[..same]);
-    &first[..end]
+    part_shared(first, second, agree(first, second))
 }
 
 // ---- what stands beside it
@@ -72,11 +86,11 @@ fn refusal_of(first: &[u8], second: &[u8]) -> Option<Refusal>
     None
 }
 
-// The number of the entry after the shared ones, and the refusal.
-pub fn where_they_part(first: &[u8], second: &[u8]) -> Parting
+// The number of the entry after the shared ones, and the refusal; so many bytes are the same.
+fn parting_at(first: &[u8], second: &[u8], same: usize) -> Parting
+    requires { same ≡ length (take_while (λ p. p.0 == p.1) (zip first.now second.now)) }
     ensures { result ≡ parting_of first.now second.now }
 {
-    let same = agree(first, second);
     let count = trace::count(&first[..same]);
     let refusal = refusal_of(first, second);
     Parting {
@@ -84,6 +98,13 @@ pub fn where_they_part(first: &[u8], second: &[u8]) -> Parting
         next: count + 1,
         refusal: refusal,
     }
+}
+
+// The same, of any two traces.
+pub fn where_they_part(first: &[u8], second: &[u8]) -> Parting
+    ensures { result ≡ parting_of first.now second.now }
+{
+    parting_at(first, second, agree(first, second))
 }
 
 // ---- the lines
@@ -117,8 +138,9 @@ fn put_parting(page: &mut Page, first: &[u8], second: &[u8])
     ensures puts { Puts page.old page.new (pieces_of first.now second.now) }
     ensures fits { length (joined (pieces_of first.now second.now)) ≤ 118 }
 {
-    let part = shared(first, second);
-    let parting = where_they_part(first, second);
+    let same = agree(first, second);
+    let part = part_shared(first, second, same);
+    let parting = parting_at(first, second, same);
     put_shared(page, parting.entries, part.len(), parting.next);
     put_refusal(page, parting.refusal);
 }

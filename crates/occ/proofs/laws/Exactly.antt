@@ -103,14 +103,14 @@ module _ (id : ℕ) (logs : List Log) (four : length logs ≡ 4) where
       by_search _ (found p n l e) = (λ h. (n, (p, l, e)), λ h. refl)
       by_search _ (missed n) = (λ h. absurd (false≢true h), λ h. absurd (n h))
 
-  -- what is found has the id
-  pub found_there : (place : ℕ) → find_of id logs ≡ Some place → (place < 4) and ((get_or logs place no_log).id ≡ id)
+  -- what is found has the id, which isn't 0
+  pub found_there : (place : ℕ) → find_of id logs ≡ Some place → (place < 4) and (id ≡ 0 → ⊥) and ((get_or logs place no_log).id ≡ id)
   found_there place = by_search (find_of id logs) searched
     where
-      by_search : (o : Option ℕ) → Search id logs o → o ≡ Some place → (place < 4) and ((get_or logs place no_log).id ≡ id)
+      by_search : (o : Option ℕ) → Search id logs o → o ≡ Some place → (place < 4) and (id ≡ 0 → ⊥) and ((get_or logs place no_log).id ≡ id)
       by_search _ (found p n l q) e =
           let k : p ≡ place = cc in
-          (subst (λ (i : ℕ). i < 4) k l, subst (λ (i : ℕ). (get_or logs i no_log).id ≡ id) k q)
+          (subst (λ (i : ℕ). i < 4) k l, (n, subst (λ (i : ℕ). (get_or logs i no_log).id ≡ id) k q))
       by_search _ (missed n) e = let z : ⊥ = cc in absurd z
 
 -- the place of the log that pends with an id

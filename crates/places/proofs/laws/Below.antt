@@ -49,6 +49,13 @@ module _ (p : ℕ → Bool) where
       (λ t. (λ h. let r = q.0 t in (r.0, omega (arith, r.1), r.2), λ h. refl))
       (λ t. (λ h. (n, omega arith, h), λ h. by_order h.0 n h.1 (λ l. absurd (false≢true (sym t ∙ q.1 (h.0, l, h.2)))) (λ e. sym (ap p e) ∙ h.2))))
 
+  pub any_none : any_below p 0 ≡ false
+  unfolding any_below
+  any_none = refl
+
+  pub any_more : (k : ℕ) → any_below p k ≡ false → p k ≡ false → any_below p (k + 1) ≡ false
+  any_more k h e = ap (any_below p) (add-one k) ∙ any_next k ∙ ap (λ (b : Bool). cond b true (p k)) h ∙ e
+
 module _ (f : ℕ → Option Fault) where
   pub first_none : first_below f 0 ≡ None
   unfolding first_below

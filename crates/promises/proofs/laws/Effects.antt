@@ -113,7 +113,7 @@ module _ (s : Session) (f : Formed s) (typed : TypedSession s) where
     unfolding put_with made_of timer_after entry_bytes entry_for bytes_of body_of takes_back timed timed_change inverse_of back_of tables_for kind_of reset_of made_by
     effect ch t (occ-asks.clears e place is) made fits =
         by_row ch t made fits _ _ _ refl (ap (λ (x : Option Record). unwrap_or x r) (cleared _ _ made.0)) (add-zero _) refl
-        (let there = found_there (get_or d 0 0) r.logs typed.held.logs place is in clear_log _ e there.0 there.1)
+        (let there = found_there (get_or d 0 0) r.logs typed.held.logs place is in clear_log _ e there.0 there.1.1)
     effect ch t (occ-asks.sets_state e) made fits = by_row ch t made fits _ _ _ refl refl (add-zero _) refl (set_state e)
     effect ch t (occ-asks.sets_role e g) made fits = by_row ch t made fits _ _ _ refl refl (add-zero _) refl (set_role e g)
     effect ch t (occ-asks.sets_caps e g) made fits = by_row ch t made fits _ _ _ refl refl (add-zero _) refl (set_caps e g)

@@ -4,6 +4,7 @@
 ghost use Rattle.std.specs.Prelude.{◌≡◌, ◌≤◌, length};
 ghost use Rattle.io.specs.Counts.{IsPrefixLen};
 ghost use Rattle.layout.specs.Layout.{image_length};
+ghost use Rattle.standin.specs.Pages.{StaysOn};
 
 use inplace::Told;
 use orders::{Buffer, Call, Order, View, Word, Wrong};
@@ -177,7 +178,10 @@ fn kind_of(beside: u16) -> u8 {
 
 // A response has 32 bytes, and a longer buffer is kept past them; so is the buffer of a plan's order
 // past those that it has.
-fn put_told(page: &mut Page, call: Call, told: Told, request: &[u8], reply: &[u8], second: &[u8]) {
+#[tactic(auto, using(crate::proofs::Pages::stays_on))]
+fn put_told(page: &mut Page, call: Call, told: Told, request: &[u8], reply: &[u8], second: &[u8])
+    ensures { StaysOn page.old page.new }
+{
     let answer = told.answer;
     match form_of(call) {
         Form::Reply => answers::reply(page, answer, reply),
@@ -260,6 +264,7 @@ fn call_with(
     page: &mut Page,
 ) -> Told
     requires { (length lent.old ≡ image_length) × (count ≤ 16384) × (106502 ≤ length sent.old) }
+    ensures { StaysOn page.old page.new }
 {
     let mut reply = reply_buffer();
     let part = &mut reply[..reply_len(b.buffer, call)];
@@ -271,8 +276,10 @@ fn call_with(
 
 // ---- views
 
+#[tactic(auto, using(crate::proofs::Pages::stays_on))]
 fn put_show(page: &mut Page, lent: &[u8])
     requires { length lent.now ≡ image_length }
+    ensures { StaysOn page.old page.new }
 {
     let h = image::read_head(lent);
     show::put_session(
@@ -289,15 +296,19 @@ fn put_show(page: &mut Page, lent: &[u8])
     );
 }
 
+#[tactic(auto, using(crate::proofs::Pages::stays_on))]
 fn put_journal(page: &mut Page, lent: &[u8])
     requires { length lent.now ≡ image_length }
+    ensures { StaysOn page.old page.new }
 {
     let used = wire::be16(lent, 237) as usize;
     answers::journal(page, &lent[layout::JOURNAL..layout::AHEAD], used);
 }
 
+#[tactic(auto, using(crate::proofs::Pages::stays_on))]
 fn look(page: &mut Page, lent: &[u8], view: View, last: Told)
     requires { length lent.now ≡ image_length }
+    ensures { StaysOn page.old page.new }
 {
     match view {
         View::Image => answers::image(page, lent),
@@ -311,8 +322,10 @@ fn look(page: &mut Page, lent: &[u8], view: View, last: Told)
 // ---- lines
 
 // The answer to a line that makes no call; a line that is skipped has none.
+#[tactic(auto, using(crate::proofs::Pages::stays_on))]
 fn put_other(page: &mut Page, lent: &[u8], order: Order, last: Told)
     requires { length lent.now ≡ image_length }
+    ensures { StaysOn page.old page.new }
 {
     match order.word {
         Word::Look(view) => look(page, lent, view, last),
@@ -324,6 +337,7 @@ fn put_other(page: &mut Page, lent: &[u8], order: Order, last: Told)
 
 fn obey(lent: &mut [u8], order: Order, b: Bench, sent: &mut [u8], page: &mut Page) -> Told
     requires { (length lent.old ≡ image_length) × (order.count ≤ 16384) × (106502 ≤ length sent.old) }
+    ensures { StaysOn page.old page.new }
 {
     if let Word::Make(call) = order.word {
         return call_with(lent, call, order.count, b, sent, page);

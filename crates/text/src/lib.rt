@@ -19,7 +19,7 @@ pub fn is_blank(c: u8) -> bool
     c == b' ' || c == b'\t'
 }
 
-// How many blanks stand in front.
+// How many blanks are in front.
 fn blanks_len(s: &[u8]) -> usize
     ensures value { result ≡ prefix_len blank s.now }
     ensures within { result ≤ length s.now }
@@ -27,8 +27,8 @@ fn blanks_len(s: &[u8]) -> usize
     s.iter().take_while(|c| is_blank(**c)).count()
 }
 
-// The first place from `from` on that holds no blank, or the end. It isn't inlined: inside a long function its loop was seen to
-// take half as many steps again for each blank.
+// The first place from `from` on that holds no blank, or the end. `past_blanks` isn't inlined:
+// in `main` of `standin` the compiler made a loop of more instructions from it.
 #[tactic(auto, unfolding(crate::specs::Text::past_blanks))]
 #[inline(never)]
 pub fn past_blanks(s: &[u8], from: usize) -> usize
